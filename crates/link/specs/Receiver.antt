@@ -74,9 +74,13 @@ view r = record { mode = r .mode; ones = r .ones; lead = r .lead; content = take
 -- the struct that stands for a state: the bits after the content are 0
 abbrev pub image : State → Receiver
 image s =
-    record
-      { mode = s .mode; ones = s .ones; lead = s .lead; count = length (s .content)
-      ; bytes = pack (s .content ++ replicate (160 - length (s .content)) 0) }
+    record {
+      mode = s .mode;
+      ones = s .ones;
+      lead = s .lead;
+      count = length (s .content);
+      bytes = pack (s .content ++ replicate (160 - length (s .content)) 0);
+    }
 
 -- the ranges, field by field (docs/RECEIVER.md)
 unfoldable pub inRange : Receiver → Bool

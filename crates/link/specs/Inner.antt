@@ -1,0 +1,85 @@
+-- What the inner functions of the link promise each other. Nobody needs to believe it: the two calls' contracts do not cite it.
+use mathlib.Core.Bool.{cond}
+use mathlib.Core.Path.{_≡_}
+use mathlib.Core.List.{List, [], _∷_, _++_}
+use Prim.Native.Nat.{ℕ, _+_, _*_, _/_, _^_, _≤_, _<_, min}
+use lib.Dec.{eqb}
+use lib.ListN.{length, take, drop, getD}
+use Rattle.link.specs.Bits.{low, wire}
+use Rattle.link.specs.Frame.{stuff}
+use Rattle.link.specs.Receiver.{State, Stop}
+use Rattle.link.specs.declared.Receiver.{Receiver}
+use Rattle.link.specs.declared.scanning.Control.{Control}
+use Rattle.link.specs.declared.scanning.Scanned.{Scanned}
+
+-- ---- the transmitter: bits written at the end of those written before
+
+-- the run of ones that content leaves, a fifth one being followed by its zero
+unfoldable pub tail : ℕ → List ℕ → ℕ
+tail k [] = k
+tail k (b ∷ bs) = cond (eqb b 0) (tail 0 bs) (cond (eqb k 4) (tail 0 bs) (tail (k + 1) bs))
+
+-- bit n of the output is b: the bits before it stand, and so do the bytes after its own
+pub record Put (o : List ℕ) (n b : ℕ) (r : List ℕ) : Type 0 where
+  pub bits : take (n + 1) (wire r) ≡ take n (wire o) ++ (b ∷ [])
+  pub rest : drop (n / 8 + 1) r ≡ drop (n / 8 + 1) o
+  pub size : length r ≡ length o
+
+-- bits written as they are, after n bits: n′ bits now
+pub record Raw (o : List ℕ) (n : ℕ) (bs r : List ℕ) (n′ : ℕ) : Type 0 where
+  pub count : n′ ≡ n + length bs
+  pub bits : take n′ (wire r) ≡ take n (wire o) ++ bs
+  pub rest : drop ((n′ + 7) / 8) r ≡ drop ((n′ + 7) / 8) o
+  pub size : length r ≡ length o
+
+-- stuffed bits written after n bits and a run of k ones: n′ bits and a run of k′ now
+pub record Written (o : List ℕ) (n k : ℕ) (bs r : List ℕ) (n′ k′ : ℕ) : Type 0 where
+  pub raw : Raw o n (stuff k bs) r n′
+  pub run : k′ ≡ tail k bs
+  pub short : k′ ≤ 4
+  pub most : 5 * n′ + k′ ≤ 5 * n + k + 6 * length bs
+
+-- ---- the receiver: content in bytes
+
+-- the number that bytes spell, byte 0 lowest
+unfoldable pub value : List ℕ → ℕ
+value [] = 0
+value (x ∷ xs) = x + 256 * value xs
+
+-- the control and the bytes of a receiver within their ranges
+pub record Good (c : Control) (bytes : List ℕ) : Type 0 where
+  pub mode : c .mode ≤ 1
+  pub ones : c .ones ≤ 7
+  pub lead : c .lead ≤ 1
+  pub count : c .count ≤ 152
+  pub idle : c .mode ≡ 0 → (c .count ≡ 0) × (c .lead ≡ 0)
+  pub seven : c .mode ≡ 1 → c .ones ≤ 6
+  pub run : c .mode ≡ 1 → c .lead + min (c .ones) 5 ≤ c .count
+  pub rest : value bytes < 2 ^ c .count
+  pub size : length bytes ≡ 20
+  pub small : (i : ℕ) → getD bytes i 0 < 256
+
+abbrev pub controlOf : Receiver → Control
+controlOf r = record { mode = r .mode; ones = r .ones; lead = r .lead; count = r .count }
+
+-- what a control and bytes stand for
+abbrev pub stateOf : Control → List ℕ → State
+stateOf c bytes = record { mode = c .mode; ones = c .ones; lead = c .lead; content = low (c .count) (value bytes) }
+
+abbrev pub stopOf : Scanned → Stop
+stopOf p = record { state = stateOf (p .control) (p .bytes); used = p .used; hit = p .hit }
+
+-- the control after a bit that ends no flag and is no seventh one
+pub record Stepped (c : Control) (b : ℕ) (r : Control) : Type 0 where
+  pub mode : r .mode ≡ c .mode
+  pub zero : b ≡ 0 → r .ones ≡ 0
+  pub one : b ≡ 1 → c .ones < 7 → r .ones ≡ c .ones + 1
+  pub seven : b ≡ 1 → c .ones ≡ 7 → r .ones ≡ 7
+  pub lead0 : b ≡ 0 → c .ones < 5 → r .lead ≡ c .mode
+  pub lead5 : b ≡ 0 → 5 ≤ c .ones → r .lead ≡ 0
+  pub lead1 : b ≡ 1 → r .lead ≡ c .lead
+  pub pushed : c .ones < 5 → c .mode ≡ 1 → c .count < 152 → r .count ≡ c .count + 1
+  pub full : 152 ≤ c .count → r .count ≡ c .count
+  pub idle : c .mode ≡ 0 → r .count ≡ c .count
+  pub five : 5 ≤ c .ones → r .count ≡ c .count
+  pub grows : c .count ≤ r .count
