@@ -1,3 +1,5 @@
 pub mod Bits
 pub mod Check
 pub mod Machine
+pub mod Written
+pub mod Taken
