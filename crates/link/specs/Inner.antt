@@ -7,7 +7,7 @@ use lib.Dec.{eqb}
 use lib.ListN.{length, take, drop, getD}
 use Rattle.link.specs.Bits.{low, wire}
 use Rattle.link.specs.Frame.{stuff}
-use Rattle.link.specs.Receiver.{State, Stop}
+use Rattle.link.specs.Receiver.{State, Stop, runs}
 use Rattle.link.specs.declared.Receiver.{Receiver}
 use Rattle.link.specs.declared.scanning.Control.{Control}
 use Rattle.link.specs.declared.scanning.Scanned.{Scanned}
@@ -68,6 +68,12 @@ stateOf c bytes = record { mode = c .mode; ones = c .ones; lead = c .lead; conte
 
 abbrev pub stopOf : Scanned → Stop
 stopOf p = record { state = stateOf (p .control) (p .bytes); used = p .used; hit = p .hit }
+
+-- where a scan of bits stops: in range, where the machine does, and at a flag with 32 bits of content, the flag's zero and five ones
+pub record Scan (c : Control) (bytes bits : List ℕ) (p : Scanned) : Type 0 where
+  pub good : Good (p .control) (p .bytes)
+  pub stops : stopOf p ≡ runs (stateOf c bytes) 0 bits
+  pub ends : p .hit ≡ 1 → 37 + p .control .lead ≤ p .control .count
 
 -- the control after a bit that ends no flag and is no seventh one
 pub record Stepped (c : Control) (b : ℕ) (r : Control) : Type 0 where

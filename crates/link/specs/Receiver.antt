@@ -82,9 +82,13 @@ image s =
       bytes = pack (s .content ++ replicate (160 - length (s .content)) 0);
     }
 
--- the ranges, field by field (docs/RECEIVER.md)
+-- the ranges of the fields (docs/RECEIVER.md): a hunting receiver has no content; in a frame the run's ones, and the zero in front of
+-- them, are among the content
+unfoldable pub fieldsFit : ℕ → ℕ → ℕ → ℕ → Bool
+fieldsFit mode ones lead count =
+    leb mode 1 && leb ones 7 && leb lead 1 && leb count 152
+    && cond (eqb mode 0) (eqb count 0 && eqb lead 0) (leb ones 6 && leb (lead + min ones 5) count)
+
+-- the fields fit, and no bit after the content is set
 unfoldable pub inRange : Receiver → Bool
-inRange r =
-    leb (r .mode) 1 && leb (r .ones) 7 && leb (r .lead) 1 && leb (r .count) 152
-    && cond (eqb (r .mode) 0) (eqb (r .count) 0 && eqb (r .lead) 0) (leb (r .ones) 6 && leb (r .lead + min (r .ones) 5) (r .count))
-    && eqb (num (drop (r .count) (wire (r .bytes)))) 0
+inRange r = fieldsFit (r .mode) (r .ones) (r .lead) (r .count) && eqb (num (drop (r .count) (wire (r .bytes)))) 0

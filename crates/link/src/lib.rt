@@ -1,6 +1,7 @@
 // The serial link: a body goes out as a frame, and frames are read from cable bits (document 01, "The wire").
 mod fcs;
 mod framing;
+mod ranges;
 mod scanning;
 
 ghost use mathlib.Core.Path.{_≡_};

@@ -3,8 +3,7 @@ ghost use mathlib.Core.Path.{_≡_};
 ghost use Prim.Native.Nat.{_*_, _<_, _≤_};
 ghost use lib.ListN.{length, drop};
 ghost use Rattle.link.specs.Bits.{wire};
-ghost use Rattle.link.specs.Receiver.{runs};
-ghost use Rattle.link.specs.Inner.{Good, Stepped, stateOf, stopOf};
+ghost use Rattle.link.specs.Inner.{Good, Stepped, Scan};
 
 // A receiver without its bytes: small enough to go by value with every bit.
 pub struct Control {
@@ -63,7 +62,7 @@ fn scan(start: Control, kept: [u8; 20], s: &[u8], from: usize) -> Scanned
     requires { ⌜ Good start kept ⌝ }
     requires { ⌜ from < 8 ⌝ }
     requires { ⌜ length (now s) ≤ 65536 ⌝ }
-    ensures { λ r. ⌜ Good (r .control) (r .bytes) × (stopOf r ≡ runs (stateOf start kept) 0 (drop from (wire (now (s .entry))))) ⌝ }
+    ensures { λ r. ⌜ Scan start kept (drop from (wire (now (s .entry)))) r ⌝ }
 {
     let mut c = start;
     let mut bytes = kept;
@@ -115,7 +114,7 @@ fn scan(start: Control, kept: [u8; 20], s: &[u8], from: usize) -> Scanned
 pub fn scan_from(start: Control, kept: [u8; 20], input: &[u8], bit: usize) -> Scanned
     requires { ⌜ Good start kept ⌝ }
     requires { ⌜ (length (now input) ≤ 65536) × (bit ≤ 8 * length (now input)) ⌝ }
-    ensures { λ r. ⌜ Good (r .control) (r .bytes) × (stopOf r ≡ runs (stateOf start kept) 0 (drop bit (wire (now (input .entry))))) ⌝ }
+    ensures { λ r. ⌜ Scan start kept (drop bit (wire (now (input .entry)))) r ⌝ }
 {
     let k = bit / 8;
     let j = bit % 8;

@@ -31,10 +31,10 @@ returns c =
     let s = now (a .input) in
     let k = a .bit / 8 in
     let t : take (length s - k) (drop k s) ≡ drop k s = take-all (length s - k) (drop k s) (rw length-drop (omega arith)) in
-    let e : a .bit ≡ 8 * (a .bit / 8) + a .bit % 8 = omega arith in (
-      c .scan .ensures .0,
-      c .scan .ensures .1 ∙ ap (λ x. runs (stateOf (a .start) (a .kept)) 0 (drop (a .bit % 8) (wire x))) t ∙ ap (runs (stateOf (a .start) (a .kept)) 0) (sym (drop-wire k (a .bit % 8) s) ∙ ap (λ x. drop x (wire s)) (sym e)),
-    )
+    let e : a .bit ≡ 8 * (a .bit / 8) + a .bit % 8 = omega arith in
+    let d : drop (a .bit % 8) (wire (take (length s - k) (drop k s))) ≡ drop (a .bit) (wire s) =
+          ap (λ x. drop (a .bit % 8) (wire x)) t ∙ sym (drop-wire k (a .bit % 8) s) ∙ ap (λ x. drop x (wire s)) (sym e) in
+    rw d at (c .scan .ensures)
 
 pub scan-from-spec : {M : Type 1} → statement M
 scan-from-spec = tie.close (tie.spec sub-scan part-scan-start part-scan-end scan-requires returns)
