@@ -20,7 +20,7 @@ unfolding value
 value-lt [] h = omega arith
 value-lt (x ∷ l) h = rw (mul-suc 8 (length l), pow-add 2 (8 * length l) 8) (omega (arith, h 0, value-lt l (λ i. h (suc i))))
 
-wire-value : (l : List ℕ) → AreBytes l → wire l ≡ low (8 * length l) (value l)
+pub wire-value : (l : List ℕ) → AreBytes l → wire l ≡ low (8 * length l) (value l)
 unfolding wire value low
 wire-value [] h = refl
 wire-value (x ∷ l) h =
@@ -58,9 +58,9 @@ module _ (l : List ℕ) (n : ℕ) (h : AreBytes l) (k : n ≤ 8 * length l) wher
 
   pub clear-value : eqb (num (drop n (wire l))) 0 ≡ true → value l < 2 ^ n
   clear-value e = ⊎-elim (λ (q : value l < 2 ^ n). q) (λ (q : 2 ^ n ≤ value l). absurd (apart (some-set q ∙ e))) (lt-or (value l) (2 ^ n))
-      where
-    apart : false ≡ true → ⊥
-    apart z = let o : _≡_ {A = ℕ} 0 1 = cc in omega arith
+    where
+      apart : false ≡ true → ⊥
+      apart z = let o : _≡_ {A = ℕ} 0 1 = cc in omega arith
 
 all-zero : (l : List ℕ) → ((j : ℕ) → getD l j 0 ≡ 0) → value l ≡ 0
 unfolding value
@@ -104,5 +104,5 @@ module _ (l : List ℕ) (n : ℕ) (hl : length l ≡ 20) (hn : n ≤ 152) (h : A
   pub all-clear : getD l (n / 8) 0 / 2 ^ (n % 8) ≡ 0 → ((j : ℕ) → n / 8 < j → j < 20 → getD l j 0 ≡ 0) → true ≡ eqb (num (drop n (wire l))) 0
   all-clear z f =
       let g : (j : ℕ) → n / 8 < j → getD l j 0 ≡ 0 =
-            λ j k. ⊎-elim (λ (q : j < 20). f j k q) (λ (q : 20 ≤ j). getD-out l j (omega arith)) (lt-or j 20) in
+      λ j k. ⊎-elim (λ (q : j < 20). f j k q) (λ (q : 20 ≤ j). getD-out l j (omega arith)) (lt-or j 20) in
       none-set l n h (omega arith) (rw own-place at (below l (n / 8) (n % 8) h (shr-zero (getD l (n / 8) 0) (n % 8) z) g))

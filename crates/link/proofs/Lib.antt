@@ -5,3 +5,5 @@ pub mod Written
 pub mod Taken
 pub mod Content
 pub mod Fields
+pub mod View
+pub mod Calls

@@ -180,7 +180,7 @@ frame-written {o₀} {o₁} {o₂} {o₃} {o₄} {o₅} {o₆} {n₁} {n₂} {n�
     let z : 8 * (n₆ / 8) ≡ n₆ = omega (arith, rw length-low at (f .count)) in
     rw (z, m, sym (low-ones ((8 - n₅ % 8) % 8) (omega arith))) (raw-then g f)
 
-bytes-take : (k : ℕ) (r : List ℕ) → AreBytes r → AreBytes (take k r)
+pub bytes-take : (k : ℕ) (r : List ℕ) → AreBytes r → AreBytes (take k r)
 bytes-take zero r h i = omega arith
 bytes-take (suc k) [] h i = omega arith
 bytes-take (suc k) (x ∷ r) h zero = h 0

@@ -9,6 +9,7 @@ use Rattle.link.specs.Bits.{low, wire}
 use Rattle.link.specs.Frame.{stuff}
 use Rattle.link.specs.Receiver.{State, Stop, runs}
 use Rattle.link.specs.declared.Receiver.{Receiver}
+use Rattle.link.specs.declared.Received.{Received}
 use Rattle.link.specs.declared.scanning.Control.{Control}
 use Rattle.link.specs.declared.scanning.Scanned.{Scanned}
 
@@ -68,6 +69,14 @@ stateOf c bytes = record { mode = c .mode; ones = c .ones; lead = c .lead; conte
 
 abbrev pub stopOf : Scanned → Stop
 stopOf p = record { state = stateOf (p .control) (p .bytes); used = p .used; hit = p .hit }
+
+-- the struct of a control and bytes
+abbrev pub receiverOf : Control → List ℕ → Receiver
+receiverOf c bytes = record { mode = c .mode; ones = c .ones; lead = c .lead; count = c .count; bytes = bytes }
+
+-- what is given back without a body
+abbrev pub barely : Receiver → ℕ → ℕ → Received
+barely rx number consumed = record { rx = rx; number = number; consumed = consumed; length = 0 }
 
 -- where a scan of bits stops: in range, where the machine does, and at a flag with 32 bits of content, the flag's zero and five ones
 pub record Scan (c : Control) (bytes bits : List ℕ) (p : Scanned) : Type 0 where

@@ -3,11 +3,23 @@ mod fcs;
 mod framing;
 mod ranges;
 mod scanning;
+mod verdict;
 
+use numbers::BODY_LENGTH;
+use numbers::INPUT_LONG;
+use numbers::OUTPUT_SHORT;
+use numbers::SENT;
+use numbers::START_RANGE;
+use numbers::STATE_RANGE;
+use scanning::Control;
 ghost use mathlib.Core.Path.{_≡_};
 ghost use Rattle.link.specs.Transmit as transmit;
 ghost use Rattle.link.specs.Receive as receive;
+ghost use Prim.Native.Nat.{_*_, _≤_};
+ghost use lib.ListN.{length};
+ghost use Rattle.parts.specs.Parts.{put};
 ghost use Rattle.link.specs.Receiver.{image, hunting};
+ghost use Rattle.link.specs.Inner.{Good, controlOf};
 
 // What a transmission gives: the number, and how many bytes were written.
 pub struct Sent {
@@ -30,4 +42,98 @@ pub struct Received {
     pub number: u8,
     pub consumed: usize,
     pub length: usize,
+}
+
+impl Receiver {
+    // Hunting for the first flag.
+    pub fn new() -> Self
+        ensures { λ r. ⌜ r ≡ image hunting ⌝ }
+    {
+        Self {
+            mode: 0,
+            ones: 7,
+            lead: 0,
+            count: 0,
+            bytes: [0; 20],
+        }
+    }
+}
+
+// The shortest and the longest body, and what a transmitter and a receiver ask of their output.
+const BODY_LEAST: usize = 2;
+
+const BODY_MOST: usize = 16;
+
+const FRAME_BYTES: usize = 24;
+
+const BODY_ROOM: usize = 16;
+
+const INPUT_MOST: usize = 65536;
+
+// Frames a body.
+pub fn transmit(body: &[u8], output: &mut [u8]) -> Sent
+    ensures { λ r. ⌜ r ≡ transmit.transmitted (now (body .entry)) (now (output .entry)) ⌝ }
+    ensures { λ _. ⌜ now (output .exit) ≡ transmit.outputAfter (now (body .entry)) (now (output .entry)) ⌝ }
+{
+    if body.len() < BODY_LEAST {
+        return Sent {
+            number: BODY_LENGTH,
+            count: 0,
+        };
+    }
+    if BODY_MOST < body.len() {
+        return Sent {
+            number: BODY_LENGTH,
+            count: 0,
+        };
+    }
+    if output.len() < FRAME_BYTES {
+        return Sent {
+            number: OUTPUT_SHORT,
+            count: 0,
+        };
+    }
+    let count = framing::write_frame(body, output);
+    Sent {
+        number: SENT,
+        count,
+    }
+}
+
+// A reading that nothing refuses.
+fn read(rx: Receiver, input: &[u8], start: usize, output: &mut [u8]) -> Received
+    requires { ⌜ Good (controlOf rx) (rx .bytes) ⌝ }
+    requires { ⌜ (length (now input) ≤ 65536) × (start ≤ 8 * length (now input)) × (16 ≤ length (now output)) ⌝ }
+    ensures { λ r. ⌜ r ≡ receive.receivedAs (receive.readFrom rx (now (input .entry)) start) ⌝ }
+    ensures { λ _. ⌜ now (output .exit) ≡ put 0 (receive.readFrom rx (now (input .entry)) start .answer .body) (now (output .entry)) ⌝ }
+{
+    let control = Control {
+        mode: rx.mode,
+        ones: rx.ones,
+        lead: rx.lead,
+        count: rx.count,
+    };
+    let kept = rx.bytes;
+    let stop = scanning::scan_from(control, kept, input, start);
+    verdict::conclude(stop, output)
+}
+
+// Reads cable bits from a start bit on, up to the first answer.
+pub fn receive(rx: Receiver, input: &[u8], start: usize, output: &mut [u8]) -> Received
+    ensures { λ r. ⌜ r ≡ receive.received rx (now (input .entry)) start (now (output .entry)) ⌝ }
+    ensures { λ _. ⌜ now (output .exit) ≡ receive.outputAfter rx (now (input .entry)) start (now (output .entry)) ⌝ }
+{
+    if ranges::in_range(rx) {
+        if INPUT_MOST < input.len() {
+            return verdict::bare(rx, INPUT_LONG, 0);
+        }
+        if 8 * input.len() < start {
+            return verdict::bare(rx, START_RANGE, 0);
+        }
+        if output.len() < BODY_ROOM {
+            return verdict::bare(rx, OUTPUT_SHORT, 0);
+        }
+        return read(rx, input, start, output);
+    }
+    verdict::bare(rx, STATE_RANGE, 0)
 }

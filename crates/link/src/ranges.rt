@@ -1,7 +1,6 @@
 // The ranges of a receiver's fields, for number 6.
-use crate::scanning::Control;
 use crate::Receiver;
-
+use crate::scanning::Control;
 ghost use mathlib.Core.Path.{_≡_};
 ghost use mathlib.Core.Bool.{true};
 ghost use Prim.Native.Nat.{ℕ, _+_, _<_, _≤_};

@@ -1,10 +1,10 @@
 -- The invariant: the bits left of the byte take the register from where it is to where it must end.
-use Prim.Native.Nat.{ℕ, suc, _+_, _*_, _-_, _≤_, _<_, _^_, _/_, _%_, min}
+use Prim.Native.Nat.{_-_, _≤_, _<_, _%_}
 use native.Mathlib.Omega.{arith}
 use borrow.Author.Needs.{needs}
-use mathlib.Core.Path.{_≡_, refl, sym, ap, _∙_}
-use Rattle.link.specs.Bits.{low, wire}
-use Rattle.link.specs.Fcs.{preset, register}
+use mathlib.Core.Path.{_≡_, refl, sym, _∙_}
+use Rattle.link.specs.Bits.{low}
+use Rattle.link.specs.Fcs.{register}
 use Rattle.link.proofs.Check.{register-turn, register-bit-lt}
 use Rattle.link.proofs.fcs.register_byte.Statement.{statement}
 use Rattle.link.proofs.fcs.register_byte.Tie as tie

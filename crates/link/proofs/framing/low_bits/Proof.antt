@@ -1,7 +1,7 @@
 -- A remainder by a power of two.
-use Prim.Native.Nat.{ℕ, suc, _+_, _*_, _-_, _≤_, _<_, _^_, _/_, _%_, min}
+use Prim.Native.Nat.{_-_, _^_}
 use native.Mathlib.Omega.{arith}
-use mathlib.Core.Path.{_≡_, refl, sym, ap, _∙_}
+use mathlib.Core.Path.{refl}
 use lib.Pow.{pow-pos}
 use native.Mathlib.Nat.{one-mul}
 use Rattle.link.proofs.Bits.{shl-byte}

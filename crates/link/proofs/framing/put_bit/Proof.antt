@@ -1,6 +1,6 @@
 -- One bit is put by the law `bit-put`.
 use native.Mathlib.Omega.{arith}
-use mathlib.Core.Path.{_≡_, refl, sym, ap, _∙_}
+use mathlib.Core.Path.{refl}
 use denote.Ref.{now}
 use Rattle.link.proofs.Written.{bit-fits, bit-put}
 use borrow.Author.Needs.{needs}

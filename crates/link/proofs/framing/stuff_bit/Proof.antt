@@ -1,7 +1,6 @@
 -- A zero, a one, and a fifth one with its zero.
-use Prim.Native.Nat.{ℕ, suc, _+_, _*_, _-_, _≤_, _<_, _^_, _/_, _%_, min}
+use Prim.Native.Nat.{_-_}
 use native.Mathlib.Omega.{arith}
-use mathlib.Core.Path.{_≡_, refl, sym, ap, _∙_}
 use denote.Ref.{now}
 use Rattle.link.proofs.Written.{written-zero, written-one, written-five}
 use borrow.Author.Needs.{needs}

@@ -1,12 +1,11 @@
 -- The invariant is a continuation: whoever writes the bits left has written them all.
-use Prim.Native.Nat.{ℕ, suc, _+_, _*_, _-_, _≤_, _<_, _^_, _/_, _%_, min}
+use Prim.Native.Nat.{ℕ, _+_, _*_, _-_, _≤_}
 use native.Mathlib.Omega.{arith}
 use borrow.Author.Needs.{needs}
-use mathlib.Core.Path.{_≡_, refl, sym, ap, _∙_}
-use mathlib.Core.List.{List, [], _∷_, _++_}
+use mathlib.Core.Path.{_≡_, refl, _∙_}
+use mathlib.Core.List.{List}
 use lib.ListN.{length}
-use denote.Ref.{now}
-use Rattle.link.specs.Bits.{low, wire}
+use Rattle.link.specs.Bits.{low}
 use Rattle.link.proofs.Bits.{low-pos}
 use Rattle.link.specs.Inner.{Written}
 use Rattle.link.proofs.Written.{written-none, written-then}

@@ -1,13 +1,9 @@
 -- The parts of a frame, one after the other, make the frame.
-use Prim.Native.Nat.{ℕ, suc, _+_, _*_, _-_, _≤_, _<_, _^_, _/_, _%_, min}
+use Prim.Native.Nat.{ℕ, _-_}
 use native.Mathlib.Omega.{arith}
-use mathlib.Core.Path.{_≡_, refl, sym, ap, _∙_}
-use mathlib.Core.List.{List, [], _∷_, _++_}
-use lib.ListN.{length}
+use mathlib.Core.Path.{ap}
 use denote.Ref.{now}
-use Rattle.link.specs.Bits.{low, wire}
 use Rattle.link.proofs.Bits.{length-low}
-use Rattle.link.specs.Inner.{Raw}
 use Rattle.link.specs.Fcs.{preset}
 use Rattle.link.proofs.Bits.{length-wire}
 use Rattle.link.proofs.Written.{frame-written}

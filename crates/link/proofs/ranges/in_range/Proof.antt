@@ -1,6 +1,5 @@
 -- The fields fit by `fields_fit`, the bytes by `clear_from`.
 use mathlib.Core.Path.{_≡_, refl, sym, _∙_}
-use mathlib.Core.Bool.{true, false}
 use borrow.Author.Needs.{needs}
 use Rattle.link.specs.Receiver.{inRange}
 use Rattle.link.proofs.Fields.{fields, good, apart}

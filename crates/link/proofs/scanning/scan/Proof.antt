@@ -1,14 +1,14 @@
 -- The invariants: the bits left, from where the machine is, stop where all of them do; inside a byte from its own start, outside from the entry.
-use Prim.Native.Nat.{ℕ, suc, _+_, _*_, _-_, _≤_, _<_, _^_, _/_, _%_, min}
+use Prim.Native.Nat.{_+_, _*_, _-_, _≤_, _<_, _%_}
 use native.Mathlib.Omega.{arith}
 use borrow.Author.Needs.{needs}
-use mathlib.Core.Path.{_≡_, refl, sym, ap, _∙_}
-use mathlib.Core.List.{List, [], _∷_, _++_}
-use lib.ListN.{length, getD, drop}
+use mathlib.Core.Path.{_≡_, refl, sym, _∙_}
+use mathlib.Core.List.{_++_}
+use lib.ListN.{length, drop}
 use mathlib.Core.Bool.{true, false}
 use denote.Ref.{now}
 use Rattle.link.specs.Bits.{low, wire}
-use Rattle.link.specs.Receiver.{next, runs, decides}
+use Rattle.link.specs.Receiver.{runs, decides}
 use Rattle.link.specs.Inner.{Good, stateOf}
 use Rattle.link.proofs.Bits.{wire-at, wire-end}
 use Rattle.link.proofs.Machine.{turn-go, turn-stop, runs-end}
@@ -157,10 +157,11 @@ bytes-again c =
 returns : tie.Need-returns Inv-loop μ-loop Inv-bytes μ-bytes
 returns c =
     let o = c .before .bytes in
-    record
-      { good = o .inv .0
-      ; stops = rw (o .inv .1, o .inv .5, wire-end (now (c .before .before .before .args .s)) (o .i) (o .skip) (omega arith)) (sym (runs-end (stateOf (o .c) (o .bytes)) (o .used)))
-      ; ends = λ h. absurd (omega (arith, o .inv .1)) }
+    record {
+      good = o .inv .0;
+      stops = rw (o .inv .1, o .inv .5, wire-end (now (c .before .before .before .args .s)) (o .i) (o .skip) (omega arith)) (sym (runs-end (stateOf (o .c) (o .bytes)) (o .used)));
+      ends = λ h. absurd (omega (arith, o .inv .1));
+    }
 
 returns-2 : tie.Need-returns-2 Inv-loop μ-loop Inv-bytes μ-bytes
 returns-2 c =
@@ -169,12 +170,13 @@ returns-2 c =
     let k = c .before .before .choose .ensures in
     let e6 : l .c .ones ≡ 6 = c .before .before .before .before .if1 .taken in
     let e : decides (stateOf (l .c) (l .bytes)) (l .w % 2) ≡ true = decides-yes (l .c) (l .bytes) (l .w % 2) (omega arith) e6 (c .before .before .choose .result) (k .0) (k .1) (c .if2 .taken) in
-    record
-      { good = l .inv .0
-      ; stops =
+    record {
+      good = l .inv .0;
+      stops =
           sym (o .inv .5 ∙ rw (wire-at (now (c .before .before .before .before .before .before .before .before .before .before .before .before .args .s)) (o .i) (o .skip) (c .before .before .before .before .before .before .before .before .before .bytes-test .taken) (o .inv .2))
-          (l .inv .4 ∙ turn-stop (stateOf (l .c) (l .bytes)) (l .used) (l .left) (l .w) _ (c .before .before .before .before .before .before .loop-test .taken) e))
-      ; ends = λ h. omega (arith, k .0 (omega arith), c .if2 .taken) }
+          (l .inv .4 ∙ turn-stop (stateOf (l .c) (l .bytes)) (l .used) (l .left) (l .w) _ (c .before .before .before .before .before .before .loop-test .taken) e));
+      ends = λ h. omega (arith, k .0 (omega arith), c .if2 .taken);
+    }
 
 pub scan-spec : {M : Type 1} → statement M
 scan-spec =

@@ -1,13 +1,11 @@
 -- The rest of the buffer is the part from its byte on.
-use Prim.Native.Nat.{ℕ, suc, _+_, _*_, _-_, _≤_, _<_, _/_, _%_}
+use Prim.Native.Nat.{_+_, _*_, _-_, _/_, _%_}
 use native.Mathlib.Omega.{arith}
-use mathlib.Core.Path.{_≡_, refl, sym, ap, _∙_}
+use mathlib.Core.Path.{_≡_, sym, ap, _∙_}
 use lib.ListN.{length, drop, take, length-drop}
 use lib.Seq.{take-all}
 use denote.Ref.{now}
 use Rattle.link.specs.Bits.{wire}
-use Rattle.link.specs.Receiver.{runs}
-use Rattle.link.specs.Inner.{stateOf}
 use Rattle.link.proofs.Bits.{drop-wire}
 use borrow.Author.Needs.{needs}
 use Rattle.link.proofs.scanning.scan_from.Statement.{statement}
@@ -33,7 +31,7 @@ returns c =
     let t : take (length s - k) (drop k s) ≡ drop k s = take-all (length s - k) (drop k s) (rw length-drop (omega arith)) in
     let e : a .bit ≡ 8 * (a .bit / 8) + a .bit % 8 = omega arith in
     let d : drop (a .bit % 8) (wire (take (length s - k) (drop k s))) ≡ drop (a .bit) (wire s) =
-          ap (λ x. drop (a .bit % 8) (wire x)) t ∙ sym (drop-wire k (a .bit % 8) s) ∙ ap (λ x. drop x (wire s)) (sym e) in
+    ap (λ x. drop (a .bit % 8) (wire x)) t ∙ sym (drop-wire k (a .bit % 8) s) ∙ ap (λ x. drop x (wire s)) (sym e) in
     rw d at (c .scan .ensures)
 
 pub scan-from-spec : {M : Type 1} → statement M

@@ -1,7 +1,7 @@
 -- Each case of the step, from what the two choices ensure.
-use Prim.Native.Nat.{ℕ, suc, _+_, _*_, _-_, _≤_, _<_}
+use Prim.Native.Nat.{_-_}
 use native.Mathlib.Omega.{arith}
-use mathlib.Core.Path.{_≡_, refl, sym, ap, _∙_}
+use mathlib.Core.Path.{refl}
 use borrow.Author.Needs.{needs}
 use Rattle.link.proofs.scanning.step.Statement.{statement}
 use Rattle.link.proofs.scanning.step.Tie as tie
