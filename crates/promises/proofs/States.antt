@@ -11,7 +11,7 @@ use lib.Dec.{eqb, ltb, leb, lit≤}
 use lib.ListN.{length, take, drop, replicate, length-append, length-take, length-drop, length-replicate, take-append-drop}
 use lib.Seq.{take-at, drop-at}
 use Rattle.link.specs.Bits.{wire, num, pack}
-use Rattle.link.specs.Receiver.{State, push, next, view, image, inRange}
+use Rattle.link.specs.Receiver.{State, push, next, view, image, fieldsFit, inRange}
 use Rattle.link.specs.Receive.{reading}
 use Rattle.link.specs.declared.Receiver.{Receiver}
 use Rattle.link.proofs.Bits.{Bit, AreBits, AreBytes, none, more, bits-append, bits-take, bits-drop, bits-wire, bits-zeros, length-wire, length-pack, pack-wire, wire-pack}
@@ -123,7 +123,7 @@ view-image (frames {k} {l} {c} hk hl hc h bits) =
     ap (λ (x : List ℕ). record { mode = 1; ones = k; lead = l; content = x }) (take-spelled c hc bits)
 
 pub image-inRange : {s : State} → Held s → inRange (image s) ≡ true
-unfolding inRange
+unfolding inRange fieldsFit
 image-inRange (hunts-on {j} h) = rw (le-leb j 7 h, drop-spelled [] (lit≤ tt) none) refl
 image-inRange (frames {k} {l} {c} hk hl hc h bits) =
     rw
@@ -166,7 +166,7 @@ all-hold a b c d e f h =
     )
 
 fields : (r : Receiver) → inRange r ≡ true → Fields r
-unfolding inRange
+unfolding inRange fieldsFit
 fields r h =
     let idle = eqb (r .count) 0 && eqb (r .lead) 0 in
     let busy = leb (r .ones) 6 && leb (r .lead + min (r .ones) 5) (r .count) in
