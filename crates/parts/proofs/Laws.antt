@@ -6,7 +6,7 @@ use native.Mathlib.Numerals.{add-one}
 use native.Mathlib.Nat.{add-zero, div-div-eq-div-mul}
 use native.Mathlib.Omega.{arith}
 use lib.ListN.{length, take, drop, getD, set, length-append, length-take, length-drop, take-append-drop, List·getD-append}
-use lib.Seq.{take-suc, take-suc-set, take-all, take-at, drop-at, length-take-le, ext-getD, getD-take, getD-drop, getD-append-add, take-append-le, drop-append-le, drop-append-add, drop-drop, drop-set-lt}
+use lib.Seq.{take-suc, take-suc-set, take-all, take-at, drop-at, length-take-le, ext-getD, getD-take, getD-drop, getD-append-add, take-append-add, take-append-le, drop-append-le, drop-append-add, drop-drop, drop-set-lt}
 use borrow.Rule.Slice.PartMut.{putMid}
 use Rattle.parts.specs.Parts.{part, put}
 use Rattle.parts.specs.Words.{word, wordBytes, bytesOf, frontWord, wordsOf}
@@ -33,6 +33,18 @@ unfolding part put
 part-put a s d n h e =
     ap (λ (l : List ℕ). take n l) (drop-at (take a d) (s ++ drop (a + length s) d) a (length-take-le a d (omega arith)))
     ∙ take-at s (drop (a + length s) d) n e
+
+-- what was written stands at the front of a longer part
+front-rest : (n m : ℕ) → m ≤ n → n ≡ m + (n - m)
+front-rest n m h = omega arith
+
+pub part-put-front : (a : ℕ) (s d : List ℕ) (n : ℕ) → a ≤ length d → length s ≤ n → part a n (put a s d) ≡ s ++ part (a + length s) (n - length s) d
+unfolding part put
+part-put-front a s d n h l =
+    let rest : List ℕ = drop (a + length s) d in
+    ap (λ (m : List ℕ). take n m) (drop-at (take a d) (s ++ rest) a (length-take-le a d h))
+    ∙ ap (λ (m : ℕ). take m (s ++ rest)) (front-rest n (length s) l)
+    ∙ take-append-add s rest (n - length s)
 
 -- the place b, counted from the end of a prefix p
 split-place : (p a b : ℕ) → p ≡ a → a ≤ b → b ≡ p + (b - p)
