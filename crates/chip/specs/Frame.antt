@@ -5,7 +5,7 @@ use mathlib.Core.List.{List, [], _∷_}
 use lib.Dec.{eqb}
 use lib.ListN.{length, getD, drop}
 use Rattle.chip.specs.Numbers.{otherAddress, otherPort, otherControl, wrongLength}
-use Rattle.chip.specs.Channels.{bitOf}
+use Rattle.bits.specs.Bits.{bitOf}
 use Rattle.chip.specs.Answer.{sends, gives}
 use Rattle.chip.specs.Link.{receiveNumber, receiveUp, numberIn, rejectControl, acknowledgeControl, connected, reset, looped, inLoopback}
 use Rattle.chip.specs.Request.{requested}

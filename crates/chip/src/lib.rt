@@ -1,5 +1,10 @@
 // The chip as a pure machine: its whole state by value, and what each event makes of it.
+pub mod answer;
+pub mod events;
+pub mod frame;
 pub mod link;
+pub mod request;
+pub mod state;
 
 use link::Link;
 use registers::controller::Control;
