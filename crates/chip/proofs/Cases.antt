@@ -1,12 +1,12 @@
 -- What the frame checks come to, case by case. `search` finds the premises in what a need knows, wherever they stand.
-use Prim.Native.Nat.{ℕ, _+_, _-_, _*_, _%_, _^_, _≤_, _<_}
+use Prim.Native.Nat.{ℕ, suc, _+_, _-_, _*_, _%_, _^_, _≤_, _<_}
 use mathlib.Core.Bool.{Bool, true, false, not}
 use mathlib.Core.List.{List, [], _∷_}
 use mathlib.Core.Path.{_≡_, refl, sym, ap, _∙_}
 use native.Mathlib.Nat.{le-of-eq}
 use native.Mathlib.Omega.{arith}
 use borrow.Author.Tests.{eq-eqb, ne-eqb}
-use lib.Dec.{eqb}
+use lib.Dec.{eqb, eqb·suc-suc}
 use lib.Bits.{bitAnd, bitOr, or-shifted-r, and-mask}
 use lib.ListN.{length, getD, take, drop, length-drop}
 use lib.Seq.{take-all}
@@ -16,7 +16,7 @@ use Rattle.chip.specs.Numbers.{otherAddress, otherPort, otherControl, wr
 use Rattle.chip.specs.Answer.{sends, gives}
 use Rattle.chip.specs.Link.{acknowledgeControl, rejectControl, receiveNumber, receiveUp, numberIn, connected, reset, looped, inLoopback}
 use Rattle.chip.specs.Request.{requested}
-use Rattle.chip.specs.Frame.{isConnect, isReset, isTest, commanded, numbered, carried, onFrame}
+use Rattle.chip.specs.Frame.{isConnect, isReset, isResetFrame, isTest, commanded, numbered, carried, onFrame}
 use Rattle.chip.specs.declared.Adapter.{Adapter}
 use Rattle.chip.specs.declared.Reaction.{Reaction}
 
@@ -113,3 +113,23 @@ module _ (a : Adapter) (port : ℕ) (s : List ℕ) (r : Reaction) where
         pub carries : t ≡ false → u ≡ false → v ≡ false → bitAnd (getD s 1 0) 1 ≡ 0 → r ≡ carried a port s → r ≡ onFrame a port s
         unfolding onFrame
         carries e f h i g = simp (eq-eqb _ _ z, sym p ∙ e, sym q ∙ f, sym w ∙ h, bit-clear (getD s 1 0) 0 i, g)
+
+-- ---- a RESET that every state accepts
+
+emptied : (s : List ℕ) → 2 ≤ length s → eqb (length s) 2 ≡ eqb (length (drop 2 s)) 0
+emptied [] h = absurd (omega arith)
+emptied (x ∷ []) h = absurd (omega arith)
+emptied (x ∷ y ∷ s) h = eqb·suc-suc (suc (length s)) 1 ∙ eqb·suc-suc (length s) 0
+
+module _ (s : List ℕ) where
+  pub other-address : (getD s 0 0 ≡ 0 → ⊥) → false ≡ isResetFrame s
+  unfolding isResetFrame
+  other-address h = simp (ne-eqb _ _ h)
+
+  pub other-command : getD s 0 0 ≡ 0 → (t : Bool) → t ≡ isReset (getD s 1 0) → t ≡ false → false ≡ isResetFrame s
+  unfolding isResetFrame
+  other-command z t p e = simp (eq-eqb _ _ z, sym p ∙ e)
+
+  pub reset-command : getD s 0 0 ≡ 0 → (t : Bool) → t ≡ isReset (getD s 1 0) → t ≡ true → 2 ≤ length s → eqb (length s) 2 ≡ isResetFrame s
+  unfolding isResetFrame
+  reset-command z t p e h = simp (eq-eqb _ _ z, sym p ∙ e) (emptied s h)

@@ -7,14 +7,14 @@ ghost use Rattle.chip.specs.Answer.{padded, sends, gives};
 use crate::Adapter;
 use crate::Reaction;
 
-pub const SENT: u8 = 0;
-pub const OTHER_ADDRESS: u8 = 11;
-pub const OTHER_PORT: u8 = 12;
-pub const OTHER_CONTROL: u8 = 13;
-pub const WRONG_LENGTH: u8 = 14;
-pub const NOT_BUSY: u8 = 15;
-pub const LINES_DISABLED: u8 = 16;
-pub const NO_FRAME: u8 = 17;
+pub(crate) const SENT: u8 = 0;
+pub(crate) const OTHER_ADDRESS: u8 = 11;
+pub(crate) const OTHER_PORT: u8 = 12;
+pub(crate) const OTHER_CONTROL: u8 = 13;
+pub(crate) const WRONG_LENGTH: u8 = 14;
+pub(crate) const NOT_BUSY: u8 = 15;
+pub(crate) const LINES_DISABLED: u8 = 16;
+pub(crate) const NO_FRAME: u8 = 17;
 
 // A body at the front of 16 bytes, the rest 0.
 fn padded_body(body: &[u8]) -> [u8; 16]
@@ -31,7 +31,7 @@ fn padded_body(body: &[u8]) -> [u8; 16]
 }
 
 // An answer with a frame.
-pub fn send(a: Adapter, port: u8, body: &[u8]) -> Reaction
+pub(crate) fn send(a: Adapter, port: u8, body: &[u8]) -> Reaction
     requires { ⌜ length (now body) ≤ 16 ⌝ }
     ensures { λ r. ⌜ r ≡ sends a port (now (body .entry)) ⌝ }
 {
@@ -46,7 +46,7 @@ pub fn send(a: Adapter, port: u8, body: &[u8]) -> Reaction
 }
 
 // An answer without a frame.
-pub fn give(a: Adapter, number: u8) -> Reaction
+pub(crate) fn give(a: Adapter, number: u8) -> Reaction
     ensures { λ r. ⌜ r ≡ gives a number ⌝ }
 {
     Reaction {

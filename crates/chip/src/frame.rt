@@ -2,7 +2,7 @@
 ghost use mathlib.Core.Path.{_≡_};
 ghost use Prim.Native.Nat.{_≤_};
 ghost use lib.ListN.{length};
-ghost use Rattle.chip.specs.Frame.{isConnect, isReset, isTest, commanded, numbered, carried, onFrame};
+ghost use Rattle.chip.specs.Frame.{isConnect, isReset, isResetFrame, isTest, commanded, numbered, carried, onFrame};
 
 use crate::Adapter;
 use crate::Reaction;
@@ -39,6 +39,21 @@ fn is_test(control: u8) -> bool
     ensures { λ r. ⌜ r ≡ isTest control ⌝ }
 {
     if control == TEST { true } else { control == TEST_POLL }
+}
+
+// A body that is RESET: the chip's address, RESET's control, no information.
+pub(crate) fn resets(body: &[u8]) -> bool
+    requires { ⌜ 2 ≤ length (now body) ⌝ }
+    ensures { λ r. ⌜ r ≡ isResetFrame (now (body .entry)) ⌝ }
+{
+    if body[0] != ADDRESS {
+        return false;
+    }
+    if is_reset(body[1]) {
+        body.len() == 2
+    } else {
+        false
+    }
 }
 
 // A command on state a that leaves b, unless it carries information.
@@ -85,7 +100,7 @@ fn carry(a: Adapter, port: u8, body: &[u8]) -> Reaction
 }
 
 // Checks 1 to 8.
-pub fn on_frame(a: Adapter, port: u8, body: &[u8]) -> Reaction
+pub(crate) fn check(a: Adapter, port: u8, body: &[u8]) -> Reaction
     requires { ⌜ (2 ≤ length (now body)) × (length (now body) ≤ 16) ⌝ }
     ensures { λ r. ⌜ r ≡ onFrame a port (now (body .entry)) ⌝ }
 {

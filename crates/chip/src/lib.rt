@@ -1,9 +1,9 @@
 // The chip as a pure machine: its whole state by value, and what each event makes of it.
-pub mod answer;
+mod answer;
 pub mod events;
-pub mod frame;
+mod frame;
 pub mod link;
-pub mod request;
+mod request;
 pub mod state;
 
 use link::Link;

@@ -28,7 +28,7 @@ const ACKNOWLEDGE: u8 = 0x63;
 const ACKNOWLEDGE_FINAL: u8 = 0x73;
 const POLL: u8 = 0x10;
 
-pub fn send_up(a: Adapter) -> Adapter
+pub(crate) fn send_up(a: Adapter) -> Adapter
     ensures { λ r. ⌜ r ≡ sendUp a ⌝ }
 {
     let mut b = a;
@@ -37,7 +37,7 @@ pub fn send_up(a: Adapter) -> Adapter
     b
 }
 
-pub fn receive_up(a: Adapter) -> Adapter
+pub(crate) fn receive_up(a: Adapter) -> Adapter
     ensures { λ r. ⌜ r ≡ receiveUp a ⌝ }
 {
     let mut b = a;
@@ -46,14 +46,14 @@ pub fn receive_up(a: Adapter) -> Adapter
     b
 }
 
-pub fn receive_number(a: Adapter) -> u8
+pub(crate) fn receive_number(a: Adapter) -> u8
     ensures { λ r. ⌜ r ≡ receiveNumber a ⌝ }
 {
     a.link.receive.0 % NUMBERS
 }
 
 // Bits 3 to 1 of an incoming control.
-pub fn number_in(control: u8) -> u8
+pub(crate) fn number_in(control: u8) -> u8
     ensures { λ r. ⌜ r ≡ numberIn control ⌝ }
 {
     (control >> SEND_SHIFT) & NUMBER_MASK
@@ -66,7 +66,7 @@ fn control_of(send: SendNumber, receive: ReceiveNumber) -> u8
     ((send.0 & NUMBER_MASK) << SEND_SHIFT) | ((receive.0 & NUMBER_MASK) << RECEIVE_SHIFT)
 }
 
-pub fn reply_control(a: Adapter) -> u8
+pub(crate) fn reply_control(a: Adapter) -> u8
     ensures { λ r. ⌜ r ≡ replyControl a ⌝ }
 {
     let send = a.link.send;
@@ -74,19 +74,19 @@ pub fn reply_control(a: Adapter) -> u8
     control_of(send, receive)
 }
 
-pub fn reject_control(a: Adapter) -> u8
+pub(crate) fn reject_control(a: Adapter) -> u8
     ensures { λ r. ⌜ r ≡ rejectControl a ⌝ }
 {
     REJECT | ((a.link.receive.0 & NUMBER_MASK) << RECEIVE_SHIFT)
 }
 
-pub fn acknowledge_control(control: u8) -> u8
+pub(crate) fn acknowledge_control(control: u8) -> u8
     ensures { λ r. ⌜ r ≡ acknowledgeControl control ⌝ }
 {
     if control & POLL != 0 { ACKNOWLEDGE_FINAL } else { ACKNOWLEDGE }
 }
 
-pub fn connect(a: Adapter, port: u8) -> Adapter
+pub(crate) fn connect(a: Adapter, port: u8) -> Adapter
     ensures { λ r. ⌜ r ≡ connected a port ⌝ }
 {
     let link = Link {
@@ -99,7 +99,7 @@ pub fn connect(a: Adapter, port: u8) -> Adapter
     Adapter { link: link, ..a }
 }
 
-pub fn loop_back(a: Adapter, port: u8) -> Adapter
+pub(crate) fn loop_back(a: Adapter, port: u8) -> Adapter
     ensures { λ r. ⌜ r ≡ looped a port ⌝ }
 {
     let mut b = a;
@@ -111,7 +111,7 @@ pub fn loop_back(a: Adapter, port: u8) -> Adapter
     b
 }
 
-pub fn in_loopback(a: Adapter, port: u8) -> bool
+pub(crate) fn in_loopback(a: Adapter, port: u8) -> bool
     ensures { λ r. ⌜ r ≡ inLoopback a port ⌝ }
 {
     if port == 0 {

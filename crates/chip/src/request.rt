@@ -10,7 +10,7 @@ use crate::answer;
 use crate::link;
 
 // A reply or an interrupt, on the active port.
-pub fn reply(a: Adapter, trn: u8, ch: u8, err: u8, len: u8, value: u32) -> Reaction
+pub(crate) fn reply(a: Adapter, trn: u8, ch: u8, err: u8, len: u8, value: u32) -> Reaction
     ensures { λ r. ⌜ r ≡ replies a trn ch err len value ⌝ }
 {
     let body = [
@@ -28,7 +28,7 @@ pub fn reply(a: Adapter, trn: u8, ch: u8, err: u8, len: u8, value: u32) -> React
     answer::send(link::send_up(a), a.link.port, &body)
 }
 
-pub fn request(a: Adapter, info: &[u8]) -> Reaction
+pub(crate) fn request(a: Adapter, info: &[u8]) -> Reaction
     requires { ⌜ length (now info) ≡ 8 ⌝ }
     ensures { λ r. ⌜ r ≡ requested a (now (info .entry)) ⌝ }
 {

@@ -42,7 +42,7 @@ pub fn power_on(id: u32) -> Adapter
     powered_on(0, id)
 }
 
-pub fn reset_of(a: Adapter, port: u8) -> Adapter
+pub(crate) fn reset_of(a: Adapter, port: u8) -> Adapter
     ensures { λ r. ⌜ r ≡ reset a port ⌝ }
 {
     powered_on(port, a.id)

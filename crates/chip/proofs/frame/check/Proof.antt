@@ -1,10 +1,10 @@
 use borrow.Author.Needs.{needs}
 use Rattle.chip.proofs.Cases.{unaddressed, connects, resets, tests, odd, carries}
-use Rattle.chip.proofs.frame.on_frame.Statement.{statement}
-use Rattle.chip.proofs.frame.on_frame.Tie as tie
+use Rattle.chip.proofs.frame.check.Statement.{statement}
+use Rattle.chip.proofs.frame.check.Tie as tie
 
-pub on-frame-spec : {M : Type 1} → statement M
-on-frame-spec =
+pub check-spec : {M : Type 1} → statement M
+check-spec =
     tie.close
     (tie.spec
     (λ c. search needs)
