@@ -1,5 +1,6 @@
 -- PLACEHOLDER until crate registers has these: what the channels give. Nothing here is final.
-use Prim.Native.Nat.{ℕ, _/_, _%_, _^_}
+use Prim.Native.Nat.{ℕ}
+use Rattle.bits.specs.Bits.{bitOf}
 use mathlib.Core.Bool.{Bool, true, false, not, _&&_, _||_, cond}
 use mathlib.Core.List.{List, [], _∷_}
 use lib.Dec.{eqb, ltb}
@@ -7,9 +8,6 @@ use Rattle.registers.specs.declared.controller.Control.{Control}
 use Rattle.registers.specs.declared.spi.Spi.{Spi}
 use Rattle.registers.specs.declared.gpio.Gpio.{Gpio}
 use Rattle.registers.specs.declared.dac.Dac.{Dac}
-
-abbrev pub bitOf : ℕ → ℕ → Bool
-bitOf n i = eqb (n / 2 ^ i % 2) 1
 
 abbrev pub spiZero : Spi
 spiZero = record { control = 0; freq = 0; ss = 0; words = 0 ∷ 0 ∷ 0 ∷ 0 ∷ []; go = 0 }

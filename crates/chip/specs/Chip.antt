@@ -1,14 +1,12 @@
 -- The chip: one function from a state and an event to the one state and the one answer that the tables fix.
 use Prim.Native.Nat.{ℕ, _+_, _%_, _^_}
-use mathlib.Core.Bool.{Bool, false, _&&_}
+use mathlib.Core.Bool.{Bool, false}
 use mathlib.Core.List.{List}
-use lib.Dec.{eqb}
-use lib.ListN.{length}
 use Rattle.chip.specs.Event.{Event, frame, completion, sample, upset}
 use Rattle.chip.specs.Numbers.{notBusy, linesDisabled, noFrame}
 use Rattle.chip.specs.State.{withSeu}
 use Rattle.chip.specs.Answer.{gives}
-use Rattle.chip.specs.Frame.{onFrame, addressOf, controlOf, informationOf, isReset}
+use Rattle.chip.specs.Frame.{onFrame, isResetFrame}
 use Rattle.chip.specs.declared.Adapter.{Adapter}
 use Rattle.chip.specs.declared.Reaction.{Reaction}
 
@@ -30,10 +28,9 @@ reaction a (completion received) = onCompletion a received
 reaction a (sample levels kind) = onSample a levels kind
 reaction a upset = onUpset a
 
--- A frame that resets whatever the state is: the address is the chip's, the control is RESET's, the information is empty.
-unfoldable pub acceptedReset : Event → Bool
-acceptedReset (frame port body) =
-    eqb (addressOf body) 0x00 && isReset (controlOf body) && eqb (length (informationOf body)) 0
+-- Does not depend on the state or the port.
+abbrev pub acceptedReset : Event → Bool
+acceptedReset (frame port body) = isResetFrame body
 acceptedReset (completion received) = false
 acceptedReset (sample levels kind) = false
 acceptedReset upset = false

@@ -5,7 +5,7 @@ use mathlib.Core.List.{List, [], _∷_}
 use lib.Dec.{eqb}
 use lib.ListN.{length, getD, drop}
 use Rattle.chip.specs.Numbers.{otherAddress, otherPort, otherControl, wrongLength}
-use Rattle.chip.specs.Channels.{bitOf}
+use Rattle.bits.specs.Bits.{bitOf}
 use Rattle.chip.specs.Answer.{sends, gives}
 use Rattle.chip.specs.Link.{receiveNumber, receiveUp, numberIn, rejectControl, acknowledgeControl, connected, reset, looped, inLoopback}
 use Rattle.chip.specs.Request.{requested}
@@ -30,6 +30,10 @@ isReset control = eqb control 0x8F || eqb control 0x9F
 
 abbrev pub isTest : ℕ → Bool
 isTest control = eqb control 0xE3 || eqb control 0xF3
+
+-- A RESET that every state accepts: the chip's address, RESET's control, no information.
+unfoldable pub isResetFrame : List ℕ → Bool
+isResetFrame body = eqb (addressOf body) 0x00 && isReset (controlOf body) && eqb (length (informationOf body)) 0
 
 -- A command's information is empty, or 14; its acknowledgement leaves on the same port.
 unfoldable pub commanded : Adapter → Adapter → ℕ → List ℕ → Reaction

@@ -2,7 +2,7 @@
 use Prim.Native.Nat.{ℕ, _+_, _*_, _/_, _%_}
 use mathlib.Core.Bool.{Bool, true, cond}
 use lib.Dec.{eqb}
-use Rattle.chip.specs.Channels.{bitOf}
+use Rattle.bits.specs.Bits.{bitOf}
 use Rattle.chip.specs.State.{withLink, freshLink, poweredOn}
 use Rattle.chip.specs.declared.Adapter.{Adapter}
 
@@ -43,9 +43,13 @@ receiveUp a =
 abbrev pub numberIn : ℕ → ℕ
 numberIn control = control / 2 % 8
 
--- a reply's or an interrupt's: twice the send number plus 32 times the receive number
+-- twice the send number plus 32 times the receive number
+abbrev pub packed : ℕ → ℕ → ℕ
+packed send receive = 2 * (send % 8) + 32 * (receive % 8)
+
+-- a reply's or an interrupt's
 abbrev pub replyControl : Adapter → ℕ
-replyControl a = 2 * sendNumber a + 32 * receiveNumber a
+replyControl a = packed (a .link .send .0) (a .link .receive .0)
 
 -- SREJ's: 0x0D plus 32 times the receive number
 abbrev pub rejectControl : Adapter → ℕ

@@ -6,7 +6,8 @@ use Rattle.registers.specs.declared.controller.Control.{Control}
 use Rattle.registers.specs.declared.spi.Spi.{Spi}
 use Rattle.registers.specs.declared.gpio.Gpio.{Gpio}
 use Rattle.registers.specs.declared.dac.Dac.{Dac}
-use Rattle.chip.specs.Channels.{bitOf, spiZero, gpioZero, controlZero, dacZero, controlInRange, spiInRange, gpioInRange}
+use Rattle.bits.specs.Bits.{bitOf}
+use Rattle.chip.specs.Channels.{spiZero, gpioZero, controlZero, dacZero, controlInRange, spiInRange, gpioInRange}
 use Rattle.chip.specs.declared.Adapter.{Adapter}
 use Rattle.chip.specs.declared.link.Link.{Link}
 

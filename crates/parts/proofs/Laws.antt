@@ -185,3 +185,29 @@ pub words-bytes : {ws : List ℕ} → Words ws → wordsOf (length ws) (bytesOf 
 unfolding wordsOf bytesOf
 words-bytes none = refl
 words-bytes (more {w} {ws} h r) = ap (λ (x : ℕ). x ∷ wordsOf (length ws) (bytesOf ws)) (word-digits w h) ∙ ap (λ (l : List ℕ). w ∷ l) (words-bytes r)
+
+-- the bytes of a word
+module _ (a b c d : ℕ) (ha : a < 256) (hb : b < 256) (hc : c < 256) where
+  pub byte0 : word a b c d % 256 ≡ a
+  byte0 = omega arith
+
+  over1 : word a b c d / 256 ≡ b + 256 * c + 65536 * d
+  over1 = omega arith
+
+  over2 : word a b c d / 65536 ≡ c + 256 * d
+  over2 = omega arith
+
+  pub over3 : word a b c d / 16777216 ≡ d
+  over3 = omega arith
+
+  pub byte1 : word a b c d / 256 % 256 ≡ b
+  byte1 = rw over1 (omega arith)
+
+  pub byte2 : word a b c d / 65536 % 256 ≡ c
+  byte2 = rw over2 (omega arith)
+
+  pub byte3 : d < 256 → word a b c d / 16777216 % 256 ≡ d
+  byte3 hd = rw over3 (omega arith)
+
+  pub word-small : d < 256 → word a b c d < 4294967296
+  word-small hd = omega arith

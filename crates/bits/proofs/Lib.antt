@@ -1,0 +1,5 @@
+pub mod Bits
+pub mod Masks
+pub mod Packing
+pub mod Rows
+pub mod Taut

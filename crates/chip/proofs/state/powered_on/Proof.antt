@@ -1,0 +1,11 @@
+use mathlib.Core.Path.{refl}
+use Rattle.chip.specs.State.{poweredOn}
+use Rattle.chip.proofs.state.powered_on.Statement.{statement}
+use Rattle.chip.proofs.state.powered_on.Tie as tie
+
+pub powered-on-spec : {M : Type 1} → statement M
+unfolding poweredOn
+powered-on-spec =
+    tie.close
+    (tie.spec
+    (λ c. refl))
