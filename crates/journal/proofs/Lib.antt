@@ -1,1 +1,4 @@
+pub mod Fits
+pub mod Record
 pub mod Ring
+pub mod Spelling

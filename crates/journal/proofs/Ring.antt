@@ -28,7 +28,7 @@ pub record Well (f : Format) (j : List ℕ) : Type 0 where
   pub first : firstOf j < f .slots
   pub few : keptOf j ≤ f .slots
 
-both-true : (x y : Bool) → (x && y) ≡ true → (x ≡ true) × (y ≡ true)
+pub both-true : (x y : Bool) → (x && y) ≡ true → (x ≡ true) × (y ≡ true)
 both-true true y h = (refl, h)
 both-true false y h = absurd (false≢true h)
 

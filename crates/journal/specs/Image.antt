@@ -1,9 +1,10 @@
 -- The image of the state: 18 words of 32 bits. docs/JOURNAL.md has it byte by byte. The chip's ID is not in it.
 use Prim.Native.Nat.{ℕ, _+_, _*_, _/_, _%_, _^_}
-use mathlib.Core.Bool.{Bool, cond, _&&_}
+use mathlib.Core.Bool.{Bool, _&&_}
 use mathlib.Core.List.{List, [], _∷_}
 use lib.ListN.{getD}
-use lib.Dec.{eqb, ltb}
+use lib.Dec.{ltb}
+use Rattle.bits.specs.Bits.{bitOf, digit}
 use Rattle.chip.specs.declared.Adapter.{Adapter}
 use Rattle.chip.specs.declared.link.Link.{Link}
 use Rattle.registers.specs.declared.controller.Control.{Control}
@@ -16,7 +17,7 @@ use Rattle.parts.specs.Words.{word}
 
 -- bit 0 loopback of port 0, bit 1 loopback of port 1, bit 2 INTENABLE
 abbrev pub flags : Bool → Bool → Bool → ℕ
-flags loop0 loop1 intenable = cond loop0 1 0 + 2 * cond loop1 1 0 + 4 * cond intenable 1 0
+flags loop0 loop1 intenable = digit loop0 + 2 * digit loop1 + 4 * digit intenable
 
 -- two numbers of 16 bits
 abbrev pub halves : ℕ → ℕ → ℕ
@@ -46,12 +47,9 @@ imageWords a =
 
 -- ---- from words to the state
 
--- the byte of a word from bit n on, and its bit n
+-- the byte of a word from bit n on
 abbrev pub byteFrom : ℕ → ℕ → ℕ
 byteFrom n w = w / 2 ^ n % 256
-
-abbrev pub bitAt : ℕ → ℕ → Bool
-bitAt n w = eqb (w / 2 ^ n % 2) 1
 
 abbrev pub linkOf : ℕ → Link
 linkOf w =
@@ -59,8 +57,8 @@ linkOf w =
       send = record { 0 = w % 256 };
       receive = record { 0 = byteFrom 8 w };
       port = byteFrom 16 w;
-      loop0 = bitAt 24 w;
-      loop1 = bitAt 25 w;
+      loop0 = bitOf w 24;
+      loop1 = bitOf w 25;
     }
 
 abbrev pub controlOf : ℕ → Control
@@ -87,7 +85,7 @@ gpioOf ws =
       ints = getD ws 13 0;
       clksel = getD ws 14 0;
       edgesel = getD ws 15 0;
-      intenable = bitAt 26 (getD ws 0 0);
+      intenable = bitOf (getD ws 0 0) 26;
     }
 
 abbrev pub dacOf : ℕ → Dac

@@ -181,10 +181,11 @@ word-digits x h =
     (last-digit (x / 65536) ∙ ap (λ (n : ℕ). x / 65536 % 256 + 256 * n) (div-div-eq-div-mul x 65536 256))
     (omega arith)
 
-pub words-bytes : {ws : List ℕ} → Words ws → wordsOf (length ws) (bytesOf ws) ≡ ws
+pub words-bytes : {ws : List ℕ} → Words ws → (rest : List ℕ) → wordsOf (length ws) (bytesOf ws ++ rest) ≡ ws
 unfolding wordsOf bytesOf
-words-bytes none = refl
-words-bytes (more {w} {ws} h r) = ap (λ (x : ℕ). x ∷ wordsOf (length ws) (bytesOf ws)) (word-digits w h) ∙ ap (λ (l : List ℕ). w ∷ l) (words-bytes r)
+words-bytes none rest = refl
+words-bytes (more {w} {ws} h r) rest =
+    ap (λ (x : ℕ). x ∷ wordsOf (length ws) (bytesOf ws ++ rest)) (word-digits w h) ∙ ap (λ (l : List ℕ). w ∷ l) (words-bytes r rest)
 
 -- the bytes of a word
 module _ (a b c d : ℕ) (ha : a < 256) (hb : b < 256) (hc : c < 256) where

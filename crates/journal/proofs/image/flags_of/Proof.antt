@@ -1,9 +1,10 @@
 -- `journal::image::flags_of` meets its contract: a flag as a number is at most 1. Assumes nothing.
 use Prim.Native.Nat.{_≤_}
 use mathlib.Core.Path.{_≡_, refl}
-use mathlib.Core.Bool.{Bool, true, false, cond}
+use mathlib.Core.Bool.{Bool, true, false}
 use native.Mathlib.Omega.{arith}
 use mir.Val.{boolByte}
+use Rattle.bits.specs.Bits.{digit}
 use borrow.Author.Needs.{needs}
 use Rattle.journal.proofs.image.flags_of.Statement.{statement}
 use Rattle.journal.proofs.image.flags_of.Tie as tie
@@ -12,7 +13,7 @@ small : (b : Bool) → boolByte b ≤ 1
 small true = omega arith
 small false = omega arith
 
-is-flag : (b : Bool) → boolByte b ≡ cond b 1 0
+is-flag : (b : Bool) → boolByte b ≡ digit b
 is-flag true = refl
 is-flag false = refl
 
