@@ -8,11 +8,12 @@ use mathlib.Core.Logic.{_⊎_, inl, inr, ⊎-elim}
 use native.Mathlib.Decide.{decLt}
 use native.Mathlib.Nat.{eq-or-lt-of-le, mod-lt, mod-eq-of-lt, mod-eq-sub-mod, mod-add-mod}
 use native.Mathlib.Omega.{arith}
-use lib.ListN.{length, getD, set, length-set}
+use lib.ListN.{length, take, drop, getD, set, length-set}
 use lib.Seq.{getD-set-same, getD-set-other}
-use lib.Dec.{eqb, leb, ltb}
+use lib.Dec.{eqb, leb, ltb, lit<}
 use borrow.Author.Tests.{eq-eqb, ne-eqb, eqb-true, eqb-false, le-leb, leb-true, lt-ltb, ltb-true}
 use Rattle.parts.specs.Parts.{part, put}
+use Rattle.parts.specs.Words.{wordsOf}
 use Rattle.parts.proofs.Laws.{length-put, part-put-front, part-put-before, part-put-after, getD-put-before, part-set}
 use Rattle.journal.specs.Layout.{Format, version1, headerBytes, slotBytes, sizeOf, header, firstOf, keptOf, wellFormed, placeOf, past, emptied, firstAfter, pushed, lowered}
 
@@ -264,3 +265,29 @@ module _ (f : Format) (j : List ℕ) (w : Well f j) where
       let k : keptOf j - 1 - 1 - i ≡ keptOf j - 1 - suc i = omega arith in
       part-set j 6 (keptOf j - 1) (placeOf f (lowered j) (keptOf (lowered j) - 1 - i)) 256 (omega arith)
       ∙ ap (λ (p : ℕ). part p 256 j) (rw (lowered-byte 5 (λ e. omega arith), lowered-kept) (ap (placeOf f j) k))
+
+-- ---- what a well-formed journal of version 1 is to the code
+
+pub size-in : (j : List ℕ) → wellFormed version1 j ≡ true → length j ≡ 17408
+size-in j h = of-well version1 j h .size
+
+pub in-journal : (j : List ℕ) (i : ℕ) → wellFormed version1 j ≡ true → i < 17408 → i < length j
+in-journal j i h l = let s = of-well version1 j h .size in omega arith
+
+pub first-in : (j : List ℕ) → wellFormed version1 j ≡ true → firstOf j < 64
+first-in j h = of-well version1 j h .first
+
+pub kept-in : (j : List ℕ) → wellFormed version1 j ≡ true → keptOf j ≤ 64
+kept-in j h = of-well version1 j h .few
+
+pub slot-in : (j : List ℕ) (at k : ℕ) → wellFormed version1 j ≡ true → at ≡ 1024 + 256 * ((firstOf j + k) % 64) → at + 256 ≤ length j
+slot-in j at k h e = let s = of-well version1 j h .size in omega arith
+
+pub newest-read : (j ws : List ℕ) (at : ℕ) → at ≡ 1024 + 256 * ((firstOf j + (keptOf j - 1)) % 64) → ws ≡ wordsOf 18 (take (at + 256 - at) (drop at j)) → ws ≡ wordsOf 18 (past version1 j 0)
+unfolding past part
+newest-read j ws at e h =
+    let k : keptOf j - 1 - 0 ≡ keptOf j - 1 = omega arith in
+    let n : at + 256 - at ≡ 256 = omega arith in
+    h ∙ rw (n, k, e) refl
+
+pub ruleset journal-needs = (in-journal, first-in, kept-in, slot-in, lit<)

@@ -64,8 +64,11 @@ unfoldable pub emptied : Format → List ℕ → List ℕ
 emptied f j = put 0 (header f 0 0) j
 
 -- A record more: in the slot after the newest, which in a full ring is the oldest's, so that the ring then starts one slot later.
+abbrev pub advanced : Format → ℕ → ℕ → ℕ
+advanced f first kept = cond (eqb kept (f .slots)) ((first + 1) % f .slots) first
+
 abbrev pub firstAfter : Format → List ℕ → ℕ
-firstAfter f j = cond (eqb (keptOf j) (f .slots)) ((firstOf j + 1) % f .slots) (firstOf j)
+firstAfter f j = advanced f (firstOf j) (keptOf j)
 
 unfoldable pub pushed : Format → List ℕ → List ℕ → List ℕ
 pushed f r j = set (set (put (placeOf f j (keptOf j)) r j) 5 (firstAfter f j)) 6 (min (f .slots) (keptOf j + 1))
