@@ -4,7 +4,6 @@ ghost use Prim.Native.Nat.{_≤_, _<_};
 ghost use lib.ListN.{length};
 ghost use Rattle.chip.specs.Event.{Event, frame, completion, sample, upset};
 ghost use Rattle.chip.specs.Chip.{reaction, acceptedReset};
-
 use crate::Adapter;
 use crate::Reaction;
 use crate::answer;

@@ -3,7 +3,6 @@ ghost use mathlib.Core.Path.{_≡_};
 ghost use Prim.Native.Nat.{_≤_};
 ghost use lib.ListN.{length};
 ghost use Rattle.chip.specs.Request.{replyBody, replies, requested};
-
 use crate::Adapter;
 use crate::Reaction;
 use crate::answer;

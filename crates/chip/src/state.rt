@@ -2,11 +2,10 @@
 ghost use mathlib.Core.Path.{_≡_};
 ghost use Rattle.chip.specs.State.{poweredOn, powerOn};
 ghost use Rattle.chip.specs.Link.{reset};
-
 use crate::Adapter;
 use crate::link::Link;
-use crate::link::SendNumber;
 use crate::link::ReceiveNumber;
+use crate::link::SendNumber;
 use registers::controller::Control;
 use registers::dac::Dac;
 use registers::gpio::Gpio;
@@ -23,14 +22,39 @@ fn powered_on(port: u8, id: u32) -> Adapter
         loop0: false,
         loop1: false,
     };
-    let spi = Spi { control: 0, freq: 0, ss: 0, words: [0; 4], go: 0 };
-    let gpio = Gpio { dataout: 0, datain: 0, direction: 0, intsel: 0, inttrig: 0, ints: 0, clksel: 0, edgesel: 0, intenable: false };
+    let spi = Spi {
+        control: 0,
+        freq: 0,
+        ss: 0,
+        words: [0; 4],
+        go: 0,
+    };
+    let gpio = Gpio {
+        dataout: 0,
+        datain: 0,
+        direction: 0,
+        intsel: 0,
+        inttrig: 0,
+        ints: 0,
+        clksel: 0,
+        edgesel: 0,
+        intenable: false,
+    };
     Adapter {
         link: link,
-        control: Control { crb: 0, crc: 0, crd: 0 },
+        control: Control {
+            crb: 0,
+            crc: 0,
+            crd: 0,
+        },
         spi: spi,
         gpio: gpio,
-        dac: Dac { a: 0, b: 0, c: 0, d: 0 },
+        dac: Dac {
+            a: 0,
+            b: 0,
+            c: 0,
+            d: 0,
+        },
         seu: 0,
         id: id,
     }

@@ -36,15 +36,16 @@ both-true false y h = absurd (false≢true h)
 pub well-of : {f : Format} {j : List ℕ} → Well f j → wellFormed f j ≡ true
 unfolding wellFormed
 well-of w =
-    simp
-    (eq-eqb _ _ (w .size),
+    simp (
+      eq-eqb _ _ (w .size),
       eq-eqb _ _ (w .m0),
       eq-eqb _ _ (w .m1),
       eq-eqb _ _ (w .m2),
       eq-eqb _ _ (w .v0),
       eq-eqb _ _ (w .v1),
       lt-ltb _ _ (w .first),
-      le-leb _ _ (w .few))
+      le-leb _ _ (w .few),
+    )
 
 pub of-well : (f : Format) (j : List ℕ) → wellFormed f j ≡ true → Well f j
 unfolding wellFormed
@@ -106,6 +107,7 @@ ring-apart n first k m lf lk lm d e = ⊎-elim below above (wraps n (first + m) 
   where
     below : (first + m < n) × ((first + m) % n ≡ first + m) → ⊥
     below b = ⊎-elim (λ c. omega arith) (λ c. omega arith) (wraps n (first + k) (omega arith))
+
     above : (n ≤ first + m) × ((first + m) % n ≡ first + m - n) → ⊥
     above b = ⊎-elim (λ c. omega arith) (λ c. omega arith) (wraps n (first + k) (omega arith))
 
@@ -131,6 +133,7 @@ counted n first k i h l = ⊎-elim full more (eq-or-lt-of-le h)
     full e =
         let q : first + 1 + (min n (k + 1) - 1 - i) ≡ first + (k - i) = omega arith in
         simp (eq-eqb k n e) (mod-add-mod (first + 1) n (min n (k + 1) - 1 - i) ∙ ap (λ (x : ℕ). x % n) q)
+
     more : k < n → (cond (eqb k n) ((first + 1) % n) first + (min n (k + 1) - 1 - i)) % n ≡ (first + (k - i)) % n
     more m =
         let q : first + (min n (k + 1) - 1 - i) ≡ first + (k - i) = omega arith in
@@ -225,14 +228,14 @@ module _ (f : Format) (r j : List ℕ) (w : Well f j) (small : length r ≤ 256)
   pushed-older i h =
       let k : keptOf j - suc i ≡ keptOf j - 1 - i = omega arith in
       let d : (firstOf j + (keptOf j - 1 - i)) % f .slots ≡ (firstOf j + keptOf j) % f .slots → ⊥ =
-        λ e. ring-apart (f .slots) (firstOf j) (keptOf j - 1 - i) (keptOf j) (w .first) (omega arith) (w .few) (omega (arith, w .few)) e in
+      λ e. ring-apart (f .slots) (firstOf j) (keptOf j - 1 - i) (keptOf j) (w .first) (omega arith) (w .few) (omega (arith, w .few)) e in
       let old : ℕ = placeOf f j (keptOf j - 1 - i) in
       ap (λ (p : ℕ). part p 256 (pushed f r j)) (slot-after (suc i) h ∙ ap (placeOf f j) k)
       ∙ pushed-part old 256 (omega arith)
       ∙ ⊎-elim
-        (λ (l : old + 256 ≤ place). let q = room in part-put-before place r j old 256 (omega arith) l)
-        (λ (l : place + 256 ≤ old). let q = room in part-put-after place r j old 256 (omega arith) (omega arith))
-        (apart _ _ d)
+      (λ (l : old + 256 ≤ place). let q = room in part-put-before place r j old 256 (omega arith) l)
+      (λ (l : place + 256 ≤ old). let q = room in part-put-after place r j old 256 (omega arith) (omega arith))
+      (apart _ _ d)
 
 -- ---- the newest record given up
 

@@ -112,14 +112,15 @@ module _ (a : Adapter) (f : Fits a) where
   unfolding flags-of
   read-link =
       let q = flags-read (a .link .loop0) (a .link .loop1) (a .gpio .intenable) in
-      simp
-      (byte0 _ _ _ flags-of (f .send) (f .receive) (f .port),
+      simp (
+        byte0 _ _ _ flags-of (f .send) (f .receive) (f .port),
         byte1 _ _ _ flags-of (f .send) (f .receive) (f .port),
         byte2 _ _ _ flags-of (f .send) (f .receive) (f .port),
         over3 _ _ _ flags-of (f .send) (f .receive) (f .port),
         over-25 _ _ _ flags-of (f .send) (f .receive) (f .port),
         q .first,
-        q .second)
+        q .second,
+      )
 
   read-intenable : bitOf (word (a .link .send .0) (a .link .receive .0) (a .link .port) flags-of) 26 ≡ a .gpio .intenable
   unfolding flags-of
@@ -129,27 +130,30 @@ module _ (a : Adapter) (f : Fits a) where
 
   read-control : controlOf (word (a .control .crb) (a .control .crc) (a .control .crd) (a .spi .go)) ≡ a .control
   read-control =
-      simp
-      (byte0 _ _ _ (a .spi .go) (f .crb) (f .crc) (f .crd),
+      simp (
+        byte0 _ _ _ (a .spi .go) (f .crb) (f .crc) (f .crd),
         byte1 _ _ _ (a .spi .go) (f .crb) (f .crc) (f .crd),
-        byte2 _ _ _ (a .spi .go) (f .crb) (f .crc) (f .crd))
+        byte2 _ _ _ (a .spi .go) (f .crb) (f .crc) (f .crd),
+      )
 
   read-dac : dacOf (word (a .dac .a) (a .dac .b) (a .dac .c) (a .dac .d)) ≡ a .dac
   read-dac =
-      simp
-      (byte0 _ _ _ (a .dac .d) (f .dac-a) (f .dac-b) (f .dac-c),
+      simp (
+        byte0 _ _ _ (a .dac .d) (f .dac-a) (f .dac-b) (f .dac-c),
         byte1 _ _ _ (a .dac .d) (f .dac-a) (f .dac-b) (f .dac-c),
         byte2 _ _ _ (a .dac .d) (f .dac-a) (f .dac-b) (f .dac-c),
-        byte3 _ _ _ (a .dac .d) (f .dac-a) (f .dac-b) (f .dac-c) (f .dac-d))
+        byte3 _ _ _ (a .dac .d) (f .dac-a) (f .dac-b) (f .dac-c) (f .dac-d),
+      )
 
   read-spi : spiOf (imageWords a) ≡ a .spi
   unfolding imageWords elements
   read-spi =
-      simp
-      (byte3 _ _ _ (a .spi .go) (f .crb) (f .crc) (f .crd) (f .go),
+      simp (
+        byte3 _ _ _ (a .spi .go) (f .crb) (f .crc) (f .crd) (f .go),
         low-half _ _ (f .control) (f .freq),
         high-half _ _ (f .control) (f .freq),
-        ss-read _ (f .ss))
+        ss-read _ (f .ss),
+      )
       (ap (λ (l : List ℕ). record { control = a .spi .control; freq = a .spi .freq; ss = a .spi .ss; words = l; go = a .spi .go }) (elements-all (a .spi .words) 4 (f .four)))
 
   pub state-image : (id : ℕ) → id ≡ a .id → stateOf id (imageWords a) ≡ a
@@ -161,7 +165,7 @@ module _ (a : Adapter) (f : Fits a) where
   image-spelled =
       let q = flags-read (a .link .loop0) (a .link .loop1) (a .gpio .intenable) in
       let top : word (a .link .send .0) (a .link .receive .0) (a .link .port) flags-of < 134217728 =
-        under-27 _ _ _ flags-of (f .send) (f .receive) (f .port) (q .few) in
+      under-27 _ _ _ flags-of (f .send) (f .receive) (f .port) (q .few) in
       let low : word (a .spi .ss) 0 0 0 < 256 = omega (arith, f .ss) in
       simp (lt-ltb _ 134217728 top, lt-ltb _ 256 low)
 
@@ -182,11 +186,12 @@ head-word : (w : ℕ) → w < 134217728 → word (w % 256) (w / 256 % 256) (w / 
 head-word w h =
     let q : w / 16777216 < 8 = omega arith in
     let f : flags (bitOf w 24) (bitOf w 25) (bitOf w 26) ≡ w / 16777216 % 256 =
-      simp
-      (digit-of (w / 16777216 % 2) (omega arith),
-        digit-of (w / 33554432 % 2) (omega arith),
-        digit-of (w / 67108864 % 2) (omega arith))
-      (three-bits _ _ _ (div-div-eq-div-mul w 16777216 2) (div-div-eq-div-mul w 33554432 2) q) in
+    simp (
+      digit-of (w / 16777216 % 2) (omega arith),
+      digit-of (w / 33554432 % 2) (omega arith),
+      digit-of (w / 67108864 % 2) (omega arith),
+    )
+    (three-bits _ _ _ (div-div-eq-div-mul w 16777216 2) (div-div-eq-div-mul w 33554432 2) q) in
     ap (word (w % 256) (w / 256 % 256) (w / 65536 % 256)) f ∙ word-digits w (omega arith)
 
 both-halves : (w : ℕ) → w < 4294967296 → halves (w % 65536) (w / 65536 % 65536) ≡ w
@@ -199,10 +204,11 @@ pub image-state : (id : ℕ) (ws : List ℕ) → length ws ≡ 18 → ((i : ℕ)
 unfolding imageWords stateOf spelled elements
 image-state id ws n small s =
     let p = both-true _ _ s in
-    simp
-    (head-word (getD ws 0 0) (ltb-true _ 134217728 (p .0)),
+    simp (
+      head-word (getD ws 0 0) (ltb-true _ 134217728 (p .0)),
       word-digits (getD ws 1 0) (small 1),
       both-halves (getD ws 2 0) (small 2),
       ss-word (getD ws 3 0) (ltb-true _ 256 (p .1)),
-      word-digits (getD ws 16 0) (small 16))
+      word-digits (getD ws 16 0) (small 16),
+    )
     (elements-all ws 18 n)

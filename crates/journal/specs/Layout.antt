@@ -40,12 +40,12 @@ unfoldable pub wellFormed : Format → List ℕ → Bool
 wellFormed f j =
     eqb (length j) (sizeOf f)
     && (eqb (getD j 0 0) 0x53
-      && eqb (getD j 1 0) 0x43
-      && eqb (getD j 2 0) 0x4A
-      && eqb (getD j 3 0) (f .version % 256)
-      && eqb (getD j 4 0) (f .version / 256)
-      && ltb (firstOf j) (f .slots)
-      && leb (keptOf j) (f .slots))
+    && eqb (getD j 1 0) 0x43
+    && eqb (getD j 2 0) 0x4A
+    && eqb (getD j 3 0) (f .version % 256)
+    && eqb (getD j 4 0) (f .version / 256)
+    && ltb (firstOf j) (f .slots)
+    && leb (keptOf j) (f .slots))
 
 -- ---- the ring
 

@@ -2,7 +2,6 @@
 pub mod image;
 
 use chip::Adapter;
-
 ghost use mathlib.Core.Path.{_≡_};
 ghost use mathlib.Core.Bool.{true};
 ghost use Prim.Native.Nat.{_+_, _*_, _%_, _<_, _≤_, min};
@@ -13,6 +12,7 @@ ghost use Rattle.journal.specs.Layout.{version1, sizeOf, firstOf, keptOf
 ghost use Rattle.journal.specs.Record.{before};
 
 pub const SIZE: usize = 17408;
+
 const SLOTS: u8 = 64;
 
 // Length and header are those of a journal.
@@ -52,7 +52,11 @@ fn first_after(first: u8, kept: u8) -> u8
     requires { ⌜ first < 64 ⌝ }
     ensures { λ r. ⌜ r ≡ Rattle.journal.specs.Layout.advanced version1 first kept ⌝ }
 {
-    if kept == SLOTS { (first + 1) % SLOTS } else { first }
+    if kept == SLOTS {
+        (first + 1) % SLOTS
+    } else {
+        first
+    }
 }
 
 fn kept_after(kept: u8) -> u8

@@ -27,12 +27,13 @@ slice-write-j-2 c = let s = size-in _ (c .before .before .before .before .before
 returns : tie.Need-returns
 unfolding pushed before
 returns c e =
-    simp
-    (c .before .before .store-words .ensures,
+    simp (
+      c .before .before .store-words .ensures,
       c .before .before .before .before .before .words-of .ensures,
       c .before .before .before .before .before .before .kept-after .ensures,
       c .before .before .before .before .before .before .before .first-after .ensures,
-      c .before .before .before .before .before .before .before .before .place .ensures)
+      c .before .before .before .before .before .before .before .before .place .ensures,
+    )
 
 pub push-spec : {M : Type 1} → statement M
 push-spec =
