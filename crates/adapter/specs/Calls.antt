@@ -15,7 +15,7 @@ use Rattle.journal.specs.Layout.{version1, sizeOf, keptOf, wellFormed, past, em
 use Rattle.journal.specs.Record.{before, restored, sound}
 use Rattle.adapter.specs.declared.Answer.{Answer}
 use Rattle.adapter.specs.declared.Created.{Created}
-use Rattle.adapter.specs.declared.Kept.{Kept}
+use Rattle.adapter.specs.declared.KeptNumber.{KeptNumber}
 use Rattle.adapter.specs.declared.Verdict.{Verdict}
 use Rattle.adapter.specs.declared.Verdict.the-variants.{Refused, Passed}
 use Rattle.adapter.specs.Numbers.{badJournal, noneKept, badState, badId}
@@ -99,7 +99,7 @@ unfoldable pub madeEmpty : List ℕ → Cleared
 madeEmpty journal =
     cond (eqb (length journal) (sizeOf version1)) (cleared noFrame (emptied version1 journal)) (cleared badJournal journal)
 
-unfoldable pub keptIn : List ℕ → Kept
+unfoldable pub keptIn : List ℕ → KeptNumber
 keptIn journal =
     cond (wellFormed version1 journal) (record { number = noFrame; kept = keptOf journal })
     (record { number = badJournal; kept = 0 })

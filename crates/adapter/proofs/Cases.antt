@@ -1,0 +1,113 @@
+-- What each call gives and leaves, case by case: a law for every case of the definitions. Assumes nothing.
+use Prim.Native.Nat.{ℕ, _+_, _≤_, _<_}
+use mathlib.Core.Path.{_≡_, refl, sym, ap, _∙_}
+use mathlib.Core.Bool.{Bool, true, false, not, cond}
+use mathlib.Core.List.{List}
+use native.Mathlib.Omega.{arith}
+use lib.ListN.{length, take}
+use lib.Seq.{length-take-le}
+use borrow.Author.Needs.{length-unmapped}
+use lib.Dec.{eqb, ltb}
+use borrow.Author.Tests.{eq-eqb, ne-eqb, lt-ltb, le-ltb}
+use Rattle.chip.specs.declared.Adapter.{Adapter}
+use Rattle.chip.specs.declared.Reaction.{Reaction}
+use Rattle.chip.specs.Event.{Event}
+use Rattle.chip.specs.Chip.{reaction, acceptedReset}
+use Rattle.chip.specs.State.{powerOn}
+use Rattle.parts.specs.Parts.{put}
+use Rattle.journal.specs.Layout.{version1, sizeOf, keptOf, wellFormed, emptied, pushed}
+use Rattle.journal.specs.Record.{before}
+use Rattle.adapter.specs.declared.Answer.{Answer}
+use Rattle.adapter.specs.declared.Created.{Created}
+use Rattle.adapter.specs.declared.KeptNumber.{KeptNumber}
+use Rattle.adapter.specs.declared.Verdict.{Verdict}
+use Rattle.adapter.specs.declared.Verdict.the-variants.{Refused, Passed}
+use Rattle.adapter.specs.Refusals.{inOrder}
+use Rattle.adapter.specs.Calls.{created, cleared, madeEmpty, keptIn, outcome, recorded, done}
+
+-- ---- creation
+
+module _ (id : ℕ) (x : Adapter) where
+  pub too-long : 0xFFFFFF < id → x ≡ powerOn 0xFFFFFFFF → _≡_ {A = Created} (record { number = 7; adapter = x }) (created id)
+  unfolding created
+  too-long h e = simp (lt-ltb 0xFFFFFF id h, e)
+
+  pub in-24-bits : id ≤ 0xFFFFFF → x ≡ powerOn id → _≡_ {A = Created} (record { number = 17; adapter = x }) (created id)
+  unfolding created
+  in-24-bits h e = simp (le-ltb 0xFFFFFF id h, e)
+
+pub ruleset creations = (too-long, in-24-bits)
+
+-- ---- the journal alone
+
+module _ (j : List ℕ) (b : Bool) (e : b ≡ wellFormed version1 j) where
+  pub counted : b ≡ true → _≡_ {A = KeptNumber} (record { number = 17; kept = keptOf j }) (keptIn j)
+  unfolding keptIn
+  counted h = simp (sym e ∙ h)
+
+  pub uncounted : b ≡ false → _≡_ {A = KeptNumber} (record { number = 4; kept = 0 }) (keptIn j)
+  unfolding keptIn
+  uncounted h = simp (sym e ∙ h)
+
+pub ruleset counts = (counted, uncounted)
+
+-- ---- the order of the refusals
+
+module _ (state journal output argument body : Bool) where
+  pub by-state : state ≡ true → Refused 6 ≡ inOrder state journal output argument body
+  unfolding inOrder
+  by-state e = simp e
+
+  pub by-journal : state ≡ false → journal ≡ true → Refused 4 ≡ inOrder state journal output argument body
+  unfolding inOrder
+  by-journal e g = simp (e, g)
+
+  pub by-output : state ≡ false → journal ≡ false → output ≡ true → Refused 1 ≡ inOrder state journal output argument body
+  unfolding inOrder
+  by-output e g h = simp (e, g, h)
+
+  pub by-argument : state ≡ false → journal ≡ false → output ≡ false → argument ≡ true → Refused 3 ≡ inOrder state journal output argument body
+  unfolding inOrder
+  by-argument e g h k = simp (e, g, h, k)
+
+  pub by-body : state ≡ false → journal ≡ false → output ≡ false → argument ≡ false → body ≡ true → Refused 2 ≡ inOrder state journal output argument body
+  unfolding inOrder
+  by-body e g h k l = simp (e, g, h, k, l)
+
+  pub by-none : state ≡ false → journal ≡ false → output ≡ false → argument ≡ false → body ≡ false → Passed ≡ inOrder state journal output argument body
+  unfolding inOrder
+  by-none e g h k l = simp (e, g, h, k, l)
+
+pub ruleset order = (by-state, by-journal, by-output, by-argument, by-body, by-none)
+
+-- ---- an event's record
+
+module _ (resets : Bool) (a : Adapter) (j k : List ℕ) where
+  pub empties : resets ≡ true → k ≡ emptied version1 j → (e : Event) → resets ≡ acceptedReset e → k ≡ recorded a e j
+  empties h g e r = simp (sym r ∙ h) g
+
+  pub pushes : resets ≡ false → ((e : Event) → k ≡ pushed version1 (before a e) j) → (e : Event) → resets ≡ acceptedReset e → k ≡ recorded a e j
+  pushes h g e r = simp (sym r ∙ h) (g e)
+
+-- ---- the frame that is handed over
+
+module _ (s : List ℕ) (n : ℕ) (sixteen : length s ≡ 16) (few : n ≤ 16) where
+  pub within : n ≤ length s
+  within = omega arith
+
+  pub as-long : n ≡ length (take n s)
+  as-long = sym (length-take-le n s (omega arith))
+
+  pub has-room : (o : List ℕ) → 16 ≤ length o → 0 + length (take n s) ≤ length o
+  has-room o h = omega (arith, as-long)
+
+-- an event that made r of a is done once it is recorded and its frame is handed over
+pub keeps : (a : Adapter) (r : Reaction) (resets : Bool) (j k o p : List ℕ)
+    → ((e : Event) → resets ≡ acceptedReset e → k ≡ recorded a e j)
+    → p ≡ put 0 (take (r .length) (r .body)) o
+    → (e : Event) → resets ≡ acceptedReset e → r ≡ reaction a e
+    → outcome (record { adapter = r .adapter; number = r .number; port = r .port; length = r .length }) k p ≡ done a j e o
+unfolding done
+keeps a r resets j k o p g q e s h = rw (← h, g e s, q) refl
+
+pub ruleset handing = (within, as-long, has-room, length-unmapped)
