@@ -8,12 +8,12 @@ use lib.ListN.{length, take}
 use lib.Seq.{length-take-le}
 use borrow.Author.Needs.{length-unmapped}
 use lib.Dec.{eqb, ltb}
-use borrow.Author.Tests.{eq-eqb, ne-eqb, lt-ltb, le-ltb}
+use borrow.Author.Tests.{eq-eqb, ne-eqb, lt-ltb, le-ltb, ltb-false, not-false}
 use Rattle.chip.specs.declared.Adapter.{Adapter}
 use Rattle.chip.specs.declared.Reaction.{Reaction}
 use Rattle.chip.specs.Event.{Event}
 use Rattle.chip.specs.Chip.{reaction, acceptedReset}
-use Rattle.chip.specs.State.{powerOn}
+use Rattle.chip.specs.State.{powerOn, inRange}
 use Rattle.parts.specs.Parts.{put}
 use Rattle.journal.specs.Layout.{version1, sizeOf, keptOf, wellFormed, emptied, pushed}
 use Rattle.journal.specs.Record.{before}
@@ -22,8 +22,8 @@ use Rattle.adapter.specs.declared.Created.{Created}
 use Rattle.adapter.specs.declared.KeptNumber.{KeptNumber}
 use Rattle.adapter.specs.declared.Verdict.{Verdict}
 use Rattle.adapter.specs.declared.Verdict.the-variants.{Refused, Passed}
-use Rattle.adapter.specs.Refusals.{inOrder}
-use Rattle.adapter.specs.Calls.{created, cleared, madeEmpty, keptIn, outcome, recorded, done}
+use Rattle.adapter.specs.Refusals.{wrongArgument, wrongBody, inOrder, verdict}
+use Rattle.adapter.specs.Calls.{created, cleared, madeEmpty, keptIn, Outcome, outcome, plain, recorded, done, called}
 
 -- ---- creation
 
@@ -111,3 +111,43 @@ unfolding done
 keeps a r resets j k o p g q e s h = rw (← h, g e s, q) refl
 
 pub ruleset handing = (within, as-long, has-room, length-unmapped)
+
+-- ---- an event's call
+
+-- what a verdict that refuses nothing tells
+pub record Passing (a : Adapter) (j : List ℕ) (e : Event) (o : List ℕ) : Type 0 where
+  pub ranged : inRange a ≡ true
+  pub formed : wellFormed version1 j ≡ true
+  pub room : 16 ≤ length o
+  pub argument : wrongArgument e ≡ false
+  pub body : wrongBody e ≡ false
+
+no-refusal : (s j o g b : Bool) → Passed ≡ inOrder s j o g b → (s ≡ false) × (j ≡ false) × (o ≡ false) × (g ≡ false) × (b ≡ false)
+unfolding inOrder
+no-refusal false false false false false h = (refl, refl, refl, refl, refl)
+no-refusal true j o g b h = let z : _≡_ {A = ℕ} 0 1 = cc in let f : ⊥ = omega arith in absurd f
+no-refusal false true o g b h = let z : _≡_ {A = ℕ} 0 1 = cc in let f : ⊥ = omega arith in absurd f
+no-refusal false false true g b h = let z : _≡_ {A = ℕ} 0 1 = cc in let f : ⊥ = omega arith in absurd f
+no-refusal false false false true b h = let z : _≡_ {A = ℕ} 0 1 = cc in let f : ⊥ = omega arith in absurd f
+no-refusal false false false false true h = let z : _≡_ {A = ℕ} 0 1 = cc in let f : ⊥ = omega arith in absurd f
+
+module _ (a : Adapter) (j : List ℕ) (e : Event) (o : List ℕ) (v : Verdict)
+    (h : v ≡ inOrder (not (inRange a)) (not (wellFormed version1 j)) (ltb (length o) 16) (wrongArgument e) (wrongBody e)) where
+  pub refuses : (number : ℕ) (x : Answer) → v ≡ Refused number → x ≡ plain a number → outcome x j o ≡ called a j e o
+  unfolding called verdict
+  refuses number x q r = rw (← h, q, r) refl
+
+  pub passes : (x : Outcome) → v ≡ Passed → x ≡ done a j e o → x ≡ called a j e o
+  unfolding called verdict
+  passes x q r = rw (← h, q) r
+
+  pub passing : v ≡ Passed → Passing a j e o
+  passing q =
+      let p = no-refusal _ _ _ _ _ (sym q ∙ h) in
+      record {
+        ranged = not-false _ (p .0);
+        formed = not-false _ (p .1);
+        room = ltb-false _ 16 (p .2);
+        argument = p .3;
+        body = p .4;
+      }

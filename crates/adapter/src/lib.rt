@@ -2,15 +2,17 @@
 use chip::Adapter;
 use chip::Reaction;
 ghost use mathlib.Core.Path.{_≡_};
-ghost use mathlib.Core.Bool.{true};
+ghost use mathlib.Core.Bool.{true, not};
+ghost use lib.Dec.{ltb};
 ghost use Prim.Native.Nat.{_≤_};
 ghost use lib.ListN.{length, take};
 ghost use Rattle.chip.specs.Event.{Event};
+ghost use Rattle.chip.specs.State.{inRange};
 ghost use Rattle.chip.specs.Chip.{reaction, acceptedReset};
 ghost use Rattle.parts.specs.Parts.{put};
 ghost use Rattle.journal.specs.Layout.{version1, wellFormed};
 ghost use Rattle.adapter.specs.Refusals.{inOrder};
-ghost use Rattle.adapter.specs.Calls.{created, cleared, madeEmpty, keptIn, outcome, recorded, done};
+ghost use Rattle.adapter.specs.Calls.{created, cleared, madeEmpty, keptIn, outcome, plain, recorded, done, called};
 
 // An event's or a step back's answer: the state after the call, document 01's number, and with number 0 the frame's port and length.
 pub struct Answer {
@@ -158,5 +160,50 @@ fn keep(a: Adapter, r: Reaction, resets: bool, journal: &mut [u8], output: &mut 
         number: r.number,
         port: r.port,
         length: r.length,
+    }
+}
+
+// The first refusal of an event that is handed this state, journal and room for output.
+fn judge(a: Adapter, journal: &[u8], room: usize, argument: bool, body: bool) -> Verdict
+    ensures { λ r. ⌜ r ≡ inOrder (not (inRange a)) (not (wellFormed version1 (now (journal .entry)))) (ltb room 16) argument body ⌝ }
+{
+    let ranged = chip::state::in_range(a);
+    let formed = journal::is_well_formed(journal);
+    in_order(!ranged, !formed, room < 16, argument, body)
+}
+
+fn refused(a: Adapter, number: u8) -> Answer
+    ensures { λ r. ⌜ r ≡ plain a number ⌝ }
+{
+    Answer { adapter: a, number: number, port: 0, length: 0 }
+}
+
+// A frame body on a port.
+pub fn frame(a: Adapter, journal: &mut [u8], port: u8, body: &[u8], output: &mut [u8]) -> Answer
+    ensures { λ r. ⌜ outcome r (now (journal .exit)) (now (output .exit)) ≡ called a (now (journal .entry)) (Event.frame port (now (body .entry))) (now (output .entry)) ⌝ }
+{
+    let count = body.len();
+    let verdict = judge(a, journal, output.len(), 1 < port, (count < 2) | (16 < count));
+    match verdict {
+        Verdict::Refused(number) => refused(a, number),
+        Verdict::Passed => {
+            let r = chip::events::on_frame(a, port, body);
+            let resets = chip::events::is_reset(body);
+            keep(a, r, resets, journal, output)
+        }
+    }
+}
+
+// An upset.
+pub fn upset(a: Adapter, journal: &mut [u8], output: &mut [u8]) -> Answer
+    ensures { λ r. ⌜ outcome r (now (journal .exit)) (now (output .exit)) ≡ called a (now (journal .entry)) Event.upset (now (output .entry)) ⌝ }
+{
+    let verdict = judge(a, journal, output.len(), false, false);
+    match verdict {
+        Verdict::Refused(number) => refused(a, number),
+        Verdict::Passed => {
+            let r = chip::events::on_upset(a);
+            keep(a, r, false, journal, output)
+        }
     }
 }

@@ -9,7 +9,12 @@ ghost use lib.ListN.{length};
 ghost use Rattle.chip.specs.Event.{Event};
 ghost use Rattle.parts.specs.Words.{wordsOf};
 ghost use Rattle.journal.specs.Layout.{version1, sizeOf, firstOf, keptOf, wellFormed, past, emptied, firstAfter, pushed, lowered};
-ghost use Rattle.journal.specs.Record.{before};
+ghost use Rattle.journal.specs.Record.{before, restoredBy};
+
+pub struct Restored {
+    pub sound: bool,
+    pub adapter: Adapter,
+}
 
 pub const SIZE: usize = 17408;
 
@@ -105,4 +110,17 @@ pub fn lower(j: &mut [u8])
 {
     let kept = j[6];
     j[6] = kept - 1;
+}
+
+// What a step back makes of the state a: whether the newest record is sound, and the state that it restores.
+pub fn restore(a: Adapter, j: &[u8]) -> Restored
+    requires { ⌜ wellFormed version1 (now j) ≡ true ⌝ }
+    requires { ⌜ 0 < keptOf (now j) ⌝ }
+    ensures { λ r. ⌜ r ≡ restoredBy a (past version1 (now (j .entry)) 0) ⌝ }
+{
+    let words = newest(j);
+    let b = image::state_of(words, a.id);
+    let spelled = image::is_spelled(words);
+    let ranged = chip::state::in_range(b);
+    Restored { sound: spelled & ranged, adapter: b }
 }
