@@ -1,29 +1,31 @@
 -- What each call gives and leaves, case by case: a law for every case of the definitions. Assumes nothing.
 use Prim.Native.Nat.{ℕ, _+_, _≤_, _<_}
 use mathlib.Core.Path.{_≡_, refl, sym, ap, _∙_}
-use mathlib.Core.Bool.{Bool, true, false, not, cond}
+use mathlib.Core.Bool.{Bool, true, false, not, cond, _||_, true≢false}
 use mathlib.Core.List.{List}
 use native.Mathlib.Omega.{arith}
 use lib.ListN.{length, take}
 use lib.Seq.{length-take-le}
 use borrow.Author.Needs.{length-unmapped}
 use lib.Dec.{eqb, ltb}
-use borrow.Author.Tests.{eq-eqb, ne-eqb, lt-ltb, le-ltb, ltb-false, not-false}
+use borrow.Author.Tests.{eq-eqb, ne-eqb, lt-ltb, le-ltb, ltb-false, eqb-true, not-false}
 use Rattle.chip.specs.declared.Adapter.{Adapter}
 use Rattle.chip.specs.declared.Reaction.{Reaction}
-use Rattle.chip.specs.Event.{Event}
+use Rattle.chip.specs.Event.{Event, frame, completion}
 use Rattle.chip.specs.Chip.{reaction, acceptedReset}
 use Rattle.chip.specs.State.{powerOn, inRange}
 use Rattle.parts.specs.Parts.{put}
-use Rattle.journal.specs.Layout.{version1, sizeOf, keptOf, wellFormed, emptied, pushed}
-use Rattle.journal.specs.Record.{before}
+use Rattle.journal.specs.Layout.{version1, sizeOf, keptOf, wellFormed, past, emptied, pushed, lowered}
+use Rattle.journal.specs.declared.Restored.{Restored}
+use Rattle.journal.specs.Record.{before, restored, sound, restoredBy}
+use Rattle.adapter.proofs.Short.{short}
 use Rattle.adapter.specs.declared.Answer.{Answer}
 use Rattle.adapter.specs.declared.Created.{Created}
 use Rattle.adapter.specs.declared.KeptNumber.{KeptNumber}
 use Rattle.adapter.specs.declared.Verdict.{Verdict}
 use Rattle.adapter.specs.declared.Verdict.the-variants.{Refused, Passed}
 use Rattle.adapter.specs.Refusals.{wrongArgument, wrongBody, inOrder, verdict}
-use Rattle.adapter.specs.Calls.{created, cleared, madeEmpty, keptIn, Outcome, outcome, plain, recorded, done, called}
+use Rattle.adapter.specs.Calls.{created, cleared, madeEmpty, keptIn, Outcome, outcome, plain, recorded, done, called, stepped, steppedBack}
 
 -- ---- creation
 
@@ -151,3 +153,58 @@ module _ (a : Adapter) (j : List ℕ) (e : Event) (o : List ℕ) (v : Verdict)
         argument = p .3;
         body = p .4;
       }
+
+-- what keeping an event asks
+pub keepable : (a : Adapter) (j : List ℕ) (e : Event) (o : List ℕ) (r : Reaction) → Passing a j e o → r ≡ reaction a e
+    → (wellFormed version1 j ≡ true) × ((16 ≤ length o) × (r .length ≤ 16))
+keepable a j e o r p h = (p .formed, (p .room, rw h (short a e (p .body))))
+
+-- what a frame, a completion and a sample that nothing refuses are
+or-left : (x y : Bool) → (x || y) ≡ false → x ≡ false
+or-left false y h = refl
+or-left true y h = h
+
+or-right : (x y : Bool) → (x || y) ≡ false → y ≡ false
+or-right false y h = h
+or-right true y h = absurd (true≢false h)
+
+pub body-long : (port : ℕ) (s : List ℕ) → wrongBody (frame port s) ≡ false → (2 ≤ length s) × (length s ≤ 16)
+body-long port s h = (ltb-false (length s) 2 (or-left _ (ltb 16 (length s)) h), ltb-false 16 (length s) (or-right (ltb (length s) 2) _ h))
+
+pub received-long : (s : List ℕ) → wrongArgument (completion s) ≡ false → length s ≡ 16
+received-long s h = eqb-true (length s) 16 (not-false _ h)
+
+-- ---- a step back
+
+module _ (a : Adapter) (j : List ℕ) (ranged : Bool) (in-range : ranged ≡ inRange a) where
+  pub back-state : (x : Answer) → ranged ≡ false → x ≡ plain a 6 → stepped x j ≡ steppedBack a j
+  unfolding steppedBack
+  back-state x h e = rw (← in-range, h, e) refl
+
+  module _ (formed : Bool) (well-formed : formed ≡ wellFormed version1 j) where
+    pub back-journal : (x : Answer) → ranged ≡ true → formed ≡ false → x ≡ plain a 4 → stepped x j ≡ steppedBack a j
+    unfolding steppedBack
+    back-journal x h g e = rw (← in-range, h, ← well-formed, g, e) refl
+
+    pub back-none : (x : Answer) → ranged ≡ true → formed ≡ true → keptOf j ≡ 0 → x ≡ plain a 5 → stepped x j ≡ steppedBack a j
+    unfolding steppedBack
+    back-none x h g n e = simp (sym in-range ∙ h, sym well-formed ∙ g, eq-eqb (keptOf j) 0 n, e)
+
+    module _ (back : Restored) (restores : back ≡ restoredBy a (past version1 j 0)) where
+      pub back-damaged : (x : Answer) → ranged ≡ true → formed ≡ true → (keptOf j ≡ 0 → ⊥) → back .sound ≡ false → x ≡ plain a 4 → stepped x j ≡ steppedBack a j
+      unfolding steppedBack
+      back-damaged x h g n s e =
+          simp (sym in-range ∙ h, sym well-formed ∙ g, ne-eqb (keptOf j) 0 n, sym (ap (λ (b : Restored). b .sound) restores) ∙ s, e)
+
+      pub back-granted : (k : List ℕ) → ranged ≡ true → formed ≡ true → (keptOf j ≡ 0 → ⊥) → back .sound ≡ true → k ≡ lowered j → stepped (plain (back .adapter) 17) k ≡ steppedBack a j
+      unfolding steppedBack
+      back-granted k h g n s e =
+          simp
+          (sym in-range ∙ h,
+            sym well-formed ∙ g,
+            ne-eqb (keptOf j) 0 n,
+            sym (ap (λ (b : Restored). b .sound) restores) ∙ s,
+            ap (λ (b : Restored). b .adapter) restores,
+            e)
+
+pub ruleset backs = (back-state, back-journal, back-none, back-damaged, back-granted)

@@ -12,7 +12,7 @@ ghost use Rattle.chip.specs.Chip.{reaction, acceptedReset};
 ghost use Rattle.parts.specs.Parts.{put};
 ghost use Rattle.journal.specs.Layout.{version1, wellFormed};
 ghost use Rattle.adapter.specs.Refusals.{inOrder};
-ghost use Rattle.adapter.specs.Calls.{created, cleared, madeEmpty, keptIn, outcome, plain, recorded, done, called};
+ghost use Rattle.adapter.specs.Calls.{created, cleared, madeEmpty, keptIn, outcome, plain, recorded, done, called, stepped, steppedBack};
 
 // An event's or a step back's answer: the state after the call, document 01's number, and with number 0 the frame's port and length.
 pub struct Answer {
@@ -206,4 +206,54 @@ pub fn upset(a: Adapter, journal: &mut [u8], output: &mut [u8]) -> Answer
             keep(a, r, false, journal, output)
         }
     }
+}
+
+// An SPI completion.
+pub fn completion(a: Adapter, journal: &mut [u8], received: &[u8], output: &mut [u8]) -> Answer
+    ensures { λ r. ⌜ outcome r (now (journal .exit)) (now (output .exit)) ≡ called a (now (journal .entry)) (Event.completion (now (received .entry))) (now (output .entry)) ⌝ }
+{
+    let verdict = judge(a, journal, output.len(), received.len() != 16, false);
+    match verdict {
+        Verdict::Refused(number) => refused(a, number),
+        Verdict::Passed => {
+            let r = chip::events::on_completion(a, received);
+            keep(a, r, false, journal, output)
+        }
+    }
+}
+
+// A pin sample.
+pub fn sample(a: Adapter, journal: &mut [u8], levels: u32, kind: u8, output: &mut [u8]) -> Answer
+    ensures { λ r. ⌜ outcome r (now (journal .exit)) (now (output .exit)) ≡ called a (now (journal .entry)) (Event.sample levels kind) (now (output .entry)) ⌝ }
+{
+    let verdict = judge(a, journal, output.len(), 2 < kind, false);
+    match verdict {
+        Verdict::Refused(number) => refused(a, number),
+        Verdict::Passed => {
+            let r = chip::events::on_sample(a, levels, kind);
+            keep(a, r, false, journal, output)
+        }
+    }
+}
+
+// Takes the newest standing event back.
+pub fn step_back(a: Adapter, journal: &mut [u8]) -> Answer
+    ensures { λ r. ⌜ stepped r (now (journal .exit)) ≡ steppedBack a (now (journal .entry)) ⌝ }
+{
+    if chip::state::in_range(a) {
+        if journal::is_well_formed(journal) {
+            if journal[6] == 0 {
+                return refused(a, NONE_KEPT);
+            }
+            let back = journal::restore(a, journal);
+            if back.sound {
+                journal::lower(journal);
+                let before = back.adapter;
+                return Answer { adapter: before, number: DONE, port: 0, length: 0 };
+            }
+            return refused(a, BAD_JOURNAL);
+        }
+        return refused(a, BAD_JOURNAL);
+    }
+    refused(a, BAD_STATE)
 }

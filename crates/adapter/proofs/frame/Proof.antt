@@ -1,75 +1,53 @@
+-- `adapter::frame` meets its contract. Assumes nothing.
+use mathlib.Core.Path.{_≡_, refl}
 use borrow.Author.Needs.{needs}
+use Rattle.chip.specs.Event.{Event, frame}
+use Rattle.adapter.proofs.Cases.{refuses, passes, passing, Passing, keepable, body-long}
 use Rattle.adapter.proofs.frame.Statement.{statement}
 use Rattle.adapter.proofs.frame.Tie as tie
-use Rattle.adapter.proofs.frame.Reads as reads
-use Rattle.adapter.proofs.frame.Lts as lts
-use Rattle.adapter.proofs.judge.Reads as judge-reads
-use Rattle.adapter.proofs.keep.Reads as keep-reads
-use Rattle.adapter.proofs.refused.Reads as refused-reads
-use Rattle.chip.proofs.events.is_reset.Reads as is-reset-reads
-use Rattle.chip.proofs.events.on_frame.Reads as on-frame-reads
 
--- src/lib.rt:186:9
-judge-requires : tie.Need-judge-requires
-judge-requires c κs = search needs
+event : tie.Start → Event
+event c = frame (c .args .port) (c .args .body .now)
 
--- src/lib.rt:188:26
-enum-known-verdict : tie.Need-enum-known-verdict
-enum-known-verdict c = search needs
+passed : (c : tie.After-enum-told) → Passing (c .before .before .before .before .before .before .before .args .a) (c .before .before .before .before .before .before .before .args .journal .now) (event (c .before .before .before .before .before .before .before)) (c .before .before .before .before .before .before .before .args .output .now)
+unfolding event
+passed c = passing _ _ (event (c .before .before .before .before .before .before .before)) _ _ (c .before .before .judge .ensures) (c .enum-told .given .1)
 
--- src/lib.rt:188:37
-refused-requires : tie.Need-refused-requires
-refused-requires c κs = search needs
-
--- src/lib.rt:190:17
-enum-told : tie.Need-enum-told
-enum-told c = search needs
-
--- src/lib.rt:190:17
 on-frame-requires : tie.Need-on-frame-requires
-on-frame-requires c κs = ?
+unfolding event
+on-frame-requires c κs = body-long (c .before .before .before .before .before .before .before .args .port) (c .before .before .before .before .before .before .before .args .body .now) (passed c .body)
 
--- src/lib.rt:191:17
 is-reset-requires : tie.Need-is-reset-requires
-is-reset-requires c κs = ?
+unfolding event
+is-reset-requires c κs = body-long (c .before .before .before .before .before .before .before .before .args .port) (c .before .before .before .before .before .before .before .before .args .body .now) (passed (c .before) .body) .0
 
--- src/lib.rt:192:13
 keep-requires : tie.Need-keep-requires
-keep-requires c κs = ?
+unfolding event
+keep-requires c κs = keepable _ _ (event (c .before .before .before .before .before .before .before .before .before .before .before)) _ _ (passed (c .before .before .before .before)) (c .before .before .before .on-frame .ensures)
 
--- src/lib.rt:182:1
-same-length : tie.Need-same-length
-same-length c = search needs
-
--- src/lib.rt:182:1
 returns : tie.Need-returns
-returns c = ?
+returns c = search (refuses)
 
--- src/lib.rt:182:1
-same-length-2 : tie.Need-same-length-2
-same-length-2 c = search needs
-
--- src/lib.rt:182:1
-same-length-3 : tie.Need-same-length-3
-same-length-3 c = search needs
-
--- src/lib.rt:182:1
 returns-2 : tie.Need-returns-2
-returns-2 c = ?
+unfolding event
+returns-2 c =
+    let e = event (c .before .before .before .before .before .before .before .before .before .before .before .before .before .before .before .before) in
+    passes _ _ e _ _ (c .before .before .before .before .before .before .before .before .before .before .before .judge .ensures) _ (c .before .before .before .before .before .before .before .before .before .enum-told .given .1)
+    (c .before .before .before .before .keep .ensures e (c .before .before .before .before .before .before .before .is-reset .ensures) (c .before .before .before .before .before .before .before .before .on-frame .ensures))
 
 pub frame-spec : {M : Type 1} → statement M
 frame-spec =
     tie.close
     (tie.spec
-    judge-requires
-    enum-known-verdict
-    refused-requires
-    enum-told
+    (λ c κs. search needs)
+    (λ c. search needs)
+    (λ c κs. search needs)
+    (λ c. search needs)
     on-frame-requires
     is-reset-requires
     keep-requires
-    same-length
+    (λ c. search needs)
     returns
-    same-length-2
-    same-length-3
+    (λ c. search needs)
+    (λ c. search needs)
     returns-2)

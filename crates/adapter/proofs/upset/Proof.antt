@@ -1,69 +1,36 @@
+-- `adapter::upset` meets its contract. Assumes nothing.
+use mathlib.Core.Path.{_≡_, refl}
 use borrow.Author.Needs.{needs}
+use Rattle.chip.specs.Event.{upset}
+use Rattle.adapter.proofs.Cases.{refuses, passes, passing, Passing, keepable}
+use Rattle.adapter.proofs.Short.{short}
 use Rattle.adapter.proofs.upset.Statement.{statement}
 use Rattle.adapter.proofs.upset.Tie as tie
-use Rattle.adapter.proofs.upset.Reads as reads
-use Rattle.adapter.proofs.upset.Lts as lts
-use Rattle.adapter.proofs.judge.Reads as judge-reads
-use Rattle.adapter.proofs.keep.Reads as keep-reads
-use Rattle.adapter.proofs.refused.Reads as refused-reads
-use Rattle.chip.proofs.events.on_upset.Reads as on-upset-reads
 
--- src/lib.rt:201:9
-judge-requires : tie.Need-judge-requires
-judge-requires c κs = search needs
+passed : (c : tie.After-enum-told) → Passing (c .before .before .before .before .before .before .args .a) (c .before .before .before .before .before .before .args .journal .now) upset (c .before .before .before .before .before .before .args .output .now)
+passed c = passing _ _ upset _ _ (c .before .before .judge .ensures) (c .enum-told .given .1)
 
--- src/lib.rt:203:26
-enum-known-verdict : tie.Need-enum-known-verdict
-enum-known-verdict c = search needs
-
--- src/lib.rt:203:37
-refused-requires : tie.Need-refused-requires
-refused-requires c κs = search needs
-
--- src/lib.rt:205:17
-enum-told : tie.Need-enum-told
-enum-told c = search needs
-
--- src/lib.rt:205:17
-on-upset-requires : tie.Need-on-upset-requires
-on-upset-requires c κs = search needs
-
--- src/lib.rt:206:13
 keep-requires : tie.Need-keep-requires
-keep-requires c κs = ?
+keep-requires c κs = keepable _ _ upset _ _ (passed (c .before .before .before)) (c .before .before .on-upset .ensures)
 
--- src/lib.rt:198:1
-same-length : tie.Need-same-length
-same-length c = search needs
-
--- src/lib.rt:198:1
 returns : tie.Need-returns
-returns c = ?
+returns c = search (refuses)
 
--- src/lib.rt:198:1
-same-length-2 : tie.Need-same-length-2
-same-length-2 c = search needs
-
--- src/lib.rt:198:1
-same-length-3 : tie.Need-same-length-3
-same-length-3 c = search needs
-
--- src/lib.rt:198:1
 returns-2 : tie.Need-returns-2
-returns-2 c = ?
+returns-2 c = passes _ _ upset _ _ (c .before .before .before .before .before .before .before .before .before .before .judge .ensures) _ (c .before .before .before .before .before .before .before .before .enum-told .given .1) (c .before .before .before .before .keep .ensures upset refl (c .before .before .before .before .before .before .before .on-upset .ensures))
 
 pub upset-spec : {M : Type 1} → statement M
 upset-spec =
     tie.close
     (tie.spec
-    judge-requires
-    enum-known-verdict
-    refused-requires
-    enum-told
-    on-upset-requires
+    (λ c κs. search needs)
+    (λ c. search needs)
+    (λ c κs. search needs)
+    (λ c. search needs)
+    (λ c κs. search needs)
     keep-requires
-    same-length
+    (λ c. search needs)
     returns
-    same-length-2
-    same-length-3
+    (λ c. search needs)
+    (λ c. search needs)
     returns-2)
