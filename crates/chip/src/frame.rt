@@ -11,7 +11,6 @@ use crate::link;
 use crate::request;
 use crate::state;
 
-const ADDRESS: u8 = 0x00;
 // Each command without and with its bit 4.
 const CONNECT: u8 = 0x2F;
 const CONNECT_POLL: u8 = 0x3F;
@@ -46,7 +45,7 @@ pub(crate) fn resets(body: &[u8]) -> bool
     requires { ⌜ 2 ≤ length (now body) ⌝ }
     ensures { λ r. ⌜ r ≡ isResetFrame (now (body .entry)) ⌝ }
 {
-    if body[0] != ADDRESS {
+    if body[0] != link::ADDRESS {
         return false;
     }
     if is_reset(body[1]) {
@@ -62,7 +61,7 @@ fn command(a: Adapter, b: Adapter, port: u8, body: &[u8]) -> Reaction
     ensures { λ r. ⌜ r ≡ commanded a b port (now (body .entry)) ⌝ }
 {
     if body.len() == 2 {
-        let acknowledgement = [ADDRESS, link::acknowledge_control(body[1])];
+        let acknowledgement = [link::ADDRESS, link::acknowledge_control(body[1])];
         answer::send(b, port, &acknowledgement)
     } else {
         answer::give(a, answer::WRONG_LENGTH)
@@ -77,7 +76,7 @@ fn in_order(a: Adapter, port: u8, control: u8, info: &[u8]) -> Reaction
     if link::number_in(control) == link::receive_number(a) {
         request::request(link::receive_up(a), info)
     } else {
-        let reject = [ADDRESS, link::reject_control(a)];
+        let reject = [link::ADDRESS, link::reject_control(a)];
         answer::send(a, port, &reject)
     }
 }
@@ -104,7 +103,7 @@ pub(crate) fn check(a: Adapter, port: u8, body: &[u8]) -> Reaction
     requires { ⌜ (2 ≤ length (now body)) × (length (now body) ≤ 16) ⌝ }
     ensures { λ r. ⌜ r ≡ onFrame a port (now (body .entry)) ⌝ }
 {
-    if body[0] != ADDRESS {
+    if body[0] != link::ADDRESS {
         return answer::give(a, answer::OTHER_ADDRESS);
     }
     let control = body[1];

@@ -17,6 +17,8 @@ pub struct Link {
     pub loop1: bool,
 }
 
+// The chip's address.
+pub(crate) const ADDRESS: u8 = 0x00;
 // The numbers count modulo 8.
 const NUMBERS: u8 = 8;
 const NUMBER_MASK: u8 = 7;
