@@ -6,11 +6,10 @@ use lib.Dec.{eqb}
 use Rattle.bits.specs.Table.{Row, row, look}
 use Rattle.registers.specs.declared.request.Lengths.{Lengths}
 use Rattle.registers.specs.declared.request.Request.{Request}
-use Rattle.registers.specs.declared.request.Reply.the-variants.{Sent}
 use Rattle.registers.specs.declared.request.Reply.{Reply}
 use Rattle.registers.specs.declared.chip_id.Command.{Command}
 use Rattle.registers.specs.declared.chip_id.Command.the-variants.{Read, Unknown}
-use Rattle.registers.specs.Request.{lengths, refusal, notEnabled, cmdUnknown, lenWrong}
+use Rattle.registers.specs.Request.{lengths, granted, refusal, notEnabled, cmdUnknown, lenWrong}
 
 -- LEN: read 4/4
 abbrev pub idCommands : List (Row Command)
@@ -22,7 +21,7 @@ idCommand cmd = look idCommands Unknown cmd
 -- CMD unknown, LEN wrong, else the ID
 unfoldable pub actId : ℕ → Request → Command → Reply
 actId id q Unknown = refusal cmdUnknown
-actId id q (Read l) = cond (eqb (q .len) (l .asked)) (Sent 0 (l .given) id) (refusal lenWrong)
+actId id q (Read l) = cond (eqb (q .len) (l .asked)) (granted (l .given) id) (refusal lenWrong)
 
 -- Not enabled, and then the command.
 unfoldable pub idAnswer : ℕ → Bool → Request → Reply

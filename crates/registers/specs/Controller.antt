@@ -7,7 +7,6 @@ use Rattle.bits.specs.Bits.{bitOf}
 use Rattle.bits.specs.Table.{Row, row, look}
 use Rattle.registers.specs.declared.request.Lengths.{Lengths}
 use Rattle.registers.specs.declared.request.Request.{Request}
-use Rattle.registers.specs.declared.request.Reply.the-variants.{Sent}
 use Rattle.registers.specs.declared.controller.Answered.{Answered}
 use Rattle.registers.specs.declared.controller.Command.{Command}
 use Rattle.registers.specs.declared.controller.Command.the-variants.{Known, Unknown}
@@ -16,7 +15,7 @@ use Rattle.registers.specs.declared.controller.Does.{Does}
 use Rattle.registers.specs.declared.controller.Does.the-variants.{Write, Read}
 use Rattle.registers.specs.declared.controller.Register.{Register}
 use Rattle.registers.specs.declared.controller.Register.the-variants.{Crb, Crc, Crd}
-use Rattle.registers.specs.Request.{lengths, refusal, cmdUnknown, lenWrong}
+use Rattle.registers.specs.Request.{lengths, granted, refusal, cmdUnknown, lenWrong}
 
 -- LEN: write 4/2, read 2/4
 abbrev write : Lengths
@@ -69,8 +68,8 @@ abbrev pub refuseControl : Control → ℕ → Answered
 refuseControl c error = record { control = c; reply = refusal error }
 
 abbrev pub doControl : Control → Request → ℕ → Does → Answered
-doControl c q given (Write r) = record { control = writeControl c r (top (q .value)); reply = Sent 0 given 0 }
-doControl c q given (Read r) = record { control = c; reply = Sent 0 given (atTop (readControl c r)) }
+doControl c q given (Write r) = record { control = writeControl c r (top (q .value)); reply = granted given 0 }
+doControl c q given (Read r) = record { control = c; reply = granted given (atTop (readControl c r)) }
 
 -- CMD unknown, LEN wrong, else what the command does
 unfoldable pub actControl : Control → Request → Command → Answered

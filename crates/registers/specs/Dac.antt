@@ -6,7 +6,6 @@ use lib.Dec.{eqb}
 use Rattle.bits.specs.Table.{Row, row, look}
 use Rattle.registers.specs.declared.request.Lengths.{Lengths}
 use Rattle.registers.specs.declared.request.Request.{Request}
-use Rattle.registers.specs.declared.request.Reply.the-variants.{Sent}
 use Rattle.registers.specs.declared.dac.Answered.{Answered}
 use Rattle.registers.specs.declared.dac.Command.{Command}
 use Rattle.registers.specs.declared.dac.Command.the-variants.{Known, Unknown}
@@ -15,7 +14,7 @@ use Rattle.registers.specs.declared.dac.Does.{Does}
 use Rattle.registers.specs.declared.dac.Does.the-variants.{Write, Read}
 use Rattle.registers.specs.declared.dac.Register.{Register}
 use Rattle.registers.specs.declared.dac.Register.the-variants.{A, B, C, D}
-use Rattle.registers.specs.Request.{lengths, refusal, cmdUnknown, lenWrong}
+use Rattle.registers.specs.Request.{lengths, granted, refusal, cmdUnknown, lenWrong}
 
 -- LEN: write 4/1, read 1/4
 abbrev write : Lengths
@@ -60,8 +59,8 @@ abbrev pub refuseDac : Dac → ℕ → Answered
 refuseDac o error = record { dac = o; reply = refusal error }
 
 abbrev pub doDac : Dac → Request → ℕ → Does → Answered
-doDac o q given (Write r) = record { dac = writeDac o r (q .value % 0x100); reply = Sent 0 given 0 }
-doDac o q given (Read r) = record { dac = o; reply = Sent 0 given (readDac o r) }
+doDac o q given (Write r) = record { dac = writeDac o r (q .value % 0x100); reply = granted given 0 }
+doDac o q given (Read r) = record { dac = o; reply = granted given (readDac o r) }
 
 -- CMD unknown, LEN wrong, else what the command does
 unfoldable pub actDac : Dac → Request → Command → Answered

@@ -7,7 +7,6 @@ use Rattle.bits.specs.Bits.{bitOf, digit}
 use Rattle.bits.specs.Table.{Row, row, look}
 use Rattle.registers.specs.declared.request.Lengths.{Lengths}
 use Rattle.registers.specs.declared.request.Request.{Request}
-use Rattle.registers.specs.declared.request.Reply.the-variants.{Sent}
 use Rattle.registers.specs.declared.gpio.Answered.{Answered}
 use Rattle.registers.specs.declared.gpio.Command.{Command}
 use Rattle.registers.specs.declared.gpio.Command.the-variants.{Known, Unknown}
@@ -16,7 +15,7 @@ use Rattle.registers.specs.declared.gpio.Does.the-variants.{Write, Read,
 use Rattle.registers.specs.declared.gpio.Gpio.{Gpio}
 use Rattle.registers.specs.declared.gpio.Register.{Register}
 use Rattle.registers.specs.declared.gpio.Register.the-variants.{Dataout, Direction, Intsel, Inttrig, Ints, Clksel, Edgesel, Intenable}
-use Rattle.registers.specs.Request.{lengths, refusal, allZero, notEnabled, cmdUnknown, lenWrong}
+use Rattle.registers.specs.Request.{lengths, granted, refusal, allZero, notEnabled, cmdUnknown, lenWrong}
 
 -- LEN: write 4/2, read 1/4
 abbrev write : Lengths
@@ -78,9 +77,9 @@ abbrev pub refuseGpio : Gpio → ℕ → Answered
 refuseGpio g error = record { gpio = g; reply = refusal error }
 
 abbrev pub doGpio : Gpio → Request → ℕ → Does → Answered
-doGpio g q given (Write r) = record { gpio = writeGpio g r (q .value); reply = Sent 0 given 0 }
-doGpio g q given (Read r) = record { gpio = g; reply = Sent 0 given (readGpio g r) }
-doGpio g q given ReadDatain = record { gpio = g; reply = Sent 0 given (g .datain) }
+doGpio g q given (Write r) = record { gpio = writeGpio g r (q .value); reply = granted given 0 }
+doGpio g q given (Read r) = record { gpio = g; reply = granted given (readGpio g r) }
+doGpio g q given ReadDatain = record { gpio = g; reply = granted given (g .datain) }
 
 -- CMD unknown, LEN wrong, else what the command does
 unfoldable pub actGpio : Gpio → Request → Command → Answered

@@ -30,6 +30,10 @@ lenWrong = 0x10
 abbrev pub refusal : ℕ → Reply
 refusal error = Sent error 2 0
 
+-- a reply without an error
+abbrev pub granted : ℕ → ℕ → Reply
+granted length value = Sent 0 length value
+
 -- LEN of a command, request/reply
 abbrev pub lengths : ℕ → ℕ → Lengths
 lengths asked given = record { asked = asked; given = given }

@@ -6,13 +6,12 @@ use lib.Dec.{eqb}
 use Rattle.bits.specs.Table.{Row, row, look}
 use Rattle.registers.specs.declared.request.Lengths.{Lengths}
 use Rattle.registers.specs.declared.request.Request.{Request}
-use Rattle.registers.specs.declared.request.Reply.the-variants.{Sent}
 use Rattle.registers.specs.declared.seu.Answered.{Answered}
 use Rattle.registers.specs.declared.seu.Command.{Command}
 use Rattle.registers.specs.declared.seu.Command.the-variants.{Known, Unknown}
 use Rattle.registers.specs.declared.seu.Does.{Does}
 use Rattle.registers.specs.declared.seu.Does.the-variants.{Read, Clear}
-use Rattle.registers.specs.Request.{lengths, refusal, notEnabled, cmdUnknown, lenWrong}
+use Rattle.registers.specs.Request.{lengths, granted, refusal, notEnabled, cmdUnknown, lenWrong}
 
 -- LEN: read 4/4, clear 4/2
 abbrev read : Lengths
@@ -34,8 +33,8 @@ abbrev pub refuseSeu : ℕ → ℕ → Answered
 refuseSeu seu error = record { seu = seu; reply = refusal error }
 
 abbrev pub doSeu : ℕ → ℕ → Does → Answered
-doSeu seu given Read = record { seu = seu; reply = Sent 0 given seu }
-doSeu seu given Clear = record { seu = 0; reply = Sent 0 given 0 }
+doSeu seu given Read = record { seu = seu; reply = granted given seu }
+doSeu seu given Clear = record { seu = 0; reply = granted given 0 }
 
 -- CMD unknown, LEN wrong, else what the command does
 unfoldable pub actSeu : ℕ → Request → Command → Answered

@@ -8,7 +8,7 @@ use Rattle.bits.specs.Bits.{bitOf, word}
 use Rattle.bits.specs.Table.{Row, row, look}
 use Rattle.registers.specs.declared.request.Lengths.{Lengths}
 use Rattle.registers.specs.declared.request.Request.{Request}
-use Rattle.registers.specs.declared.request.Reply.the-variants.{Sent, Later}
+use Rattle.registers.specs.declared.request.Reply.the-variants.{Later}
 use Rattle.registers.specs.declared.spi.Answered.{Answered}
 use Rattle.registers.specs.declared.spi.Command.{Command}
 use Rattle.registers.specs.declared.spi.Command.the-variants.{Known, Unknown}
@@ -17,7 +17,7 @@ use Rattle.registers.specs.declared.spi.Does.the-variants.{Write, Read, 
 use Rattle.registers.specs.declared.spi.Register.{Register}
 use Rattle.registers.specs.declared.spi.Register.the-variants.{Control, Freq, Ss, Data0, Data1, Data2, Data3}
 use Rattle.registers.specs.declared.spi.Spi.{Spi}
-use Rattle.registers.specs.Request.{lengths, refusal, allZero, notEnabled, busy, cmdUnknown, lenWrong}
+use Rattle.registers.specs.Request.{lengths, granted, refusal, allZero, notEnabled, busy, cmdUnknown, lenWrong}
 
 -- LEN: write 6/2, read 2/6, GO 2/6
 abbrev write : Lengths
@@ -85,8 +85,8 @@ abbrev pub refuseSpi : Spi → ℕ → Answered
 refuseSpi s error = record { spi = s; reply = refusal error }
 
 abbrev pub doSpi : Spi → Request → ℕ → Does → Answered
-doSpi s q given (Write r) = record { spi = writeSpi s r (q .value); reply = Sent 0 given 0 }
-doSpi s q given (Read r) = record { spi = s; reply = Sent 0 given (readSpi s r) }
+doSpi s q given (Write r) = record { spi = writeSpi s r (q .value); reply = granted given 0 }
+doSpi s q given (Read r) = record { spi = s; reply = granted given (readSpi s r) }
 doSpi s q given Go = record { spi = startedSpi s (q .trn); reply = Later }
 
 -- CMD unknown, LEN wrong, else what the command does
@@ -126,5 +126,5 @@ spiCompleted s received =
     let after = completedWord (transferLength (s .control)) (s .words) received in
     record {
       spi = record { control = s .control; freq = s .freq; ss = s .ss; words = after 0 ∷ after 1 ∷ after 2 ∷ after 3 ∷ []; go = 0 };
-      reply = Sent 0 (go .given) (after 0);
+      reply = granted (go .given) (after 0);
     }

@@ -7,6 +7,7 @@ use crate::request::Lengths;
 use crate::request::NOT_ENABLED;
 use crate::request::Reply;
 use crate::request::Request;
+use crate::request::granted;
 use crate::request::refusal;
 
 pub enum Command {
@@ -31,11 +32,7 @@ fn act(id: u32, q: Request, command: Command) -> Reply
     match command {
         Command::Read(lengths) => {
             if q.len == lengths.asked {
-                Reply::Sent {
-                    error: 0,
-                    length: lengths.given,
-                    value: id,
-                }
+                granted(lengths.given, id)
             } else {
                 refusal(LEN_WRONG)
             }

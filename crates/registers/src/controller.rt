@@ -7,6 +7,7 @@ use crate::request::LEN_WRONG;
 use crate::request::Lengths;
 use crate::request::Reply;
 use crate::request::Request;
+use crate::request::granted;
 use crate::request::refusal;
 
 pub struct Control {
@@ -89,22 +90,14 @@ fn act(c: Control, q: Request, command: Command) -> Answered
                         let after = write(c, which, (q.value / 0x1000000) as u8);
                         Answered {
                             control: after,
-                            reply: Reply::Sent {
-                                error: 0,
-                                length: lengths.given,
-                                value: 0,
-                            },
+                            reply: granted(lengths.given, 0),
                         }
                     }
                     Does::Read(which) => {
                         let value = (read(c, which) as u32) * 0x1000000;
                         Answered {
                             control: c,
-                            reply: Reply::Sent {
-                                error: 0,
-                                length: lengths.given,
-                                value: value,
-                            },
+                            reply: granted(lengths.given, value),
                         }
                     }
                 }

@@ -6,6 +6,7 @@ use crate::request::LEN_WRONG;
 use crate::request::Lengths;
 use crate::request::Reply;
 use crate::request::Request;
+use crate::request::granted;
 use crate::request::refusal;
 
 pub struct Dac {
@@ -93,22 +94,14 @@ fn act(o: Dac, q: Request, command: Command) -> Answered
                         let after = write(o, which, (q.value % 0x100) as u8);
                         Answered {
                             dac: after,
-                            reply: Reply::Sent {
-                                error: 0,
-                                length: lengths.given,
-                                value: 0,
-                            },
+                            reply: granted(lengths.given, 0),
                         }
                     }
                     Does::Read(which) => {
                         let value = read(o, which) as u32;
                         Answered {
                             dac: o,
-                            reply: Reply::Sent {
-                                error: 0,
-                                length: lengths.given,
-                                value: value,
-                            },
+                            reply: granted(lengths.given, value),
                         }
                     }
                 }

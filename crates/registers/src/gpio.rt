@@ -10,6 +10,7 @@ use crate::request::Lengths;
 use crate::request::NOT_ENABLED;
 use crate::request::Reply;
 use crate::request::Request;
+use crate::request::granted;
 use crate::request::refusal;
 
 pub struct Gpio {
@@ -125,31 +126,19 @@ fn act(g: Gpio, q: Request, command: Command) -> Answered
                         let after = write(g, which, q.value);
                         Answered {
                             gpio: after,
-                            reply: Reply::Sent {
-                                error: 0,
-                                length: lengths.given,
-                                value: 0,
-                            },
+                            reply: granted(lengths.given, 0),
                         }
                     }
                     Does::Read(which) => {
                         let value = read(g, which);
                         Answered {
                             gpio: g,
-                            reply: Reply::Sent {
-                                error: 0,
-                                length: lengths.given,
-                                value: value,
-                            },
+                            reply: granted(lengths.given, value),
                         }
                     }
                     Does::ReadDatain => Answered {
                         gpio: g,
-                        reply: Reply::Sent {
-                            error: 0,
-                            length: lengths.given,
-                            value: g.datain,
-                        },
+                        reply: granted(lengths.given, g.datain),
                     },
                 }
             } else {

@@ -1,6 +1,6 @@
 // What requests to all channels have in common: their fields, their lengths, their errors and their answers.
 ghost use mathlib.Core.Path.{_≡_};
-ghost use Rattle.registers.specs.Request.{refusal};
+ghost use Rattle.registers.specs.Request.{granted, refusal};
 
 // TRN, CH, LEN, CMD and D[31:0].
 pub struct Request {
@@ -43,5 +43,15 @@ pub fn refusal(error: u8) -> Reply
         error: error,
         length: 2,
         value: 0,
+    }
+}
+
+pub fn granted(length: u8, value: u32) -> Reply
+    ensures { λ r. ⌜ r ≡ granted length value ⌝ }
+{
+    Reply::Sent {
+        error: 0,
+        length: length,
+        value: value,
     }
 }

@@ -7,6 +7,7 @@ use crate::request::Lengths;
 use crate::request::NOT_ENABLED;
 use crate::request::Reply;
 use crate::request::Request;
+use crate::request::granted;
 use crate::request::refusal;
 
 pub enum Does {
@@ -48,19 +49,11 @@ fn act(seu: u32, q: Request, command: Command) -> Answered
                 match does {
                     Does::Read => Answered {
                         seu: seu,
-                        reply: Reply::Sent {
-                            error: 0,
-                            length: lengths.given,
-                            value: seu,
-                        },
+                        reply: granted(lengths.given, seu),
                     },
                     Does::Clear => Answered {
                         seu: 0,
-                        reply: Reply::Sent {
-                            error: 0,
-                            length: lengths.given,
-                            value: 0,
-                        },
+                        reply: granted(lengths.given, 0),
                     },
                 }
             } else {

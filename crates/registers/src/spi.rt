@@ -13,6 +13,7 @@ use crate::request::Lengths;
 use crate::request::NOT_ENABLED;
 use crate::request::Reply;
 use crate::request::Request;
+use crate::request::granted;
 use crate::request::refusal;
 
 pub struct Spi {
@@ -122,22 +123,14 @@ fn act(s: Spi, q: Request, command: Command) -> Answered
                         let after = write(s, which, q.value);
                         Answered {
                             spi: after,
-                            reply: Reply::Sent {
-                                error: 0,
-                                length: lengths.given,
-                                value: 0,
-                            },
+                            reply: granted(lengths.given, 0),
                         }
                     }
                     Does::Read(which) => {
                         let value = read(s, which);
                         Answered {
                             spi: s,
-                            reply: Reply::Sent {
-                                error: 0,
-                                length: lengths.given,
-                                value: value,
-                            },
+                            reply: granted(lengths.given, value),
                         }
                     }
                     Does::Go => Answered {
@@ -202,9 +195,9 @@ pub fn is_zero(s: Spi) -> bool
     ensures { λ r. ⌜ r ≡ spiIsZero s ⌝ }
 {
     let words = s.words;
+    let settings = s.control as u32 | s.freq as u32 | s.ss as u32;
     let data = words[0] | words[1] | words[2] | words[3];
-    let others = s.control as u32 | s.freq as u32 | s.ss as u32 | s.go as u32;
-    data | others == 0
+    settings | data | s.go as u32 == 0
 }
 
 fn transfer_length(control: u16) -> u8
@@ -252,10 +245,6 @@ pub fn completed(s: Spi, received: [u32; 4]) -> Answered
             go: 0,
             ..s
         },
-        reply: Reply::Sent {
-            error: 0,
-            length: GO.given,
-            value: w0,
-        },
+        reply: granted(GO.given, w0),
     }
 }

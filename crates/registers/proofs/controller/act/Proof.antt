@@ -1,88 +1,26 @@
 use borrow.Author.Needs.{needs}
+use Rattle.registers.proofs.ControllerAnswers.{wrote, got, wrong-length, unknown}
 use Rattle.registers.proofs.controller.act.Statement.{statement}
 use Rattle.registers.proofs.controller.act.Tie as tie
-use Rattle.registers.proofs.controller.act.Reads as reads
-use Rattle.registers.proofs.controller.act.Lts as lts
-use Rattle.registers.proofs.controller.read.Reads as read-reads
-use Rattle.registers.proofs.controller.write.Reads as write-reads
-use Rattle.registers.proofs.request.refusal.Reads as refusal-reads
-
--- src/controller.rt:85:24
-enum-known-command : tie.Need-enum-known-command
-enum-known-command c = search needs
-
--- src/controller.rt:88:33
-enum-known-does : tie.Need-enum-known-does
-enum-known-does c = search needs
-
--- src/controller.rt:89:53
-cast-write : tie.Need-cast-write
-cast-write c = search needs
-
--- src/controller.rt:89:29
-write-requires : tie.Need-write-requires
-write-requires c κs = search needs
-
--- src/controller.rt:92:32
-enum-known-does-2 : tie.Need-enum-known-does-2
-enum-known-does-2 c = search needs
-
--- src/controller.rt:93:38
-read-requires : tie.Need-read-requires
-read-requires c κs = search needs
-
--- src/controller.rt:93:38
-cast-value : tie.Need-cast-value
-cast-value c = search needs
-
--- src/controller.rt:93:37
-mul-value : tie.Need-mul-value
-mul-value c = search needs
-
--- src/controller.rt:98:47
-refusal-requires : tie.Need-refusal-requires
-refusal-requires c κs = search needs
-
--- src/controller.rt:101:59
-enum-told : tie.Need-enum-told
-enum-told c = search needs
-
--- src/controller.rt:101:59
-refusal-requires-2 : tie.Need-refusal-requires-2
-refusal-requires-2 c κs = search needs
-
--- src/controller.rt:81:1
-returns : tie.Need-returns
-returns c = ?
-
--- src/controller.rt:81:1
-returns-2 : tie.Need-returns-2
-returns-2 c = ?
-
--- src/controller.rt:81:1
-returns-3 : tie.Need-returns-3
-returns-3 c = ?
-
--- src/controller.rt:81:1
-returns-4 : tie.Need-returns-4
-returns-4 c = ?
 
 pub act-spec : {M : Type 1} → statement M
 act-spec =
     tie.close
     (tie.spec
-    enum-known-command
-    enum-known-does
-    cast-write
-    write-requires
-    enum-known-does-2
-    read-requires
-    cast-value
-    mul-value
-    refusal-requires
-    enum-told
-    refusal-requires-2
-    returns
-    returns-2
-    returns-3
-    returns-4)
+    (λ c. search needs)
+    (λ c. search needs)
+    (λ c. search needs)
+    (λ c κs. search needs)
+    (λ c κs. search needs)
+    (λ c. search needs)
+    (λ c κs. search needs)
+    (λ c. search needs)
+    (λ c. search needs)
+    (λ c κs. search needs)
+    (λ c κs. search needs)
+    (λ c. search needs)
+    (λ c κs. search needs)
+    (λ c. search wrote)
+    (λ c. search got)
+    (λ c. search wrong-length)
+    (λ c. search unknown))

@@ -1,36 +1,19 @@
+use mathlib.Core.Path.{ap, sym}
+use Rattle.bits.proofs.Rows.{none-of}
+use Rattle.registers.specs.Controller.{controllerCommand, controllerCommands}
+use Rattle.registers.specs.declared.controller.Command.the-variants.{Unknown}
 use Rattle.registers.proofs.controller.command_of.Statement.{statement}
 use Rattle.registers.proofs.controller.command_of.Tie as tie
-use Rattle.registers.proofs.controller.command_of.Reads as reads
-use Rattle.registers.proofs.controller.command_of.Lts as lts
-
--- src/controller.rt:38:1
-returns : tie.Need-returns
-returns c = ?
-
--- src/controller.rt:38:1
-returns-2 : tie.Need-returns-2
-returns-2 c = ?
-
--- src/controller.rt:38:1
-returns-3 : tie.Need-returns-3
-returns-3 c = ?
-
--- src/controller.rt:38:1
-returns-4 : tie.Need-returns-4
-returns-4 c = ?
-
--- src/controller.rt:38:1
-returns-5 : tie.Need-returns-5
-returns-5 c = ?
-
--- src/controller.rt:38:1
-returns-6 : tie.Need-returns-6
-returns-6 c = ?
-
--- src/controller.rt:38:1
-returns-7 : tie.Need-returns-7
-returns-7 c = ?
 
 pub command-of-spec : {M : Type 1} → statement M
+unfolding controllerCommand
 command-of-spec =
-    tie.close (tie.spec returns returns-2 returns-3 returns-4 returns-5 returns-6 returns-7)
+    tie.close
+    (tie.spec
+    (λ c. ap controllerCommand (sym (c .match .keys1)))
+    (λ c. ap controllerCommand (sym (c .match .keys2)))
+    (λ c. ap controllerCommand (sym (c .match .keys3)))
+    (λ c. ap controllerCommand (sym (c .match .keys4)))
+    (λ c. ap controllerCommand (sym (c .match .keys5)))
+    (λ c. ap controllerCommand (sym (c .match .keys6)))
+    (λ c. none-of controllerCommands Unknown _ (c .match .rest)))

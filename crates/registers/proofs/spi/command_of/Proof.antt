@@ -1,89 +1,28 @@
+use mathlib.Core.Path.{ap, sym}
+use Rattle.bits.proofs.Rows.{none-of}
+use Rattle.registers.specs.Spi.{spiCommand, spiCommands}
+use Rattle.registers.specs.declared.spi.Command.the-variants.{Unknown}
 use Rattle.registers.proofs.spi.command_of.Statement.{statement}
 use Rattle.registers.proofs.spi.command_of.Tie as tie
-use Rattle.registers.proofs.spi.command_of.Reads as reads
-use Rattle.registers.proofs.spi.command_of.Lts as lts
-
--- src/spi.rt:54:1
-returns : tie.Need-returns
-returns c = ?
-
--- src/spi.rt:54:1
-returns-2 : tie.Need-returns-2
-returns-2 c = ?
-
--- src/spi.rt:54:1
-returns-3 : tie.Need-returns-3
-returns-3 c = ?
-
--- src/spi.rt:54:1
-returns-4 : tie.Need-returns-4
-returns-4 c = ?
-
--- src/spi.rt:54:1
-returns-5 : tie.Need-returns-5
-returns-5 c = ?
-
--- src/spi.rt:54:1
-returns-6 : tie.Need-returns-6
-returns-6 c = ?
-
--- src/spi.rt:54:1
-returns-7 : tie.Need-returns-7
-returns-7 c = ?
-
--- src/spi.rt:54:1
-returns-8 : tie.Need-returns-8
-returns-8 c = ?
-
--- src/spi.rt:54:1
-returns-9 : tie.Need-returns-9
-returns-9 c = ?
-
--- src/spi.rt:54:1
-returns-10 : tie.Need-returns-10
-returns-10 c = ?
-
--- src/spi.rt:54:1
-returns-11 : tie.Need-returns-11
-returns-11 c = ?
-
--- src/spi.rt:54:1
-returns-12 : tie.Need-returns-12
-returns-12 c = ?
-
--- src/spi.rt:54:1
-returns-13 : tie.Need-returns-13
-returns-13 c = ?
-
--- src/spi.rt:54:1
-returns-14 : tie.Need-returns-14
-returns-14 c = ?
-
--- src/spi.rt:54:1
-returns-15 : tie.Need-returns-15
-returns-15 c = ?
-
--- src/spi.rt:54:1
-returns-16 : tie.Need-returns-16
-returns-16 c = ?
 
 pub command-of-spec : {M : Type 1} → statement M
+unfolding spiCommand
 command-of-spec =
     tie.close
     (tie.spec
-    returns
-    returns-2
-    returns-3
-    returns-4
-    returns-5
-    returns-6
-    returns-7
-    returns-8
-    returns-9
-    returns-10
-    returns-11
-    returns-12
-    returns-13
-    returns-14
-    returns-15
-    returns-16)
+    (λ c. ap spiCommand (sym (c .match .keys1)))
+    (λ c. ap spiCommand (sym (c .match .keys2)))
+    (λ c. ap spiCommand (sym (c .match .keys3)))
+    (λ c. ap spiCommand (sym (c .match .keys4)))
+    (λ c. ap spiCommand (sym (c .match .keys5)))
+    (λ c. ap spiCommand (sym (c .match .keys6)))
+    (λ c. ap spiCommand (sym (c .match .keys7)))
+    (λ c. ap spiCommand (sym (c .match .keys8)))
+    (λ c. ap spiCommand (sym (c .match .keys9)))
+    (λ c. ap spiCommand (sym (c .match .keys10)))
+    (λ c. ap spiCommand (sym (c .match .keys11)))
+    (λ c. ap spiCommand (sym (c .match .keys12)))
+    (λ c. ap spiCommand (sym (c .match .keys13)))
+    (λ c. ap spiCommand (sym (c .match .keys14)))
+    (λ c. ap spiCommand (sym (c .match .keys15)))
+    (λ c. none-of spiCommands Unknown _ (c .match .rest)))

@@ -1,37 +1,18 @@
 use borrow.Author.Needs.{needs}
+use native.Mathlib.Omega.{arith}
+use lib.Pow.{pow-pos}
+use Rattle.registers.proofs.Transfer.{filled-none, filled-all, filled-low, shifted}
 use Rattle.registers.proofs.spi.filled.Statement.{statement}
 use Rattle.registers.proofs.spi.filled.Tie as tie
-use Rattle.registers.proofs.spi.filled.Reads as reads
-use Rattle.registers.proofs.spi.filled.Lts as lts
-
--- src/spi.rt:186:9
-returns : tie.Need-returns
-returns c = ?
-
--- src/spi.rt:188:17
-sub-count : tie.Need-sub-count
-sub-count c = search needs
-
--- src/spi.rt:189:27
-cast-result : tie.Need-cast-result
-cast-result c = search needs
-
--- src/spi.rt:189:22
-shl-result : tie.Need-shl-result
-shl-result c = search needs
-
--- src/spi.rt:189:21
-sub-result : tie.Need-sub-result
-sub-result c = ?
-
--- src/spi.rt:182:1
-returns-2 : tie.Need-returns-2
-returns-2 c = ?
-
--- src/spi.rt:182:1
-returns-3 : tie.Need-returns-3
-returns-3 c = ?
 
 pub filled-spec : {M : Type 1} → statement M
 filled-spec =
-    tie.close (tie.spec returns sub-count cast-result shl-result sub-result returns-2 returns-3)
+    tie.close
+    (tie.spec
+    (λ c. filled-none _ _ (c .if1 .taken))
+    (λ c. search needs)
+    (λ c. search needs)
+    (λ c. search needs)
+    (λ c. search (shifted, pow-pos, needs))
+    (λ c. filled-low _ _ (c .before .if1 .left) (c .if2 .taken))
+    (λ c. filled-all _ _ (c .before .if1 .left) (c .if2 .left)))
