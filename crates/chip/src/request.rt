@@ -1,13 +1,20 @@
-// A request's information and what answers it.
+// A request's information, what answers it, and the reply's body.
 ghost use mathlib.Core.Path.{_≡_};
 ghost use Prim.Native.Nat.{_<_};
 ghost use lib.ListN.{length};
-ghost use Rattle.chip.specs.Request.{byteOf, replies, requested};
+ghost use Rattle.chip.specs.Request.{requestOf, byteOf, onChannel, answered, replies, finished, requested};
 
 use crate::Adapter;
 use crate::Reaction;
 use crate::answer;
 use crate::link;
+use registers::request::Reply;
+
+// What a request leaves of the state, and its reply.
+pub struct Answered {
+    pub adapter: Adapter,
+    pub reply: Reply,
+}
 
 // Byte k of D, byte 0 the lowest.
 fn byte_of(value: u32, k: u32) -> u8
@@ -36,9 +43,12 @@ pub(crate) fn reply(a: Adapter, trn: u8, ch: u8, err: u8, len: u8, value: u32) -
     answer::send(link::send_up(a), a.link.port, &body)
 }
 
-pub(crate) fn request(a: Adapter, info: &[u8]) -> Reaction
-    requires { ⌜ length (now info) ≡ 8 ⌝ }
-    ensures { λ r. ⌜ r ≡ requested a (now (info .entry)) ⌝ }
+// A reply that is sent, or none yet.
+pub(crate) fn finish(a: Adapter, trn: u8, ch: u8, reply_of: Reply) -> Reaction
+    ensures { λ r. ⌜ r ≡ finished a trn ch «reply_of» ⌝ }
 {
-    reply(a, info[0], info[1], 2, 2, 0)
+    match reply_of {
+        Reply::Sent { error, length, value } => reply(a, trn, ch, error, length, value),
+        Reply::Later => answer::give(a, answer::NO_FRAME),
+    }
 }
