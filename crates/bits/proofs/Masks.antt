@@ -1,6 +1,7 @@
 -- Mask expressions on words of k bits: a mask that chooses between two words, a mask of low bits.
 use Prim.Native.Nat.{ℕ, zero, suc, _+_, _-_, _*_, _/_, _%_, _^_, _<_, _≤_}
-use mathlib.Core.Bool.{Bool, true, false, not, _&&_, _||_, cond}
+use mathlib.Core.Bool.{Bool, true, false, not, _&&_, _||_, cond, and-assoc, and-true}
+use mathlib.Core.List.{List, [], _∷_, foldl}
 use mathlib.Core.Path.{_≡_, refl, sym, ap, _∙_}
 use native.Mathlib.Omega.{arith}
 use native.Mathlib.Nat.{lt-of-le-of-lt, pow-suc}
@@ -8,7 +9,7 @@ use borrow.Author.Tests.{eq-eqb, ne-eqb, eqb-true, eqb-false, lt-ltb, le-ltb}
 use lib.Dec.{eqb, ltb, leb·suc-suc}
 use lib.Bits.{bitAnd, bitOr, or-lt, or-add-and, and-le-l, and-le-r}
 use lib.Pow.{ones-sub-lt, pow-pos}
-use Rattle.bits.specs.Bits.{bitOf, word}
+use Rattle.bits.specs.Bits.{allZero, bitOf, word}
 use Rattle.bits.proofs.Bits.{bit-and, bit-or, bit-not, bit-suc, bit-zero, bit-word, word-lt, word-same, is-word}
 use Rattle.bits.proofs.Taut.{taut3}
 
@@ -56,3 +57,8 @@ or-none a b = both (eqb a 0) (eqb b 0) refl refl
     both true true x y = eq-eqb (bitOr a b) 0 (omega (arith, or-add-and a b, eqb-true a 0 x, eqb-true b 0 y))
     both true false x y = ne-eqb (bitOr a b) 0 (λ z. eqb-false b 0 y (omega (arith, or-add-and a b, and-le-l a b)))
     both false q x y = ne-eqb (bitOr a b) 0 (λ z. eqb-false a 0 x (omega (arith, or-add-and a b, and-le-r a b)))
+
+-- `n | m | .. == 0`
+pub none-set : (n : ℕ) (ns : List ℕ) → eqb (foldl bitOr n ns) 0 ≡ allZero (n ∷ ns)
+none-set n [] = sym (and-true (eqb n 0))
+none-set n (m ∷ ms) = none-set (bitOr n m) ms ∙ ap (λ (t : Bool). t && allZero ms) (or-none n m) ∙ and-assoc (eqb n 0) (eqb m 0) (allZero ms)

@@ -19,46 +19,46 @@ use Rattle.registers.specs.Pins.{takes, datainAfter, fires, firingLines,
 abbrev inv : ℕ → ℕ
 inv a = 2 ^ 32 - 1 - a
 
-abbrev taken : Gpio → ℕ → ℕ → Bool
-taken g kind i = takes (bitOf (g .direction) i) (bitOf (g .clksel) i) (bitOf (g .edgesel) i) kind
+abbrev taken : ℕ → ℕ → ℕ → ℕ → ℕ → Bool
+taken d c e kind i = takes (bitOf d i) (bitOf c i) (bitOf e i) kind
 
-module _ (g : Gpio) (kind : ℕ) (hd : g .direction < 2 ^ 32) where
-  pub taken-0 : g .clksel < 2 ^ 32 → kind ≡ 0 → bitAnd (inv (g .direction)) (inv (g .clksel)) ≡ word 32 (taken g kind)
-  taken-0 hc e =
-      is-word 32 (bitAnd (inv (g .direction)) (inv (g .clksel))) (taken g kind)
-      (and-lt 32 (inv (g .direction)) (inv (g .clksel)) (ones-sub-lt 32 (g .direction)) (ones-sub-lt 32 (g .clksel)))
-      (λ i h. simp (e, bit-and, bit-not 32 (g .direction) i hd h, bit-not 32 (g .clksel) i hc h)
-      (taut3 (λ d c e. not d && not c) (λ d c e. takes d c e 0) tt (bitOf (g .direction) i) (bitOf (g .clksel) i) (bitOf (g .edgesel) i)))
+module _ (d c e kind : ℕ) (hd : d < 2 ^ 32) where
+  pub taken-0 : c < 2 ^ 32 → kind ≡ 0 → bitAnd (inv d) (inv c) ≡ word 32 (taken d c e kind)
+  taken-0 hc k =
+      is-word 32 (bitAnd (inv d) (inv c)) (taken d c e kind)
+      (and-lt 32 (inv d) (inv c) (ones-sub-lt 32 d) (ones-sub-lt 32 c))
+      (λ i h. simp (k, bit-and, bit-not 32 d i hd h, bit-not 32 c i hc h)
+      (taut3 (λ d c e. not d && not c) (λ d c e. takes d c e 0) tt (bitOf d i) (bitOf c i) (bitOf e i)))
 
-  pub taken-1 : g .clksel < 2 ^ 32 → g .edgesel < 2 ^ 32 → kind ≡ 1
-      → bitAnd (bitAnd (inv (g .direction)) (g .clksel)) (inv (g .edgesel)) ≡ word 32 (taken g kind)
-  taken-1 hc he e =
-      is-word 32 (bitAnd (bitAnd (inv (g .direction)) (g .clksel)) (inv (g .edgesel))) (taken g kind)
-      (and-lt 32 (bitAnd (inv (g .direction)) (g .clksel)) (inv (g .edgesel))
-      (and-lt 32 (inv (g .direction)) (g .clksel) (ones-sub-lt 32 (g .direction)) hc) (ones-sub-lt 32 (g .edgesel)))
-      (λ i h. simp (e, bit-and, bit-not 32 (g .direction) i hd h, bit-not 32 (g .edgesel) i he h)
-      (taut3 (λ d c e. not d && c && not e) (λ d c e. takes d c e 1) tt (bitOf (g .direction) i) (bitOf (g .clksel) i) (bitOf (g .edgesel) i)))
+  pub taken-1 : c < 2 ^ 32 → e < 2 ^ 32 → kind ≡ 1
+      → bitAnd (bitAnd (inv d) c) (inv e) ≡ word 32 (taken d c e kind)
+  taken-1 hc he k =
+      is-word 32 (bitAnd (bitAnd (inv d) c) (inv e)) (taken d c e kind)
+      (and-lt 32 (bitAnd (inv d) c) (inv e)
+      (and-lt 32 (inv d) c (ones-sub-lt 32 d) hc) (ones-sub-lt 32 e))
+      (λ i h. simp (k, bit-and, bit-not 32 d i hd h, bit-not 32 e i he h)
+      (taut3 (λ d c e. not d && c && not e) (λ d c e. takes d c e 1) tt (bitOf d i) (bitOf c i) (bitOf e i)))
 
-  pub taken-2 : g .clksel < 2 ^ 32 → g .edgesel < 2 ^ 32 → kind ≡ 2
-      → bitAnd (bitAnd (inv (g .direction)) (g .clksel)) (g .edgesel) ≡ word 32 (taken g kind)
-  taken-2 hc he e =
-      is-word 32 (bitAnd (bitAnd (inv (g .direction)) (g .clksel)) (g .edgesel)) (taken g kind)
-      (and-lt 32 (bitAnd (inv (g .direction)) (g .clksel)) (g .edgesel)
-      (and-lt 32 (inv (g .direction)) (g .clksel) (ones-sub-lt 32 (g .direction)) hc) he)
-      (λ i h. simp (e, bit-and, bit-not 32 (g .direction) i hd h)
-      (taut3 (λ d c e. not d && c && e) (λ d c e. takes d c e 2) tt (bitOf (g .direction) i) (bitOf (g .clksel) i) (bitOf (g .edgesel) i)))
+  pub taken-2 : c < 2 ^ 32 → e < 2 ^ 32 → kind ≡ 2
+      → bitAnd (bitAnd (inv d) c) e ≡ word 32 (taken d c e kind)
+  taken-2 hc he k =
+      is-word 32 (bitAnd (bitAnd (inv d) c) e) (taken d c e kind)
+      (and-lt 32 (bitAnd (inv d) c) e
+      (and-lt 32 (inv d) c (ones-sub-lt 32 d) hc) he)
+      (λ i h. simp (k, bit-and, bit-not 32 d i hd h)
+      (taut3 (λ d c e. not d && c && e) (λ d c e. takes d c e 2) tt (bitOf d i) (bitOf c i) (bitOf e i)))
 
 -- no other kind takes a level
-pub taken-none : (g : Gpio) (kind : ℕ) → (kind ≡ 0 → ⊥) → (kind ≡ 1 → ⊥) → (kind ≡ 2 → ⊥) → 0 ≡ word 32 (taken g kind)
-taken-none g kind n0 n1 n2 =
-    is-word 32 0 (taken g kind) (omega arith)
+pub taken-none : (d c e kind : ℕ) → (kind ≡ 0 → ⊥) → (kind ≡ 1 → ⊥) → (kind ≡ 2 → ⊥) → 0 ≡ word 32 (taken d c e kind)
+taken-none d c e kind n0 n1 n2 =
+    is-word 32 0 (taken d c e kind) (omega arith)
     (λ i h. simp (bit-none i, ne-eqb kind 0 n0, ne-eqb kind 1 n1, ne-eqb kind 2 n2)
-    (taut3 (λ d c e. false) (λ d c e. not d && (not c && false || c && (false && not e || false && e))) tt (bitOf (g .direction) i) (bitOf (g .clksel) i) (bitOf (g .edgesel) i)))
+    (taut3 (λ d c e. false) (λ d c e. not d && (not c && false || c && (false && not e || false && e))) tt (bitOf d i) (bitOf c i) (bitOf e i)))
 
-pub datain-mask : (g : Gpio) (levels kind mask : ℕ) → mask ≡ word 32 (taken g kind)
+pub datain-mask : (g : Gpio) (levels kind mask : ℕ) → mask ≡ word 32 (taken (g .direction) (g .clksel) (g .edgesel) kind)
     → bitOr (bitAnd (g .datain) (inv mask)) (bitAnd levels mask) ≡ datainAfter g levels kind
 unfolding datainAfter
-datain-mask g levels kind mask e = rw e (chosen-by 32 (g .datain) levels (taken g kind))
+datain-mask g levels kind mask e = rw e (chosen-by 32 (g .datain) levels (taken (g .direction) (g .clksel) (g .edgesel) kind))
 
 pub firing-mask : (g : Gpio) (after : ℕ) → g .datain < 2 ^ 32 → after < 2 ^ 32 → g .intsel < 2 ^ 32 → g .inttrig < 2 ^ 32
     → bitAnd (g .intsel) (bitOr (bitAnd (bitAnd (inv (g .datain)) after) (inv (g .inttrig))) (bitAnd (bitAnd (g .datain) (inv after)) (g .inttrig)))

@@ -1,12 +1,15 @@
 -- The masks of a register's kept bits, and the tests that all is 0.
 use Prim.Native.Nat.{ℕ, _+_, _-_, _*_, _/_, _%_, _^_, _<_}
-use mathlib.Core.Bool.{Bool, not, _&&_, and-assoc}
+use mathlib.Core.Bool.{Bool, not, _&&_}
+use mathlib.Core.List.{List, [], _∷_, foldl}
 use mathlib.Core.Path.{_≡_, refl, sym, ap, ap₂, _∙_}
 use native.Mathlib.Omega.{arith}
 use lib.Bits.{bitAnd, bitOr, and-mask, and-high}
 use lib.Dec.{eqb}
+use lib.ListN.{getD}
 use Rattle.bits.proofs.Bits.{bit-test}
-use Rattle.bits.proofs.Masks.{or-none}
+use Rattle.bits.specs.Bits.{digit}
+use Rattle.bits.proofs.Masks.{or-none, none-set}
 use Rattle.bits.proofs.Tests.{eqb-same}
 use Rattle.registers.specs.declared.controller.Control.{Control}
 use Rattle.registers.specs.declared.controller.Register.{Register}
@@ -14,8 +17,10 @@ use Rattle.registers.specs.declared.controller.Register.the-variants.{Cr
 use Rattle.registers.specs.declared.gpio.Gpio.{Gpio}
 use Rattle.registers.specs.declared.gpio.Register.{Register as GpioRegister}
 use Rattle.registers.specs.declared.gpio.Register.the-variants.{Intenable}
+use Rattle.registers.specs.declared.spi.Spi.{Spi}
 use Rattle.registers.specs.Controller.{kept, writeControl, controlInRange}
-use Rattle.registers.specs.Gpio.{writeGpio}
+use Rattle.registers.specs.Gpio.{writeGpio, gpioIsZero}
+use Rattle.registers.specs.Spi.{spiIsZero}
 
 module _ (v : ℕ) (h : v < 256) where
   pub kept-crb : bitAnd v 254 ≡ kept Crb v
@@ -45,3 +50,16 @@ pub wrote-intenable : (g : Gpio) (r : GpioRegister) (v : ℕ) → r ≡ Intenabl
     → _≡_ {A = Gpio} (record { dataout = g .dataout; datain = g .datain; direction = g .direction; intsel = g .intsel; inttrig = g .inttrig; ints = g .ints; clksel = g .clksel; edgesel = g .edgesel; intenable = not (eqb (bitAnd v 1) 0) })
     (writeGpio g r v)
 wrote-intenable g r v e = simp (e, bit-test v 0)
+
+pub spi-none : (s : Spi)
+    → eqb (foldl bitOr (s .control) (s .freq ∷ s .ss ∷ getD (s .words) 0 0 ∷ getD (s .words) 1 0 ∷ getD (s .words) 2 0 ∷ getD (s .words) 3 0 ∷ s .go ∷ [])) 0
+    ≡ spiIsZero s
+unfolding spiIsZero
+spi-none s = none-set (s .control) (s .freq ∷ s .ss ∷ getD (s .words) 0 0 ∷ getD (s .words) 1 0 ∷ getD (s .words) 2 0 ∷ getD (s .words) 3 0 ∷ s .go ∷ [])
+
+pub gpio-none : (g : Gpio) (n : ℕ) → n ≡ digit (g .intenable)
+    → eqb (foldl bitOr (g .dataout) (g .datain ∷ g .direction ∷ g .intsel ∷ g .inttrig ∷ g .ints ∷ g .clksel ∷ g .edgesel ∷ n ∷ [])) 0
+    ≡ gpioIsZero g
+unfolding gpioIsZero
+gpio-none g n e =
+    none-set (g .dataout) (g .datain ∷ g .direction ∷ g .intsel ∷ g .inttrig ∷ g .ints ∷ g .clksel ∷ g .edgesel ∷ n ∷ []) ∙ simp e

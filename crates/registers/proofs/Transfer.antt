@@ -51,7 +51,7 @@ module _ (length from : ℕ) where
   filled-low h n =
       rw (shifted n)
       (is-word 32 (2 ^ (length - from) - 1) filled (omega (arith, pow-lt {i = length - from} {j = 32} n))
-      (λ i l. bit-below (length - from) i ∙ ltb-same i (length - from) (from + i) length (λ _. omega arith) (λ _. omega arith)))
+      (λ i l. bit-below (length - from) i ∙ ltb-same i (length - from) (from + i) length (λ x. omega arith) (λ x. omega arith)))
 
   pub merged-mask : (was received mask : ℕ) → mask ≡ word 32 filled
       → bitOr (bitAnd was (4294967295 - mask)) (bitAnd received mask) ≡ word 32 (λ i. cond (filled i) (bitOf received i) (bitOf was i))

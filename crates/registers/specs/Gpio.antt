@@ -3,7 +3,7 @@ use Prim.Native.Nat.{ℕ}
 use mathlib.Core.Bool.{Bool, true, false, not, cond}
 use mathlib.Core.List.{List, [], _∷_}
 use lib.Dec.{eqb}
-use Rattle.bits.specs.Bits.{bitOf, digit}
+use Rattle.bits.specs.Bits.{allZero, bitOf, digit}
 use Rattle.bits.specs.Table.{Row, row, look}
 use Rattle.registers.specs.declared.request.Lengths.{Lengths}
 use Rattle.registers.specs.declared.request.Request.{Request}
@@ -15,7 +15,7 @@ use Rattle.registers.specs.declared.gpio.Does.the-variants.{Write, Read,
 use Rattle.registers.specs.declared.gpio.Gpio.{Gpio}
 use Rattle.registers.specs.declared.gpio.Register.{Register}
 use Rattle.registers.specs.declared.gpio.Register.the-variants.{Dataout, Direction, Intsel, Inttrig, Ints, Clksel, Edgesel, Intenable}
-use Rattle.registers.specs.Request.{lengths, granted, refusal, allZero, notEnabled, cmdUnknown, lenWrong}
+use Rattle.registers.specs.Request.{lengths, granted, refusal, notEnabled, cmdUnknown, lenWrong}
 
 -- LEN: write 4/2, read 1/4
 abbrev write : Lengths

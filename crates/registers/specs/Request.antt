@@ -1,8 +1,5 @@
 -- What requests to all channels have in common.
 use Prim.Native.Nat.{ℕ}
-use mathlib.Core.Bool.{Bool, true, _&&_}
-use mathlib.Core.List.{List, [], _∷_}
-use lib.Dec.{eqb}
 use Rattle.registers.specs.declared.request.Lengths.{Lengths}
 use Rattle.registers.specs.declared.request.Reply.{Reply}
 use Rattle.registers.specs.declared.request.Reply.the-variants.{Sent, Later}
@@ -37,7 +34,3 @@ granted length value = Sent 0 length value
 -- LEN of a command, request/reply
 abbrev pub lengths : ℕ → ℕ → Lengths
 lengths asked given = record { asked = asked; given = given }
-
-abbrev pub allZero : List ℕ → Bool
-allZero [] = true
-allZero (n ∷ ns) = eqb n 0 && allZero ns

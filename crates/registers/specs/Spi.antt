@@ -4,7 +4,7 @@ use mathlib.Core.Bool.{Bool, true, false, not, _&&_, cond}
 use mathlib.Core.List.{List, [], _∷_}
 use lib.Dec.{eqb, ltb}
 use lib.ListN.{getD, set}
-use Rattle.bits.specs.Bits.{bitOf, word}
+use Rattle.bits.specs.Bits.{allZero, bitOf, word}
 use Rattle.bits.specs.Table.{Row, row, look}
 use Rattle.registers.specs.declared.request.Lengths.{Lengths}
 use Rattle.registers.specs.declared.request.Request.{Request}
@@ -17,7 +17,7 @@ use Rattle.registers.specs.declared.spi.Does.the-variants.{Write, Read, 
 use Rattle.registers.specs.declared.spi.Register.{Register}
 use Rattle.registers.specs.declared.spi.Register.the-variants.{Control, Freq, Ss, Data0, Data1, Data2, Data3}
 use Rattle.registers.specs.declared.spi.Spi.{Spi}
-use Rattle.registers.specs.Request.{lengths, granted, refusal, allZero, notEnabled, busy, cmdUnknown, lenWrong}
+use Rattle.registers.specs.Request.{lengths, granted, refusal, notEnabled, busy, cmdUnknown, lenWrong}
 
 -- LEN: write 6/2, read 2/6, GO 2/6
 abbrev write : Lengths

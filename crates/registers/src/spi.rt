@@ -196,8 +196,7 @@ pub fn is_zero(s: Spi) -> bool
 {
     let words = s.words;
     let settings = s.control as u32 | s.freq as u32 | s.ss as u32;
-    let data = words[0] | words[1] | words[2] | words[3];
-    settings | data | s.go as u32 == 0
+    settings | words[0] | words[1] | words[2] | words[3] | s.go as u32 == 0
 }
 
 fn transfer_length(control: u16) -> u8
