@@ -1,1 +1,6 @@
 pub mod Cases
+pub mod Answers
+pub mod Steps
+pub mod Channels
+pub mod Laws
+pub mod Examples

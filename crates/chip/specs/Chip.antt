@@ -10,14 +10,14 @@ use Rattle.chip.specs.Event.{Event, frame, completion, sample, upset}
 use Rattle.chip.specs.Numbers.{notBusy, linesDisabled, noFrame, spiChannel, gpioChannel, interruptTransaction, interruptLength}
 use Rattle.chip.specs.State.{withSpi, withGpio, withSeu}
 use Rattle.chip.specs.Answer.{gives}
-use Rattle.chip.specs.Request.{replies, finished}
+use Rattle.chip.specs.Request.{fourBytes, replies, finished}
 use Rattle.chip.specs.Frame.{onFrame, isResetFrame}
 use Rattle.chip.specs.declared.Adapter.{Adapter}
 use Rattle.chip.specs.declared.Reaction.{Reaction}
 
 -- 32 of the received bits, from byte k up
 abbrev pub receivedWord : List ℕ → ℕ → ℕ
-receivedWord s k = getD s k 0 + 2 ^ 8 * getD s (k + 1) 0 + 2 ^ 16 * getD s (k + 2) 0 + 2 ^ 24 * getD s (k + 3) 0
+receivedWord s k = fourBytes (getD s k 0) (getD s (k + 1) 0) (getD s (k + 2) 0) (getD s (k + 3) 0)
 
 -- byte 0 holds bits 7 to 0
 abbrev pub receivedWords : List ℕ → List ℕ

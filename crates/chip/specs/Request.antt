@@ -27,6 +27,10 @@ use Rattle.chip.specs.declared.request.Answered.{Answered}
 
 -- ---- the information
 
+-- four bytes as a number, the lowest first
+abbrev pub fourBytes : ℕ → ℕ → ℕ → ℕ → ℕ
+fourBytes b0 b1 b2 b3 = b0 + 0x100 * b1 + 0x10000 * b2 + 0x1000000 * b3
+
 -- TRN, CH, LEN, CMD, D[23:16], D[31:24], D[7:0], D[15:8]
 abbrev pub requestOf : List ℕ → Request
 requestOf info =
@@ -35,7 +39,7 @@ requestOf info =
       ch = getD info 1 0;
       len = getD info 2 0;
       cmd = getD info 3 0;
-      value = getD info 6 0 + 2 ^ 8 * getD info 7 0 + 2 ^ 16 * getD info 4 0 + 2 ^ 24 * getD info 5 0
+      value = fourBytes (getD info 6 0) (getD info 7 0) (getD info 4 0) (getD info 5 0)
     }
 
 -- byte k of D: D[7:0], D[15:8], D[23:16], D[31:24]

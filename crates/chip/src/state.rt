@@ -4,33 +4,27 @@ ghost use Rattle.chip.specs.State.{poweredOn, powerOn};
 ghost use Rattle.chip.specs.Link.{reset};
 
 use crate::Adapter;
-use crate::link::Link;
-use crate::link::SendNumber;
-use crate::link::ReceiveNumber;
-use registers::controller::Control;
-use registers::dac::Dac;
-use registers::gpio::Gpio;
-use registers::spi::Spi;
+use crate::link;
+use registers::controller;
+use registers::dac;
+use registers::gpio;
+use registers::spi;
 
-// PLACEHOLDER zeros
+// Power-on with a port active.
 fn powered_on(port: u8, id: u32) -> Adapter
     ensures { λ r. ⌜ r ≡ poweredOn port id ⌝ }
 {
-    let link = Link {
-        send: SendNumber(0),
-        receive: ReceiveNumber(0),
-        port: port,
-        loop0: false,
-        loop1: false,
-    };
-    let spi = Spi { control: 0, freq: 0, ss: 0, words: [0; 4], go: 0 };
-    let gpio = Gpio { dataout: 0, datain: 0, direction: 0, intsel: 0, inttrig: 0, ints: 0, clksel: 0, edgesel: 0, intenable: false };
+    let link = link::fresh(port);
+    let control = controller::zero();
+    let spi = spi::zero();
+    let gpio = gpio::zero();
+    let dac = dac::zero();
     Adapter {
         link: link,
-        control: Control { crb: 0, crc: 0, crd: 0 },
+        control: control,
         spi: spi,
         gpio: gpio,
-        dac: Dac { a: 0, b: 0, c: 0, d: 0 },
+        dac: dac,
         seu: 0,
         id: id,
     }
