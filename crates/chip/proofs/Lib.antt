@@ -1,5 +1,6 @@
 pub mod Cases
 pub mod Answers
+pub mod Happens
 pub mod Steps
 pub mod Channels
 pub mod Laws
