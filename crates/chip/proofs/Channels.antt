@@ -294,9 +294,16 @@ module _ (s : gpio.Gpio.Gpio) (levels kind : ℕ) where
   pub sampled-fits : GpioFits s → GpioFits (gpioSampled s levels kind .gpio)
   unfolding gpioSampled datainAfter firingLines
   sampled-fits f =
-      record { dataout = f .dataout; datain = word-lt 32 _; direction = f .direction; intsel = f .intsel; inttrig = f .inttrig;
+      record {
+        dataout = f .dataout;
+        datain = word-lt 32 _;
+        direction = f .direction;
+        intsel = f .intsel;
+        inttrig = f .inttrig;
         ints = cond-cases (λ (n : ℕ). n < 2 ^ 32) (gpioSampled s levels kind .interrupt) (λ _. word-lt 32 _) (λ _. f .ints);
-        clksel = f .clksel; edgesel = f .edgesel }
+        clksel = f .clksel;
+        edgesel = f .edgesel;
+      }
 
 module _ (n : ℕ) (q : Request) where
   pub seu-fits : n < 2 ^ 32 → (enabled : Bool) → seuAnswer n enabled q .seu < 2 ^ 32

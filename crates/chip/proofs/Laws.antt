@@ -14,7 +14,7 @@ use Rattle.registers.specs.declared.request.Reply.{Reply}
 use Rattle.registers.specs.declared.request.Reply.the-variants.{Sent, Later}
 use Rattle.registers.specs.declared.spi.Spi.{Spi}
 use Rattle.registers.specs.declared.gpio.Gpio.{Gpio}
-use Rattle.bits.specs.Bits.{bitOf}
+use Rattle.bits.specs.Bits.{bitOf, digit}
 use Rattle.registers.specs.Controller.{controllerAnswer, controlZero, controlInRange, spiEnabled, gpioEnabled, seuEnabled, idEnabled}
 use Rattle.registers.specs.Spi.{spiZero, spiIsZero, spiBusy, spiAnswer, spiCompleted}
 use Rattle.registers.specs.Gpio.{gpioZero, gpioIsZero, gpioAnswer}
@@ -27,7 +27,7 @@ use Rattle.chip.specs.Answer.{padded, sends, gives}
 use Rattle.chip.specs.Link.{acknowledgeControl, rejectControl, replyControl, receiveUp, sendUp, reset}
 use Rattle.chip.specs.Request.{requestOf, replyBody, replies}
 use Rattle.chip.specs.Frame.{isConnect, isReset, isResetFrame, addressOf, controlOf, informationOf, commanded, onFrame}
-use Rattle.chip.specs.Chip.{receivedWords, reaction}
+use Rattle.chip.specs.Chip.{receivedWords, reaction, acceptedReset}
 use Rattle.chip.specs.declared.Adapter.{Adapter}
 use Rattle.chip.specs.declared.link.Link.{Link}
 use Rattle.chip.specs.declared.Reaction.{Reaction}
@@ -86,7 +86,7 @@ dropped-keeps a e =
       completes = λ _ _ _ h _. absurd (omega arith);
       interrupts = λ _ _ _ _ h _. absurd (omega arith);
       samples = λ _ _ _ _ _ h. absurd (omega arith);
-      upsets = λ _ h. absurd (omega arith)
+      upsets = λ _ h. absurd (omega arith);
     })
 
 -- an event gives 0 or 11 to 17, never 1 to 10
@@ -106,7 +106,7 @@ number-given a e =
       completes = λ _ _ _. inl refl;
       interrupts = λ _ _ _ _. inl refl;
       samples = λ _ _ _ _. inr (lit≤ tt, lit≤ tt);
-      upsets = inr (lit≤ tt, lit≤ tt)
+      upsets = inr (lit≤ tt, lit≤ tt);
     })
 
 -- a number other than 0 comes with port and length 0 and a body of zeros
@@ -126,7 +126,7 @@ silent a e =
       completes = λ _ _ _ h. absurd (h refl);
       interrupts = λ _ _ _ _ h. absurd (h refl);
       samples = λ _ _ _ _ _. refl;
-      upsets = λ _. refl
+      upsets = λ _. refl;
     })
 
 -- a frame that is sent has 2 to 16 bytes and leaves on port 0 or 1
@@ -149,7 +149,7 @@ sendable a e p f =
       completes = λ _ _ _ _. (lit≤ tt, lit≤ tt, p);
       interrupts = λ _ _ _ _ _. (lit≤ tt, lit≤ tt, p);
       samples = λ _ _ _ _ h. absurd (omega arith);
-      upsets = λ h. absurd (omega arith)
+      upsets = λ h. absurd (omega arith);
     })
 
 -- ---- the body
@@ -177,7 +177,7 @@ sixteen a e f =
       completes = λ received _ _. replied-length _ _ _ _ _ _;
       interrupts = λ levels kind _ _. replied-length _ _ _ _ _ _;
       samples = λ _ _ _ _. padded-length [] (lit≤ tt);
-      upsets = padded-length [] (lit≤ tt)
+      upsets = padded-length [] (lit≤ tt);
     })
 
 -- a list of bytes
@@ -249,13 +249,13 @@ body-bytes a e g f =
       echoes = λ port body h. padded-bytes body (subst EventFits h f .bytes);
       rejects = λ port body _. short-bytes (rejectControl a) (omega arith);
       answers = λ port body h b err len d t.
-        replied-bytes b _ _ err len d (drop-bytes 2 body (subst EventFits h f .bytes) 0) (drop-bytes 2 body (subst EventFits h f .bytes) 1)
-        (touched-reply _ _ _ _ t .0) (touched-reply _ _ _ _ t .1);
+          replied-bytes b _ _ err len d (drop-bytes 2 body (subst EventFits h f .bytes) 0) (drop-bytes 2 body (subst EventFits h f .bytes) 1)
+          (touched-reply _ _ _ _ t .0) (touched-reply _ _ _ _ t .1);
       starts = λ _ _ _ b _. padded-bytes [] none-bytes;
       completes = λ received _ _. replied-bytes _ _ _ _ _ _ (g .spi .go) (lit< tt) (lit< tt) (lit< tt);
       interrupts = λ levels kind _ _. replied-bytes _ _ _ _ _ _ (lit< tt) (lit< tt) (lit< tt) (lit< tt);
       samples = λ _ _ _ _. padded-bytes [] none-bytes;
-      upsets = padded-bytes [] none-bytes
+      upsets = padded-bytes [] none-bytes;
     })
 
 -- every reaction is a frame sent or a number given: so the bytes past the length are 0
@@ -275,7 +275,7 @@ spelled a e =
       completes = λ received _ _. framed _ _ _;
       interrupts = λ levels kind _ _. framed _ _ _;
       samples = λ _ _ _ _. given _ noFrame;
-      upsets = given _ noFrame
+      upsets = given _ noFrame;
     })
 
 -- ---- what stays
@@ -297,7 +297,7 @@ id-stays a e =
       completes = λ _ _ _. refl;
       interrupts = λ _ _ _ _. refl;
       samples = λ _ _ _ _. refl;
-      upsets = refl
+      upsets = refl;
     })
 
 -- only replies and interrupts raise the send number; CONNECT and RESET zero it
@@ -317,7 +317,7 @@ send-number a e =
       completes = λ received _ _. raised _ _ _ _ _ _ refl;
       interrupts = λ levels kind _ _. raised _ _ _ _ _ _ refl;
       samples = λ _ _ _ _. stays _ refl;
-      upsets = stays _ refl
+      upsets = stays _ refl;
     })
 
 -- ---- the ranges of the fields
@@ -346,7 +346,7 @@ powered-fits port id p h =
       gpio = gpio-zero-fits;
       dac = record { a = lit< tt; b = lit< tt; c = lit< tt; d = lit< tt };
       seu = lit< tt;
-      id = h
+      id = h;
     }
 
 pub power-on-fits : (id : ℕ) → id < 2 ^ 32 → Fits (powerOn id)
@@ -373,7 +373,7 @@ touched-fits a q b r by-controller f t v =
       gpio = cond-cases GpioFits (gpioEnabled (controllerAnswer (a .control) q .control)) (λ _. f .gpio) (λ _. gpio-zero-fits);
       dac = f .dac;
       seu = f .seu;
-      id = f .id
+      id = f .id;
     }
 touched-fits a q b r by-spi f t v =
     record { link = f .link; control = f .control; spi = Channels.spi-fits (a .spi) q (f .spi) v t (spiEnabled (a .control)); gpio = f .gpio; dac = f .dac; seu = f .seu; id = f .id }
@@ -414,13 +414,13 @@ fits-kept a e f g =
       echoes = λ _ _ _. f;
       rejects = λ _ _ _. f;
       answers = λ port body h b err len d t.
-        send-up-fits b (touched-fits _ _ b _ t (receive-up-fits a f) (request-trn body (subst EventFits h g .bytes)) (request-value body (subst EventFits h g .bytes)));
+          send-up-fits b (touched-fits _ _ b _ t (receive-up-fits a f) (request-trn body (subst EventFits h g .bytes)) (request-value body (subst EventFits h g .bytes)));
       starts = λ port body h b t.
-        touched-fits _ _ b _ t (receive-up-fits a f) (request-trn body (subst EventFits h g .bytes)) (request-value body (subst EventFits h g .bytes));
+          touched-fits _ _ b _ t (receive-up-fits a f) (request-trn body (subst EventFits h g .bytes)) (request-value body (subst EventFits h g .bytes));
       completes = λ received _ _. send-up-fits _ (with-spi-fits a (receivedWords received) f);
       interrupts = λ levels kind _ _. send-up-fits _ (with-gpio-fits a levels kind f);
       samples = λ levels kind _ _. with-gpio-fits a levels kind f;
-      upsets = record { link = f .link; control = f .control; spi = f .spi; gpio = f .gpio; dac = f .dac; seu = omega arith; id = f .id }
+      upsets = record { link = f .link; control = f .control; spi = f .spi; gpio = f .gpio; dac = f .dac; seu = omega arith; id = f .id };
     })
 
 -- ---- the range
@@ -445,8 +445,14 @@ or-by false b h = h refl
 pub in-range : (a : Adapter) → InRange a → inRange a ≡ true
 unfolding inRange
 in-range a r =
-    simp (le-leb _ _ (r .send), le-leb _ _ (r .receive), le-leb _ _ (r .port), le-leb _ _ (r .id), r .control,
-    or-by (spiEnabled (a .control)) (spiIsZero (a .spi)) (r .spi)) (or-by (gpioEnabled (a .control)) (gpioIsZero (a .gpio)) (r .gpio))
+    simp (
+      le-leb _ _ (r .send),
+      le-leb _ _ (r .receive),
+      le-leb _ _ (r .port),
+      le-leb _ _ (r .id),
+      r .control,
+      or-by (spiEnabled (a .control)) (spiIsZero (a .spi)) (r .spi),
+    ) (or-by (gpioEnabled (a .control)) (gpioIsZero (a .gpio)) (r .gpio))
 
 pub of-in-range : (a : Adapter) → inRange a ≡ true → InRange a
 unfolding inRange
@@ -470,7 +476,7 @@ of-in-range a h =
       id = leb-true _ _ (Channels.and-right (s && r && p) i h4);
       control = Channels.and-right (s && r && p && i) c h5;
       spi = or-second (spiEnabled (a .control)) (spiIsZero (a .spi)) (Channels.and-right (s && r && p && i && c) x h6);
-      gpio = or-second (gpioEnabled (a .control)) (gpioIsZero (a .gpio)) (Channels.and-right (s && r && p && i && c && x) y h)
+      gpio = or-second (gpioEnabled (a .control)) (gpioIsZero (a .gpio)) (Channels.and-right (s && r && p && i && c && x) y h);
     }
 
 spi-zero-is-zero : spiIsZero spiZero ≡ true
@@ -525,7 +531,7 @@ touched-in-range a q b r by-controller i =
       id = i .id;
       control = Channels.control-in-range (a .control) q (i .control);
       spi = held-spi (spiEnabled (controllerAnswer (a .control) q .control)) (a .spi);
-      gpio = held-gpio (gpioEnabled (controllerAnswer (a .control) q .control)) (a .gpio)
+      gpio = held-gpio (gpioEnabled (controllerAnswer (a .control) q .control)) (a .gpio);
     }
 touched-in-range a q b r by-spi i =
     record { send = i .send; receive = i .receive; port = i .port; id = i .id; control = i .control; spi = off-spi (a .spi) (spiEnabled (a .control)) q (i .spi); gpio = i .gpio }
@@ -578,8 +584,104 @@ range-stays a e i g =
       completes = λ received _ b. send-up-in-range _ (completed-in-range a _ i b);
       interrupts = λ levels kind _ on. send-up-in-range _ (sampled-in-range a _ i on);
       samples = λ levels kind _ on. sampled-in-range a _ i on;
-      upsets = record { send = i .send; receive = i .receive; port = i .port; id = i .id; control = i .control; spi = i .spi; gpio = i .gpio }
+      upsets = record { send = i .send; receive = i .receive; port = i .port; id = i .id; control = i .control; spi = i .spi; gpio = i .gpio };
     })
 
 pub range-kept : (a : Adapter) (e : Event) → inRange a ≡ true → EventFits e → inRange (reaction a e .adapter) ≡ true
 range-kept a e h g = in-range (reaction a e .adapter) (range-stays a e (of-in-range a h) g)
+
+-- ---- a disabled channel holds zeros
+
+four-zeros : (s : List ℕ) → length s ≡ 4 → getD s 0 0 ≡ 0 → getD s 1 0 ≡ 0 → getD s 2 0 ≡ 0 → getD s 3 0 ≡ 0 → s ≡ 0 ∷ 0 ∷ 0 ∷ 0 ∷ []
+four-zeros [] h p q r t = absurd (omega arith)
+four-zeros (a ∷ []) h p q r t = absurd (omega arith)
+four-zeros (a ∷ b ∷ []) h p q r t = absurd (omega arith)
+four-zeros (a ∷ b ∷ c ∷ []) h p q r t = absurd (omega arith)
+four-zeros (a ∷ b ∷ c ∷ d ∷ []) h p q r t = simp (p, q, r, t)
+four-zeros (a ∷ b ∷ c ∷ d ∷ e ∷ s) h p q r t = absurd (omega arith)
+
+spi-of : (control freq ss : ℕ) (words : List ℕ) (go : ℕ) → control ≡ 0 → freq ≡ 0 → ss ≡ 0 → words ≡ 0 ∷ 0 ∷ 0 ∷ 0 ∷ [] → go ≡ 0
+    → _≡_ {A = Spi} (record { control = control; freq = freq; ss = ss; words = words; go = go }) spiZero
+spi-of control freq ss words go a b c d e = simp (a, b, c, d, e)
+
+zero-spi : (s : Spi) → length (s .words) ≡ 4 → spiIsZero s ≡ true → s ≡ spiZero
+unfolding spiIsZero
+zero-spi s four h =
+    let h1 = Channels.and-right (eqb (s .control) 0) _ h in
+    let h2 = Channels.and-right (eqb (s .freq) 0) _ h1 in
+    let h3 = Channels.and-right (eqb (s .ss) 0) _ h2 in
+    let h4 = Channels.and-right (eqb (getD (s .words) 0 0) 0) _ h3 in
+    let h5 = Channels.and-right (eqb (getD (s .words) 1 0) 0) _ h4 in
+    let h6 = Channels.and-right (eqb (getD (s .words) 2 0) 0) _ h5 in
+    let h7 = Channels.and-right (eqb (getD (s .words) 3 0) 0) _ h6 in
+    let words =
+    four-zeros (s .words) four (eqb-true _ 0 (Channels.and-left (eqb (getD (s .words) 0 0) 0) _ h3))
+    (eqb-true _ 0 (Channels.and-left (eqb (getD (s .words) 1 0) 0) _ h4)) (eqb-true _ 0 (Channels.and-left (eqb (getD (s .words) 2 0) 0) _ h5))
+    (eqb-true _ 0 (Channels.and-left (eqb (getD (s .words) 3 0) 0) _ h6)) in
+    let control = eqb-true _ 0 (Channels.and-left (eqb (s .control) 0) _ h) in
+    let freq = eqb-true _ 0 (Channels.and-left (eqb (s .freq) 0) _ h1) in
+    let ss = eqb-true _ 0 (Channels.and-left (eqb (s .ss) 0) _ h2) in
+    let go = eqb-true _ 0 (Channels.and-left (eqb (s .go) 0) true h7) in
+    spi-of _ _ _ _ _ control freq ss words go
+
+no-digit : (b : Bool) → eqb (digit b) 0 ≡ true → b ≡ false
+no-digit true h = sym h
+no-digit false h = refl
+
+gpio-of : (dataout datain direction intsel inttrig ints clksel edgesel : ℕ) (intenable : Bool) → dataout ≡ 0 → datain ≡ 0 → direction ≡ 0
+    → intsel ≡ 0 → inttrig ≡ 0 → ints ≡ 0 → clksel ≡ 0 → edgesel ≡ 0 → intenable ≡ false
+    → _≡_ {A = Gpio} (record { dataout = dataout; datain = datain; direction = direction; intsel = intsel; inttrig = inttrig; ints = ints; clksel = clksel; edgesel = edgesel; intenable = intenable }) gpioZero
+gpio-of dataout datain direction intsel inttrig ints clksel edgesel intenable e1 e2 e3 e4 e5 e6 e7 e8 e9 =
+    simp (e1, e2, e3, e4, e5, e6, e7, e8, e9)
+
+zero-gpio : (g : Gpio) → gpioIsZero g ≡ true → g ≡ gpioZero
+unfolding gpioIsZero
+zero-gpio g h =
+    let h1 = Channels.and-right (eqb (g .dataout) 0) _ h in
+    let h2 = Channels.and-right (eqb (g .datain) 0) _ h1 in
+    let h3 = Channels.and-right (eqb (g .direction) 0) _ h2 in
+    let h4 = Channels.and-right (eqb (g .intsel) 0) _ h3 in
+    let h5 = Channels.and-right (eqb (g .inttrig) 0) _ h4 in
+    let h6 = Channels.and-right (eqb (g .ints) 0) _ h5 in
+    let h7 = Channels.and-right (eqb (g .clksel) 0) _ h6 in
+    let h8 = Channels.and-right (eqb (g .edgesel) 0) _ h7 in
+    let e1 = eqb-true _ 0 (Channels.and-left (eqb (g .dataout) 0) _ h) in
+    let e2 = eqb-true _ 0 (Channels.and-left (eqb (g .datain) 0) _ h1) in
+    let e3 = eqb-true _ 0 (Channels.and-left (eqb (g .direction) 0) _ h2) in
+    let e4 = eqb-true _ 0 (Channels.and-left (eqb (g .intsel) 0) _ h3) in
+    let e5 = eqb-true _ 0 (Channels.and-left (eqb (g .inttrig) 0) _ h4) in
+    let e6 = eqb-true _ 0 (Channels.and-left (eqb (g .ints) 0) _ h5) in
+    let e7 = eqb-true _ 0 (Channels.and-left (eqb (g .clksel) 0) _ h6) in
+    let e8 = eqb-true _ 0 (Channels.and-left (eqb (g .edgesel) 0) _ h7) in
+    let e9 = no-digit (g .intenable) (Channels.and-left (eqb (digit (g .intenable)) 0) true h8) in
+    gpio-of _ _ _ _ _ _ _ _ _ e1 e2 e3 e4 e5 e6 e7 e8 e9
+
+pub disabled-spi : (a : Adapter) → inRange a ≡ true → Fits a → spiEnabled (a .control) ≡ false → a .spi ≡ spiZero
+disabled-spi a h f off = zero-spi (a .spi) (f .spi .four) (of-in-range a h .spi off)
+
+pub disabled-gpio : (a : Adapter) → inRange a ≡ true → gpioEnabled (a .control) ≡ false → a .gpio ≡ gpioZero
+disabled-gpio a h off = zero-gpio (a .gpio) (of-in-range a h .gpio off)
+
+-- ---- RESET
+
+either : (c m n : ℕ) → (eqb c m || eqb c n) ≡ true → (P : ℕ → Type 0) → P m → P n → P c
+either c m n h P p q =
+    elim-eq (eqb c m) refl
+  where
+    elim-eq : (t : Bool) → eqb c m ≡ t → P c
+    elim-eq true e = subst P (sym (eqb-true c m e)) p
+    elim-eq false e = subst P (sym (eqb-true c n (or-second (eqb c m) (eqb c n) h e))) q
+
+not-connect : (c : ℕ) → isReset c ≡ true → isConnect c ≡ false
+not-connect c h = either c 0x8F 0x9F h (λ (n : ℕ). isConnect n ≡ false) refl refl
+
+-- an accepted RESET acknowledges on its port and leaves power-on with that port active; only the ID stays
+pub accepted-reset : (a : Adapter) (port : ℕ) (body : List ℕ) → acceptedReset (frame port body) ≡ true
+    → reaction a (frame port body) ≡ sends (poweredOn port (a .id)) port (0x00 ∷ acknowledgeControl (controlOf body) ∷ [])
+unfolding reaction onFrame commanded isResetFrame
+accepted-reset a port body h =
+    let h1 = Channels.and-left (eqb (addressOf body) 0x00 && isReset (controlOf body)) (eqb (length (informationOf body)) 0) h in
+    let address = Channels.and-left (eqb (addressOf body) 0x00) (isReset (controlOf body)) h1 in
+    let command = Channels.and-right (eqb (addressOf body) 0x00) (isReset (controlOf body)) h1 in
+    let empty = Channels.and-right (eqb (addressOf body) 0x00 && isReset (controlOf body)) (eqb (length (informationOf body)) 0) h in
+    simp (address, not-connect (controlOf body) command, command, empty)

@@ -39,7 +39,7 @@ requestOf info =
       ch = getD info 1 0;
       len = getD info 2 0;
       cmd = getD info 3 0;
-      value = fourBytes (getD info 6 0) (getD info 7 0) (getD info 4 0) (getD info 5 0)
+      value = fourBytes (getD info 6 0) (getD info 7 0) (getD info 4 0) (getD info 5 0);
     }
 
 -- byte k of D: D[7:0], D[15:8], D[23:16], D[31:24]

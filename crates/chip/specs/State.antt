@@ -27,7 +27,7 @@ poweredOn port id =
       gpio = gpioZero;
       dac = dacZero;
       seu = 0;
-      id = id
+      id = id;
     }
 
 -- Power-on: port 0 active.
@@ -62,7 +62,7 @@ withControl a c =
       gpio = cond (gpioEnabled c) (a .gpio) gpioZero;
       dac = a .dac;
       seu = a .seu;
-      id = a .id
+      id = a .id;
     }
 
 abbrev pub withSpi : Adapter → Spi → Adapter

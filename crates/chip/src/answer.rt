@@ -3,17 +3,23 @@ ghost use mathlib.Core.Path.{_≡_};
 ghost use Prim.Native.Nat.{_≤_};
 ghost use lib.ListN.{length};
 ghost use Rattle.chip.specs.Answer.{padded, sends, gives};
-
 use crate::Adapter;
 use crate::Reaction;
 
 pub(crate) const SENT: u8 = 0;
+
 pub(crate) const OTHER_ADDRESS: u8 = 11;
+
 pub(crate) const OTHER_PORT: u8 = 12;
+
 pub(crate) const OTHER_CONTROL: u8 = 13;
+
 pub(crate) const WRONG_LENGTH: u8 = 14;
+
 pub(crate) const NOT_BUSY: u8 = 15;
+
 pub(crate) const LINES_DISABLED: u8 = 16;
+
 pub(crate) const NO_FRAME: u8 = 17;
 
 // A body at the front of 16 bytes, the rest 0.

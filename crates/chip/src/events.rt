@@ -4,7 +4,6 @@ ghost use Prim.Native.Nat.{_+_, _≤_, _<_};
 ghost use lib.ListN.{length};
 ghost use Rattle.chip.specs.Event.{Event, frame, completion, sample, upset};
 ghost use Rattle.chip.specs.Chip.{receivedWord, receivedWords, reaction, acceptedReset};
-
 use crate::Adapter;
 use crate::Reaction;
 use crate::answer;
@@ -17,7 +16,9 @@ use registers::spi;
 
 // The channels of a GO's reply and of an interrupt, and an interrupt's LEN.
 const SPI_CHANNEL: u8 = 0x01;
+
 const GPIO_CHANNEL: u8 = 0x02;
+
 const INTERRUPT_LENGTH: u8 = 4;
 
 // A frame body on a port.
@@ -41,7 +42,12 @@ fn received_word(received: &[u8], k: usize) -> u32
     requires { ⌜ k + 3 < length (now received) ⌝ }
     ensures { λ r. ⌜ r ≡ receivedWord (now (received .entry)) k ⌝ }
 {
-    four_bytes(received[k], received[k + 1], received[k + 2], received[k + 3])
+    four_bytes(
+        received[k],
+        received[k + 1],
+        received[k + 2],
+        received[k + 3],
+    )
 }
 
 // All 128, byte 0 holding bits 7 to 0.
@@ -86,7 +92,14 @@ pub fn on_sample(a: Adapter, levels: u32, kind: u8) -> Reaction
         let after = x.gpio;
         b.gpio = after;
         if x.interrupt {
-            request::reply(b, request::INTERRUPT, GPIO_CHANNEL, 0, INTERRUPT_LENGTH, after.ints)
+            request::reply(
+                b,
+                request::INTERRUPT,
+                GPIO_CHANNEL,
+                0,
+                INTERRUPT_LENGTH,
+                after.ints,
+            )
         } else {
             answer::give(b, answer::NO_FRAME)
         }

@@ -3,7 +3,6 @@ ghost use mathlib.Core.Path.{_≡_};
 ghost use Prim.Native.Nat.{_≤_};
 ghost use lib.ListN.{length};
 ghost use Rattle.chip.specs.Frame.{isConnect, isReset, isResetFrame, isTest, commanded, numbered, carried, onFrame};
-
 use crate::Adapter;
 use crate::Reaction;
 use crate::answer;
@@ -13,31 +12,49 @@ use crate::state;
 
 // Each command without and with its bit 4.
 const CONNECT: u8 = 0x2F;
+
 const CONNECT_POLL: u8 = 0x3F;
+
 const RESET: u8 = 0x8F;
+
 const RESET_POLL: u8 = 0x9F;
+
 const TEST: u8 = 0xE3;
+
 const TEST_POLL: u8 = 0xF3;
 // Bit 0 is set in a control that carries no request.
 const UNNUMBERED: u8 = 0x01;
+
 const INFORMATION: usize = 8;
 
 fn is_connect(control: u8) -> bool
     ensures { λ r. ⌜ r ≡ isConnect control ⌝ }
 {
-    if control == CONNECT { true } else { control == CONNECT_POLL }
+    if control == CONNECT {
+        true
+    } else {
+        control == CONNECT_POLL
+    }
 }
 
 fn is_reset(control: u8) -> bool
     ensures { λ r. ⌜ r ≡ isReset control ⌝ }
 {
-    if control == RESET { true } else { control == RESET_POLL }
+    if control == RESET {
+        true
+    } else {
+        control == RESET_POLL
+    }
 }
 
 fn is_test(control: u8) -> bool
     ensures { λ r. ⌜ r ≡ isTest control ⌝ }
 {
-    if control == TEST { true } else { control == TEST_POLL }
+    if control == TEST {
+        true
+    } else {
+        control == TEST_POLL
+    }
 }
 
 // A body that is RESET: the chip's address, RESET's control, no information.

@@ -2,7 +2,6 @@
 ghost use mathlib.Core.Path.{_≡_};
 ghost use Rattle.chip.specs.State.{freshLink};
 ghost use Rattle.chip.specs.Link.{sendUp, receiveUp, sendNumber, receiveNumber, numberIn, packed, replyControl, rejectControl, acknowledgeControl, connected, looped, inLoopback};
-
 use crate::Adapter;
 
 // Two types, so that a reply's control cannot take one number for the other.
@@ -22,13 +21,19 @@ pub struct Link {
 pub(crate) const ADDRESS: u8 = 0x00;
 // The numbers count modulo 8.
 const NUMBERS: u8 = 8;
+
 const NUMBER_MASK: u8 = 7;
 // The numbers stand from bit 1 and from bit 5 of a control field.
 const SEND_SHIFT: u8 = 1;
+
 const RECEIVE_SHIFT: u8 = 5;
+
 const REJECT: u8 = 0x0D;
+
 const ACKNOWLEDGE: u8 = 0x63;
+
 const ACKNOWLEDGE_FINAL: u8 = 0x73;
+
 const POLL: u8 = 0x10;
 
 pub(crate) fn send_up(a: Adapter) -> Adapter
@@ -86,7 +91,11 @@ pub(crate) fn reject_control(a: Adapter) -> u8
 pub(crate) fn acknowledge_control(control: u8) -> u8
     ensures { λ r. ⌜ r ≡ acknowledgeControl control ⌝ }
 {
-    if control & POLL != 0 { ACKNOWLEDGE_FINAL } else { ACKNOWLEDGE }
+    if control & POLL != 0 {
+        ACKNOWLEDGE_FINAL
+    } else {
+        ACKNOWLEDGE
+    }
 }
 
 // Both numbers 0, no loopback.

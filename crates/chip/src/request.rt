@@ -4,7 +4,6 @@ ghost use Prim.Native.Nat.{_+_, _*_, _^_, _<_};
 ghost use lib.ListN.{length, getD};
 ghost use Rattle.chip.specs.State.{withControl};
 ghost use Rattle.chip.specs.Request.{fourBytes, requestOf, byteOf, onChannel, answered, replies, finished, requested};
-
 use crate::Adapter;
 use crate::Reaction;
 use crate::answer;
@@ -26,6 +25,7 @@ use registers::spi;
 
 // No request has these; the second is an interrupt's.
 const NO_TRANSACTION: u8 = 0x00;
+
 pub(crate) const INTERRUPT: u8 = 0xFF;
 
 // What a request leaves of the state, and its reply.
@@ -85,41 +85,62 @@ fn on_channel(a: Adapter, q: Request, which: Channel) -> Answered
             let c = x.control;
             let after = with_control(a, c);
             let told = x.reply;
-            Answered { adapter: after, reply: told }
+            Answered {
+                adapter: after,
+                reply: told,
+            }
         }
         Channel::Spi => {
             let s = a.spi;
             let x = spi::answer(s, controller::spi_enabled(control), q);
             let after = x.spi;
             let told = x.reply;
-            Answered { adapter: Adapter { spi: after, ..a }, reply: told }
+            Answered {
+                adapter: Adapter { spi: after, ..a },
+                reply: told,
+            }
         }
         Channel::Gpio => {
             let g = a.gpio;
             let x = gpio::answer(g, controller::gpio_enabled(control), q);
             let after = x.gpio;
             let told = x.reply;
-            Answered { adapter: Adapter { gpio: after, ..a }, reply: told }
+            Answered {
+                adapter: Adapter { gpio: after, ..a },
+                reply: told,
+            }
         }
         Channel::Seu => {
             let x = seu::answer(a.seu, controller::seu_enabled(control), q);
             let told = x.reply;
-            Answered { adapter: Adapter { seu: x.seu, ..a }, reply: told }
+            Answered {
+                adapter: Adapter { seu: x.seu, ..a },
+                reply: told,
+            }
         }
         Channel::Id => {
             let told = chip_id::answer(a.id, controller::id_enabled(control), q);
-            Answered { adapter: a, reply: told }
+            Answered {
+                adapter: a,
+                reply: told,
+            }
         }
         Channel::Dac => {
             let o = a.dac;
             let x = dac::answer(o, q);
             let after = x.dac;
             let told = x.reply;
-            Answered { adapter: Adapter { dac: after, ..a }, reply: told }
+            Answered {
+                adapter: Adapter { dac: after, ..a },
+                reply: told,
+            }
         }
         Channel::Unknown => {
             let told = refusal(CH_UNKNOWN);
-            Answered { adapter: a, reply: told }
+            Answered {
+                adapter: a,
+                reply: told,
+            }
         }
     }
 }
@@ -130,11 +151,17 @@ fn answer_to(a: Adapter, q: Request) -> Answered
     let trn = q.trn;
     if trn == NO_TRANSACTION {
         let told = refusal(TRN_WRONG);
-        return Answered { adapter: a, reply: told };
+        return Answered {
+            adapter: a,
+            reply: told,
+        };
     }
     if trn == INTERRUPT {
         let told = refusal(TRN_WRONG);
-        return Answered { adapter: a, reply: told };
+        return Answered {
+            adapter: a,
+            reply: told,
+        };
     }
     on_channel(a, q, channel::channel_of(q.ch))
 }
@@ -171,7 +198,11 @@ pub(crate) fn finish(a: Adapter, trn: u8, ch: u8, told: Reply) -> Reaction
     ensures { λ r. ⌜ r ≡ finished a trn ch told ⌝ }
 {
     match told {
-        Reply::Sent { error, length, value } => reply(a, trn, ch, error, length, value),
+        Reply::Sent {
+            error,
+            length,
+            value,
+        } => reply(a, trn, ch, error, length, value),
         Reply::Later => answer::give(a, answer::NO_FRAME),
     }
 }

@@ -2,7 +2,6 @@
 ghost use mathlib.Core.Path.{_≡_};
 ghost use Rattle.chip.specs.State.{poweredOn, powerOn, inRange};
 ghost use Rattle.chip.specs.Link.{reset};
-
 use crate::Adapter;
 use crate::link;
 use registers::controller;
@@ -11,7 +10,9 @@ use registers::gpio;
 use registers::spi;
 
 const LAST_NUMBER: u8 = 7;
+
 const LAST_PORT: u8 = 1;
+
 const LAST_ID: u32 = 0xFFFFFF;
 
 // Power-on with a port active.
