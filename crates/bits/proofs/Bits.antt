@@ -116,6 +116,10 @@ bit-word (suc k) f (suc i) h =
 pub is-word : (k a : ℕ) (f : ℕ → Bool) → a < 2 ^ k → ((i : ℕ) → i < k → bitOf a i ≡ f i) → a ≡ word k f
 is-word k a f ha h = bits-ext k a (word k f) ha (word-lt k f) (λ i l. h i l ∙ sym (bit-word k f i l))
 
+-- two rules that agree below k spell one word
+pub word-same : (k : ℕ) (f g : ℕ → Bool) → ((i : ℕ) → i < k → f i ≡ g i) → word k f ≡ word k g
+word-same k f g h = is-word k (word k f) g (word-lt k f) (λ i l. bit-word k f i l ∙ h i l)
+
 -- `n & (1 << k) != 0`
 one-bit : (q m : ℕ) → q < 2 → 0 < m → not (eqb (q * m) 0) ≡ eqb q 1
 one-bit zero m h p = let e : 0 * m ≡ 0 = omega arith in rw e

@@ -3,3 +3,4 @@ pub mod Masks
 pub mod Packing
 pub mod Rows
 pub mod Taut
+pub mod Tests

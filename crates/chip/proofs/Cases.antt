@@ -14,8 +14,8 @@ use Rattle.bits.specs.Bits.{bitOf}
 use Rattle.bits.proofs.Bits.{bit-test}
 use Rattle.chip.specs.Numbers.{otherAddress, otherPort, otherControl, wrongLength}
 use Rattle.chip.specs.Answer.{sends, gives}
-use Rattle.chip.specs.Link.{acknowledgeControl, rejectControl, receiveNumber, receiveUp, numberIn, connected, reset, looped, inLoopback}
-use Rattle.chip.specs.Request.{requested}
+use Rattle.chip.specs.Link.{acknowledgeControl, rejectControl, replyControl, receiveNumber, receiveUp, sendUp, numberIn, connected, reset, looped, inLoopback}
+use Rattle.chip.specs.Request.{byteOf, replies, requested}
 use Rattle.chip.specs.Frame.{isConnect, isReset, isResetFrame, isTest, commanded, numbered, carried, onFrame}
 use Rattle.chip.specs.declared.Adapter.{Adapter}
 use Rattle.chip.specs.declared.Reaction.{Reaction}
@@ -133,3 +133,11 @@ module _ (s : List ℕ) where
   pub reset-command : getD s 0 0 ≡ 0 → (t : Bool) → t ≡ isReset (getD s 1 0) → t ≡ true → 2 ≤ length s → eqb (length s) 2 ≡ isResetFrame s
   unfolding isResetFrame
   reset-command z t p e h = simp (eq-eqb _ _ z, sym p ∙ e) (emptied s h)
+
+-- ---- replies
+
+module _ (a : Adapter) (trn ch err len d : ℕ) (r : Reaction) where
+  pub replied : (b : Adapter) (k d2 d3 d0 d1 : ℕ) → r ≡ sends b (a .link .port) (0 ∷ k ∷ trn ∷ ch ∷ err ∷ len ∷ d2 ∷ d3 ∷ d0 ∷ d1 ∷ [])
+      → b ≡ sendUp a → k ≡ replyControl a → d2 ≡ byteOf d 2 → d3 ≡ byteOf d 3 → d0 ≡ byteOf d 0 → d1 ≡ byteOf d 1 → r ≡ replies a trn ch err len d
+  unfolding replies
+  replied b k d2 d3 d0 d1 e p q e2 e3 e0 e1 = simp (e, p, q, e2, e3, e0, e1)

@@ -35,12 +35,23 @@ linesDisabled = 16
 abbrev pub noFrame : ℕ
 noFrame = 17
 
--- ---- ERR, one bit (Table 4.2). The channels give the others
+-- ---- TRN and CH
 
--- TRN 0x00 or 0xFF
-abbrev pub badTransaction : ℕ
-badTransaction = 0x08
+-- a request's TRN is neither of these; an interrupt's is the second
+abbrev pub noTransaction : ℕ
+noTransaction = 0x00
 
--- CH unknown
-abbrev pub unknownChannel : ℕ
-unknownChannel = 0x02
+abbrev pub interruptTransaction : ℕ
+interruptTransaction = 0xFF
+
+-- the channel of a GO's reply
+abbrev pub spiChannel : ℕ
+spiChannel = 0x01
+
+-- the channel of an interrupt
+abbrev pub gpioChannel : ℕ
+gpioChannel = 0x02
+
+-- an interrupt's LEN
+abbrev pub interruptLength : ℕ
+interruptLength = 4

@@ -1,13 +1,15 @@
 -- The chip's state: at power-on, in range, and with one part of it anew.
 use Prim.Native.Nat.{ℕ}
-use mathlib.Core.Bool.{Bool, false, _&&_}
+use mathlib.Core.Bool.{Bool, false, _&&_, _||_, cond}
 use lib.Dec.{leb}
 use Rattle.registers.specs.declared.controller.Control.{Control}
 use Rattle.registers.specs.declared.spi.Spi.{Spi}
 use Rattle.registers.specs.declared.gpio.Gpio.{Gpio}
 use Rattle.registers.specs.declared.dac.Dac.{Dac}
-use Rattle.bits.specs.Bits.{bitOf}
-use Rattle.chip.specs.Channels.{spiZero, gpioZero, controlZero, dacZero, controlInRange, spiInRange, gpioInRange}
+use Rattle.registers.specs.Controller.{controlZero, controlInRange, spiEnabled, gpioEnabled}
+use Rattle.registers.specs.Spi.{spiZero, spiIsZero}
+use Rattle.registers.specs.Gpio.{gpioZero, gpioIsZero}
+use Rattle.registers.specs.Dac.{dacZero}
 use Rattle.chip.specs.declared.Adapter.{Adapter}
 use Rattle.chip.specs.declared.link.Link.{Link}
 
@@ -32,13 +34,6 @@ poweredOn port id =
 abbrev pub powerOn : ℕ → Adapter
 powerOn id = poweredOn 0 id
 
--- CRB bit 1 enables SPI, bit 2 GPIO.
-abbrev pub spiEnabled : Adapter → Bool
-spiEnabled a = bitOf (a .control .crb) 1
-
-abbrev pub gpioEnabled : Adapter → Bool
-gpioEnabled a = bitOf (a .control .crb) 2
-
 -- Not a link number over 7, port over 1, ID over 24 bits, a set bit that reads 0, a disabled SPI or GPIO register not 0, a GO open
 -- with SPI disabled.
 unfoldable pub inRange : Adapter → Bool
@@ -48,8 +43,8 @@ inRange a =
     && leb (a .link .port) 1
     && leb (a .id) 0xFFFFFF
     && controlInRange (a .control)
-    && spiInRange (spiEnabled a) (a .spi)
-    && gpioInRange (gpioEnabled a) (a .gpio)
+    && (spiEnabled (a .control) || spiIsZero (a .spi))
+    && (gpioEnabled (a .control) || gpioIsZero (a .gpio))
 
 -- ---- one part anew
 
@@ -57,9 +52,18 @@ abbrev pub withLink : Adapter → Link → Adapter
 withLink a l =
     record { link = l; control = a .control; spi = a .spi; gpio = a .gpio; dac = a .dac; seu = a .seu; id = a .id }
 
+-- A disabled SPI or GPIO holds all its registers at 0, and an open GO is dropped; the SEU counter and ID aren't touched.
 abbrev pub withControl : Adapter → Control → Adapter
 withControl a c =
-    record { link = a .link; control = c; spi = a .spi; gpio = a .gpio; dac = a .dac; seu = a .seu; id = a .id }
+    record {
+      link = a .link;
+      control = c;
+      spi = cond (spiEnabled c) (a .spi) spiZero;
+      gpio = cond (gpioEnabled c) (a .gpio) gpioZero;
+      dac = a .dac;
+      seu = a .seu;
+      id = a .id;
+    }
 
 abbrev pub withSpi : Adapter → Spi → Adapter
 withSpi a s =

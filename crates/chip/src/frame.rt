@@ -10,7 +10,6 @@ use crate::link;
 use crate::request;
 use crate::state;
 
-const ADDRESS: u8 = 0x00;
 // Each command without and with its bit 4.
 const CONNECT: u8 = 0x2F;
 
@@ -63,7 +62,7 @@ pub(crate) fn resets(body: &[u8]) -> bool
     requires { ⌜ 2 ≤ length (now body) ⌝ }
     ensures { λ r. ⌜ r ≡ isResetFrame (now (body .entry)) ⌝ }
 {
-    if body[0] != ADDRESS {
+    if body[0] != link::ADDRESS {
         return false;
     }
     if is_reset(body[1]) {
@@ -79,7 +78,7 @@ fn command(a: Adapter, b: Adapter, port: u8, body: &[u8]) -> Reaction
     ensures { λ r. ⌜ r ≡ commanded a b port (now (body .entry)) ⌝ }
 {
     if body.len() == 2 {
-        let acknowledgement = [ADDRESS, link::acknowledge_control(body[1])];
+        let acknowledgement = [link::ADDRESS, link::acknowledge_control(body[1])];
         answer::send(b, port, &acknowledgement)
     } else {
         answer::give(a, answer::WRONG_LENGTH)
@@ -94,7 +93,7 @@ fn in_order(a: Adapter, port: u8, control: u8, info: &[u8]) -> Reaction
     if link::number_in(control) == link::receive_number(a) {
         request::request(link::receive_up(a), info)
     } else {
-        let reject = [ADDRESS, link::reject_control(a)];
+        let reject = [link::ADDRESS, link::reject_control(a)];
         answer::send(a, port, &reject)
     }
 }
@@ -121,7 +120,7 @@ pub(crate) fn check(a: Adapter, port: u8, body: &[u8]) -> Reaction
     requires { ⌜ (2 ≤ length (now body)) × (length (now body) ≤ 16) ⌝ }
     ensures { λ r. ⌜ r ≡ onFrame a port (now (body .entry)) ⌝ }
 {
-    if body[0] != ADDRESS {
+    if body[0] != link::ADDRESS {
         return answer::give(a, answer::OTHER_ADDRESS);
     }
     let control = body[1];

@@ -1,5 +1,6 @@
 // The link: its numbers, its active port, the ports in loopback, its control field and commands.
 ghost use mathlib.Core.Path.{_≡_};
+ghost use Rattle.chip.specs.State.{freshLink};
 ghost use Rattle.chip.specs.Link.{sendUp, receiveUp, sendNumber, receiveNumber, numberIn, packed, replyControl, rejectControl, acknowledgeControl, connected, looped, inLoopback};
 use crate::Adapter;
 
@@ -16,6 +17,8 @@ pub struct Link {
     pub loop1: bool,
 }
 
+// The chip's address.
+pub(crate) const ADDRESS: u8 = 0x00;
 // The numbers count modulo 8.
 const NUMBERS: u8 = 8;
 
@@ -95,17 +98,25 @@ pub(crate) fn acknowledge_control(control: u8) -> u8
     }
 }
 
-pub(crate) fn connect(a: Adapter, port: u8) -> Adapter
-    ensures { λ r. ⌜ r ≡ connected a port ⌝ }
+// Both numbers 0, no loopback.
+pub(crate) fn fresh(port: u8) -> Link
+    ensures { λ r. ⌜ r ≡ freshLink port ⌝ }
 {
-    let link = Link {
+    Link {
         send: SendNumber(0),
         receive: ReceiveNumber(0),
         port: port,
         loop0: false,
         loop1: false,
-    };
-    Adapter { link: link, ..a }
+    }
+}
+
+pub(crate) fn connect(a: Adapter, port: u8) -> Adapter
+    ensures { λ r. ⌜ r ≡ connected a port ⌝ }
+{
+    let mut b = a;
+    b.link = fresh(port);
+    b
 }
 
 pub(crate) fn loop_back(a: Adapter, port: u8) -> Adapter

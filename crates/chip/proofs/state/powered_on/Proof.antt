@@ -1,4 +1,4 @@
-use mathlib.Core.Path.{refl}
+use borrow.Author.Needs.{needs}
 use Rattle.chip.specs.State.{poweredOn}
 use Rattle.chip.proofs.state.powered_on.Statement.{statement}
 use Rattle.chip.proofs.state.powered_on.Tie as tie
@@ -8,4 +8,9 @@ unfolding poweredOn
 powered-on-spec =
     tie.close
     (tie.spec
-    (λ c. refl))
+    (λ c κs. search needs)
+    (λ c κs. search needs)
+    (λ c κs. search needs)
+    (λ c κs. search needs)
+    (λ c κs. search needs)
+    (λ c. simp (c .zero4 .ensures, c .before .zero3 .ensures, c .before .before .zero2 .ensures, c .before .before .before .zero .ensures, c .before .before .before .before .fresh .ensures)))

@@ -1,0 +1,9 @@
+pub mod ChipIdAnswers
+pub mod ControllerAnswers
+pub mod DacAnswers
+pub mod GpioAnswers
+pub mod Pins
+pub mod Ranges
+pub mod SeuAnswers
+pub mod SpiAnswers
+pub mod Transfer

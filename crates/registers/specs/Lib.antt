@@ -1,0 +1,9 @@
+pub mod Request
+pub mod Channels
+pub mod Controller
+pub mod Spi
+pub mod Gpio
+pub mod Pins
+pub mod Seu
+pub mod ChipId
+pub mod Dac
