@@ -7,18 +7,19 @@ use native.Mathlib.Omega.{arith}
 use lib.ListN.{length, take}
 use lib.Seq.{length-take-le}
 use borrow.Author.Needs.{length-unmapped}
-use lib.Dec.{eqb, ltb}
+use lib.Dec.{eqb, ltb, lit≤}
 use borrow.Author.Tests.{eq-eqb, ne-eqb, lt-ltb, le-ltb, ltb-false, eqb-true, not-false}
 use Rattle.chip.specs.declared.Adapter.{Adapter}
 use Rattle.chip.specs.declared.Reaction.{Reaction}
 use Rattle.chip.specs.Event.{Event, frame, completion}
 use Rattle.chip.specs.Chip.{reaction, acceptedReset}
 use Rattle.chip.specs.State.{powerOn, inRange}
+use Rattle.chip.specs.Request.{replies}
+use Rattle.chip.proofs.Steps.{step-cases}
 use Rattle.parts.specs.Parts.{put}
 use Rattle.journal.specs.Layout.{version1, sizeOf, keptOf, wellFormed, past, emptied, pushed, lowered}
 use Rattle.journal.specs.declared.Restored.{Restored}
 use Rattle.journal.specs.Record.{before, restored, sound, restoredBy}
-use Rattle.adapter.proofs.Short.{short}
 use Rattle.adapter.specs.declared.Answer.{Answer}
 use Rattle.adapter.specs.declared.Created.{Created}
 use Rattle.adapter.specs.declared.KeptNumber.{KeptNumber}
@@ -154,12 +155,6 @@ module _ (a : Adapter) (j : List ℕ) (e : Event) (o : List ℕ) (v : Verdict)
         body = p .4;
       }
 
--- what keeping an event asks
-pub keepable : (a : Adapter) (j : List ℕ) (e : Event) (o : List ℕ) (r : Reaction) → Passing a j e o → r ≡ reaction a e
-    → (wellFormed version1 j ≡ true) × ((16 ≤ length o) × (r .length ≤ 16))
-keepable a j e o r p h = (p .formed, (p .room, rw h (short a e (p .body))))
-
--- what a frame, a completion and a sample that nothing refuses are
 or-left : (x y : Bool) → (x || y) ≡ false → x ≡ false
 or-left false y h = refl
 or-left true y h = h
@@ -168,6 +163,35 @@ or-right : (x y : Bool) → (x || y) ≡ false → y ≡ false
 or-right false y h = h
 or-right true y h = absurd (true≢false h)
 
+-- no frame has over 16 bytes
+under-16 : (e : Event) (port : ℕ) (body : List ℕ) → e ≡ frame port body → wrongBody e ≡ false → length body ≤ 16
+under-16 e port body g h = ltb-false 16 (length body) (or-right (ltb (length body) 2) _ (rw g at h))
+
+pub short : (a : Adapter) (e : Event) → wrongBody e ≡ false → reaction a e .length ≤ 16
+unfolding replies
+short a e h =
+    step-cases a e (λ (r : Reaction). r .length ≤ 16)
+    (record {
+      drops = λ _ _ _. lit≤ tt;
+      connects = λ _ _ _. lit≤ tt;
+      resets = λ _ _ _. lit≤ tt;
+      tests = λ _ _ _. lit≤ tt;
+      echoes = λ port body g. under-16 e port body g h;
+      rejects = λ _ _ _. lit≤ tt;
+      answers = λ _ _ _ _ _ _ _ _. lit≤ tt;
+      starts = λ _ _ _ _ _. lit≤ tt;
+      completes = λ _ _ _. lit≤ tt;
+      interrupts = λ _ _ _ _. lit≤ tt;
+      samples = λ _ _ _ _. lit≤ tt;
+      upsets = lit≤ tt;
+    })
+
+-- what keeping an event asks
+pub keepable : (a : Adapter) (j : List ℕ) (e : Event) (o : List ℕ) (r : Reaction) → Passing a j e o → r ≡ reaction a e
+    → (wellFormed version1 j ≡ true) × ((16 ≤ length o) × (r .length ≤ 16))
+keepable a j e o r p h = (p .formed, (p .room, rw h (short a e (p .body))))
+
+-- what a frame and a completion that nothing refuses are
 pub body-long : (port : ℕ) (s : List ℕ) → wrongBody (frame port s) ≡ false → (2 ≤ length s) × (length s ≤ 16)
 body-long port s h = (ltb-false (length s) 2 (or-left _ (ltb 16 (length s)) h), ltb-false 16 (length s) (or-right (ltb (length s) 2) _ h))
 
@@ -199,12 +223,13 @@ module _ (a : Adapter) (j : List ℕ) (ranged : Bool) (in-range : ranged ≡ inR
       pub back-granted : (k : List ℕ) → ranged ≡ true → formed ≡ true → (keptOf j ≡ 0 → ⊥) → back .sound ≡ true → k ≡ lowered j → stepped (plain (back .adapter) 17) k ≡ steppedBack a j
       unfolding steppedBack
       back-granted k h g n s e =
-          simp
-          (sym in-range ∙ h,
+          simp (
+            sym in-range ∙ h,
             sym well-formed ∙ g,
             ne-eqb (keptOf j) 0 n,
             sym (ap (λ (b : Restored). b .sound) restores) ∙ s,
             ap (λ (b : Restored). b .adapter) restores,
-            e)
+            e,
+          )
 
 pub ruleset backs = (back-state, back-journal, back-none, back-damaged, back-granted)

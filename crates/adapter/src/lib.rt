@@ -175,7 +175,12 @@ fn judge(a: Adapter, journal: &[u8], room: usize, argument: bool, body: bool) ->
 fn refused(a: Adapter, number: u8) -> Answer
     ensures { λ r. ⌜ r ≡ plain a number ⌝ }
 {
-    Answer { adapter: a, number: number, port: 0, length: 0 }
+    Answer {
+        adapter: a,
+        number: number,
+        port: 0,
+        length: 0,
+    }
 }
 
 // A frame body on a port.
@@ -183,7 +188,13 @@ pub fn frame(a: Adapter, journal: &mut [u8], port: u8, body: &[u8], output: &mut
     ensures { λ r. ⌜ outcome r (now (journal .exit)) (now (output .exit)) ≡ called a (now (journal .entry)) (Event.frame port (now (body .entry))) (now (output .entry)) ⌝ }
 {
     let count = body.len();
-    let verdict = judge(a, journal, output.len(), 1 < port, (count < 2) | (16 < count));
+    let verdict = judge(
+        a,
+        journal,
+        output.len(),
+        1 < port,
+        (count < 2) | (16 < count),
+    );
     match verdict {
         Verdict::Refused(number) => refused(a, number),
         Verdict::Passed => {
@@ -249,7 +260,12 @@ pub fn step_back(a: Adapter, journal: &mut [u8]) -> Answer
             if back.sound {
                 journal::lower(journal);
                 let before = back.adapter;
-                return Answer { adapter: before, number: DONE, port: 0, length: 0 };
+                return Answer {
+                    adapter: before,
+                    number: DONE,
+                    port: 0,
+                    length: 0,
+                };
             }
             return refused(a, BAD_JOURNAL);
         }

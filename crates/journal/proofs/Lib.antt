@@ -1,4 +1,3 @@
-pub mod Fits
 pub mod Record
 pub mod Ring
 pub mod Spelling

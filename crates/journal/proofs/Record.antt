@@ -10,11 +10,11 @@ use lib.ListN.{length}
 use Rattle.chip.specs.declared.Adapter.{Adapter}
 use Rattle.chip.specs.Event.{Event}
 use Rattle.chip.specs.State.{inRange}
+use Rattle.chip.specs.Values.{Fits}
 use Rattle.parts.specs.Words.{bytesOf, wordsOf}
 use Rattle.parts.proofs.Laws.{length-bytes, words-bytes}
 use Rattle.journal.specs.Image.{imageWords, stateOf, spelled}
 use Rattle.journal.specs.Record.{before, restored, sound}
-use Rattle.journal.proofs.Fits.{Fits}
 use Rattle.journal.proofs.Spelling.{image-words, state-image, image-spelled}
 
 pub length-before : (a : Adapter) (e : Event) → length (before a e) ≤ 256

@@ -11,11 +11,11 @@ use lib.Dec.{eqb}
 use borrow.Author.Tests.{eqb-true, eqb-false, lt-ltb, ltb-true}
 use Rattle.bits.specs.Bits.{bitOf, digit}
 use Rattle.chip.specs.declared.Adapter.{Adapter}
+use Rattle.chip.specs.Values.{Fits}
 use Rattle.registers.specs.declared.spi.Spi.{Spi}
 use Rattle.parts.specs.Words.{word}
 use Rattle.parts.proofs.Laws.{Words, none, more, word-digits, word-small, byte0, byte1, byte2, byte3, over3}
 use Rattle.journal.specs.Image.{flags, halves, imageWords, linkOf, controlOf, spiOf, gpioOf, dacOf, stateOf, spelled}
-use Rattle.journal.proofs.Fits.{Fits}
 use Rattle.journal.proofs.Ring.{both-true}
 
 -- the n elements of a list from place i
@@ -89,23 +89,23 @@ module _ (a : Adapter) (f : Fits a) where
   pub image-words : Words (imageWords a)
   unfolding imageWords flags-of
   image-words =
-      more (word-small _ _ _ _ (f .send) (f .receive) (f .port) flags-byte)
-      (more (word-small _ _ _ _ (f .crb) (f .crc) (f .crd) (f .go))
-      (more (halves-small _ _ (f .control) (f .freq))
-      (more (ss-small (a .spi .ss) (f .ss))
-      (more (f .words 0)
-      (more (f .words 1)
-      (more (f .words 2)
-      (more (f .words 3)
-      (more (f .dataout)
-      (more (f .datain)
-      (more (f .direction)
-      (more (f .intsel)
-      (more (f .inttrig)
-      (more (f .ints)
-      (more (f .clksel)
-      (more (f .edgesel)
-      (more (word-small _ _ _ _ (f .dac-a) (f .dac-b) (f .dac-c) (f .dac-d))
+      more (word-small _ _ _ _ (f .link .send) (f .link .receive) (f .link .port) flags-byte)
+      (more (word-small _ _ _ _ (f .control .crb) (f .control .crc) (f .control .crd) (f .spi .go))
+      (more (halves-small _ _ (f .spi .control) (f .spi .freq))
+      (more (ss-small (a .spi .ss) (f .spi .ss))
+      (more (f .spi .words 0)
+      (more (f .spi .words 1)
+      (more (f .spi .words 2)
+      (more (f .spi .words 3)
+      (more (f .gpio .dataout)
+      (more (f .gpio .datain)
+      (more (f .gpio .direction)
+      (more (f .gpio .intsel)
+      (more (f .gpio .inttrig)
+      (more (f .gpio .ints)
+      (more (f .gpio .clksel)
+      (more (f .gpio .edgesel)
+      (more (word-small _ _ _ _ (f .dac .a) (f .dac .b) (f .dac .c) (f .dac .d))
       (more (f .seu) none)))))))))))))))))
 
   read-link : linkOf (word (a .link .send .0) (a .link .receive .0) (a .link .port) flags-of) ≡ a .link
@@ -113,11 +113,11 @@ module _ (a : Adapter) (f : Fits a) where
   read-link =
       let q = flags-read (a .link .loop0) (a .link .loop1) (a .gpio .intenable) in
       simp (
-        byte0 _ _ _ flags-of (f .send) (f .receive) (f .port),
-        byte1 _ _ _ flags-of (f .send) (f .receive) (f .port),
-        byte2 _ _ _ flags-of (f .send) (f .receive) (f .port),
-        over3 _ _ _ flags-of (f .send) (f .receive) (f .port),
-        over-25 _ _ _ flags-of (f .send) (f .receive) (f .port),
+        byte0 _ _ _ flags-of (f .link .send) (f .link .receive) (f .link .port),
+        byte1 _ _ _ flags-of (f .link .send) (f .link .receive) (f .link .port),
+        byte2 _ _ _ flags-of (f .link .send) (f .link .receive) (f .link .port),
+        over3 _ _ _ flags-of (f .link .send) (f .link .receive) (f .link .port),
+        over-25 _ _ _ flags-of (f .link .send) (f .link .receive) (f .link .port),
         q .first,
         q .second,
       )
@@ -126,35 +126,35 @@ module _ (a : Adapter) (f : Fits a) where
   unfolding flags-of
   read-intenable =
       let q = flags-read (a .link .loop0) (a .link .loop1) (a .gpio .intenable) in
-      simp (over-26 _ _ _ flags-of (f .send) (f .receive) (f .port), q .third)
+      simp (over-26 _ _ _ flags-of (f .link .send) (f .link .receive) (f .link .port), q .third)
 
   read-control : controlOf (word (a .control .crb) (a .control .crc) (a .control .crd) (a .spi .go)) ≡ a .control
   read-control =
       simp (
-        byte0 _ _ _ (a .spi .go) (f .crb) (f .crc) (f .crd),
-        byte1 _ _ _ (a .spi .go) (f .crb) (f .crc) (f .crd),
-        byte2 _ _ _ (a .spi .go) (f .crb) (f .crc) (f .crd),
+        byte0 _ _ _ (a .spi .go) (f .control .crb) (f .control .crc) (f .control .crd),
+        byte1 _ _ _ (a .spi .go) (f .control .crb) (f .control .crc) (f .control .crd),
+        byte2 _ _ _ (a .spi .go) (f .control .crb) (f .control .crc) (f .control .crd),
       )
 
   read-dac : dacOf (word (a .dac .a) (a .dac .b) (a .dac .c) (a .dac .d)) ≡ a .dac
   read-dac =
       simp (
-        byte0 _ _ _ (a .dac .d) (f .dac-a) (f .dac-b) (f .dac-c),
-        byte1 _ _ _ (a .dac .d) (f .dac-a) (f .dac-b) (f .dac-c),
-        byte2 _ _ _ (a .dac .d) (f .dac-a) (f .dac-b) (f .dac-c),
-        byte3 _ _ _ (a .dac .d) (f .dac-a) (f .dac-b) (f .dac-c) (f .dac-d),
+        byte0 _ _ _ (a .dac .d) (f .dac .a) (f .dac .b) (f .dac .c),
+        byte1 _ _ _ (a .dac .d) (f .dac .a) (f .dac .b) (f .dac .c),
+        byte2 _ _ _ (a .dac .d) (f .dac .a) (f .dac .b) (f .dac .c),
+        byte3 _ _ _ (a .dac .d) (f .dac .a) (f .dac .b) (f .dac .c) (f .dac .d),
       )
 
   read-spi : spiOf (imageWords a) ≡ a .spi
   unfolding imageWords elements
   read-spi =
       simp (
-        byte3 _ _ _ (a .spi .go) (f .crb) (f .crc) (f .crd) (f .go),
-        low-half _ _ (f .control) (f .freq),
-        high-half _ _ (f .control) (f .freq),
-        ss-read _ (f .ss),
+        byte3 _ _ _ (a .spi .go) (f .control .crb) (f .control .crc) (f .control .crd) (f .spi .go),
+        low-half _ _ (f .spi .control) (f .spi .freq),
+        high-half _ _ (f .spi .control) (f .spi .freq),
+        ss-read _ (f .spi .ss),
       )
-      (ap (λ (l : List ℕ). record { control = a .spi .control; freq = a .spi .freq; ss = a .spi .ss; words = l; go = a .spi .go }) (elements-all (a .spi .words) 4 (f .four)))
+      (ap (λ (l : List ℕ). record { control = a .spi .control; freq = a .spi .freq; ss = a .spi .ss; words = l; go = a .spi .go }) (elements-all (a .spi .words) 4 (f .spi .four)))
 
   pub state-image : (id : ℕ) → id ≡ a .id → stateOf id (imageWords a) ≡ a
   unfolding stateOf imageWords flags-of
@@ -165,8 +165,8 @@ module _ (a : Adapter) (f : Fits a) where
   image-spelled =
       let q = flags-read (a .link .loop0) (a .link .loop1) (a .gpio .intenable) in
       let top : word (a .link .send .0) (a .link .receive .0) (a .link .port) flags-of < 134217728 =
-      under-27 _ _ _ flags-of (f .send) (f .receive) (f .port) (q .few) in
-      let low : word (a .spi .ss) 0 0 0 < 256 = omega (arith, f .ss) in
+      under-27 _ _ _ flags-of (f .link .send) (f .link .receive) (f .link .port) (q .few) in
+      let low : word (a .spi .ss) 0 0 0 < 256 = omega (arith, f .spi .ss) in
       simp (lt-ltb _ 134217728 top, lt-ltb _ 256 low)
 
 -- ---- a state has no other spelling

@@ -122,5 +122,8 @@ pub fn restore(a: Adapter, j: &[u8]) -> Restored
     let b = image::state_of(words, a.id);
     let spelled = image::is_spelled(words);
     let ranged = chip::state::in_range(b);
-    Restored { sound: spelled & ranged, adapter: b }
+    Restored {
+        sound: spelled & ranged,
+        adapter: b,
+    }
 }

@@ -1,7 +1,6 @@
 -- `adapter::sample` meets its contract. Assumes nothing.
 use mathlib.Core.Path.{_≡_, refl}
 use borrow.Author.Needs.{needs}
-use borrow.Author.Tests.{ltb-false}
 use Rattle.chip.specs.Event.{Event, sample}
 use Rattle.adapter.proofs.Cases.{refuses, passes, passing, Passing, keepable}
 use Rattle.adapter.proofs.sample.Statement.{statement}
@@ -13,10 +12,6 @@ event c = sample (c .args .levels) (c .args .kind)
 passed : (c : tie.After-enum-told) → Passing (c .before .before .before .before .before .before .args .a) (c .before .before .before .before .before .before .args .journal .now) (event (c .before .before .before .before .before .before)) (c .before .before .before .before .before .before .args .output .now)
 unfolding event
 passed c = passing _ _ (event (c .before .before .before .before .before .before)) _ _ (c .before .before .judge .ensures) (c .enum-told .given .1)
-
-on-sample-requires : tie.Need-on-sample-requires
-unfolding event
-on-sample-requires c κs = ltb-false 2 (c .before .before .before .before .before .before .args .kind) (passed c .argument)
 
 keep-requires : tie.Need-keep-requires
 unfolding event
@@ -40,7 +35,7 @@ sample-spec =
     (λ c. search needs)
     (λ c κs. search needs)
     (λ c. search needs)
-    on-sample-requires
+    (λ c κs. search needs)
     keep-requires
     (λ c. search needs)
     returns

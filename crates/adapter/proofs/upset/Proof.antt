@@ -3,7 +3,6 @@ use mathlib.Core.Path.{_≡_, refl}
 use borrow.Author.Needs.{needs}
 use Rattle.chip.specs.Event.{upset}
 use Rattle.adapter.proofs.Cases.{refuses, passes, passing, Passing, keepable}
-use Rattle.adapter.proofs.Short.{short}
 use Rattle.adapter.proofs.upset.Statement.{statement}
 use Rattle.adapter.proofs.upset.Tie as tie
 

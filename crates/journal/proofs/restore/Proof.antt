@@ -8,11 +8,12 @@ use Rattle.journal.proofs.restore.Tie as tie
 returns : tie.Need-returns
 unfolding restored sound
 returns c =
-    simp
-    (c .in-range .ensures,
+    simp (
+      c .in-range .ensures,
       c .before .is-spelled .ensures,
       c .before .before .state-of .ensures,
-      c .before .before .before .newest .ensures)
+      c .before .before .before .newest .ensures,
+    )
 
 pub restore-spec : {M : Type 1} → statement M
 restore-spec =
