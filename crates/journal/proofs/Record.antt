@@ -9,8 +9,10 @@ use native.Mathlib.Omega.{arith}
 use lib.ListN.{length}
 use Rattle.chip.specs.declared.Adapter.{Adapter}
 use Rattle.chip.specs.Event.{Event}
+use Rattle.chip.specs.Chip.{reaction}
 use Rattle.chip.specs.State.{inRange}
 use Rattle.chip.specs.Values.{Fits}
+use Rattle.chip.proofs.Laws.{id-stays}
 use Rattle.parts.specs.Words.{bytesOf, wordsOf}
 use Rattle.parts.proofs.Laws.{length-bytes, words-bytes}
 use Rattle.journal.specs.Image.{imageWords, stateOf, spelled}
@@ -33,3 +35,7 @@ module _ (b a : Adapter) (e : Event) (rest : List ℕ) (chip : b .id ≡ a .id) 
   pub sound-before : inRange a ≡ true → sound b (before a e ++ rest) ≡ true
   unfolding sound
   sound-before h = rw (restored-before, words-before, image-spelled a f) h
+
+-- the same in the words of an event: taken back from the state that it left, it leaves the state that it happened to
+pub taken-back : (a : Adapter) (e : Event) (rest : List ℕ) → Fits a → restored (reaction a e .adapter) (before a e ++ rest) ≡ a
+taken-back a e rest f = restored-before (reaction a e .adapter) a e rest (id-stays a e) f
