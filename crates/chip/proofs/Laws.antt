@@ -8,6 +8,7 @@ use native.Mathlib.Nat.{lt-of-lt-of-le}
 use native.Mathlib.Omega.{arith}
 use borrow.Author.Tests.{eqb-true, eq-eqb, le-leb, leb-true, not-false}
 use lib.Dec.{eqb, leb, lit<, lit≤}
+use lib.Pow.{shr-shr}
 use lib.ListN.{length, getD, take, drop, replicate, length-append, length-replicate}
 use Rattle.registers.specs.declared.request.Request.{Request}
 use Rattle.registers.specs.declared.request.Reply.{Reply}
@@ -25,7 +26,7 @@ use Rattle.chip.specs.Values.{Fits, EventFits, FrameFits, LinkFits, SpiF
 use Rattle.chip.specs.State.{poweredOn, powerOn, inRange, withLink, withSpi, withGpio}
 use Rattle.chip.specs.Answer.{padded, sends, gives}
 use Rattle.chip.specs.Link.{acknowledgeControl, rejectControl, replyControl, receiveUp, sendUp, reset}
-use Rattle.chip.specs.Request.{requestOf, replyBody, replies}
+use Rattle.chip.specs.Request.{byteOf, fourBytes, requestOf, replyBody, replies}
 use Rattle.chip.specs.Frame.{isConnect, isReset, isResetFrame, addressOf, controlOf, informationOf, commanded, onFrame}
 use Rattle.chip.specs.Chip.{receivedWords, reaction, acceptedReset}
 use Rattle.chip.specs.declared.Adapter.{Adapter}
@@ -685,3 +686,12 @@ accepted-reset a port body h =
     let command = Channels.and-right (eqb (addressOf body) 0x00) (isReset (controlOf body)) h1 in
     let empty = Channels.and-right (eqb (addressOf body) 0x00 && isReset (controlOf body)) (eqb (length (informationOf body)) 0) h in
     simp (address, not-connect (controlOf body) command, command, empty)
+
+-- ---- the wire
+
+-- D read from the four bytes of a reply's data, in the wire's order, is the D sent
+pub data-round : (d : ℕ) → d < 2 ^ 32 → fourBytes (byteOf d 0) (byteOf d 1) (byteOf d 2) (byteOf d 3) ≡ d
+data-round d h =
+    let e2 : d / 65536 ≡ d / 256 / 256 = sym (shr-shr d 8 8) in
+    let e3 : d / 16777216 ≡ d / 256 / 256 / 256 = sym (shr-shr d 16 8) ∙ ap (λ (n : ℕ). n / 256) e2 in
+    rw (e2, e3) (omega arith)

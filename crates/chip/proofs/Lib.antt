@@ -5,3 +5,4 @@ pub mod Steps
 pub mod Channels
 pub mod Laws
 pub mod Examples
+pub mod OneOutcome
