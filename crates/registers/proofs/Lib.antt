@@ -7,3 +7,4 @@ pub mod Ranges
 pub mod SeuAnswers
 pub mod SpiAnswers
 pub mod Transfer
+pub mod Cases
