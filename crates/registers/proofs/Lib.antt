@@ -8,3 +8,4 @@ pub mod SeuAnswers
 pub mod SpiAnswers
 pub mod Transfer
 pub mod Cases
+pub mod Laws
