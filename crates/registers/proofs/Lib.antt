@@ -8,4 +8,5 @@ pub mod SeuAnswers
 pub mod SpiAnswers
 pub mod Transfer
 pub mod Cases
+pub mod Fits
 pub mod Laws
