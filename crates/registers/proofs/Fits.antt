@@ -174,15 +174,17 @@ completed-word-fits length was received w = word-lt 32 _
 
 pub completed-fits : (s : Spi) (received : List ℕ) → SpiFits s → SpiFits (spiCompleted s received .spi) × ReplyFits (spiCompleted s received .reply)
 unfolding spiCompleted
-completed-fits s received f =
-    (record {
-      control = f .control;
-      freq = f .freq;
-      ss = f .ss;
-      count = refl;
-      words = four-fit _ _ _ _ (completed-word-fits _ _ received 0) (completed-word-fits _ _ received 1) (completed-word-fits _ _ received 2) (completed-word-fits _ _ received 3);
-      go = omega arith
-    }, completed-word-fits _ _ received 0)
+completed-fits s received f = (
+  record {
+    control = f .control;
+    freq = f .freq;
+    ss = f .ss;
+    count = refl;
+    words = four-fit _ _ _ _ (completed-word-fits _ _ received 0) (completed-word-fits _ _ received 1) (completed-word-fits _ _ received 2) (completed-word-fits _ _ received 3);
+    go = omega arith;
+  },
+  completed-word-fits _ _ received 0,
+)
 
 digit-fits : (b : Bool) → digit b < 2 ^ 32
 digit-fits true = omega arith
@@ -239,7 +241,7 @@ sampled-fits g levels kind f =
       inttrig = f .inttrig;
       ints = either (λ (n : ℕ). n < 2 ^ 32) (g .intenable && not (eqb fired 0)) fired (g .ints) (firing-fits g after) (f .ints);
       clksel = f .clksel;
-      edgesel = f .edgesel
+      edgesel = f .edgesel;
     }
 
 module _ (o : Dac) (q : Request) (f : DacFits o) where
