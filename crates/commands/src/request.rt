@@ -1,6 +1,6 @@
 // What requests to all channels have in common: their fields, their lengths, their errors and their answers.
 ghost use mathlib.Core.Path.{_≡_};
-ghost use Rattle.registers.specs.Request.{granted, refusal};
+ghost use Rattle.commands.specs.Request.{granted, refusal};
 
 // TRN, CH, LEN, CMD and D[31:0].
 pub struct Request {

@@ -1,9 +1,9 @@
 use mathlib.Core.Path.{ap, sym}
 use Rattle.bits.proofs.Rows.{none-of}
-use Rattle.registers.specs.Spi.{spiCommand, spiCommands}
-use Rattle.registers.specs.declared.spi.Command.the-variants.{Unknown}
-use Rattle.registers.proofs.spi.command_of.Statement.{statement}
-use Rattle.registers.proofs.spi.command_of.Tie as tie
+use Rattle.commands.specs.Spi.{spiCommand, spiCommands}
+use Rattle.commands.specs.declared.spi.Command.the-variants.{Unknown}
+use Rattle.commands.proofs.spi.command_of.Statement.{statement}
+use Rattle.commands.proofs.spi.command_of.Tie as tie
 
 pub command-of-spec : {M : Type 1} → statement M
 unfolding spiCommand

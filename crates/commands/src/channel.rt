@@ -1,6 +1,6 @@
 // The channels by their numbers.
 ghost use mathlib.Core.Path.{_≡_};
-ghost use Rattle.registers.specs.Channels.{channelOf};
+ghost use Rattle.commands.specs.Channels.{channelOf};
 
 pub enum Channel {
     Controller,

@@ -1,9 +1,9 @@
 use mathlib.Core.Path.{ap, sym}
 use Rattle.bits.proofs.Rows.{none-of}
-use Rattle.registers.specs.Channels.{channelOf, channels}
-use Rattle.registers.specs.declared.channel.Channel.the-variants.{Unknown}
-use Rattle.registers.proofs.channel.channel_of.Statement.{statement}
-use Rattle.registers.proofs.channel.channel_of.Tie as tie
+use Rattle.commands.specs.Channels.{channelOf, channels}
+use Rattle.commands.specs.declared.channel.Channel.the-variants.{Unknown}
+use Rattle.commands.proofs.channel.channel_of.Statement.{statement}
+use Rattle.commands.proofs.channel.channel_of.Tie as tie
 
 pub channel-of-spec : {M : Type 1} → statement M
 unfolding channelOf

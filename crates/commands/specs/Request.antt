@@ -1,8 +1,8 @@
 -- What requests to all channels have in common.
 use Prim.Native.Nat.{ℕ}
-use Rattle.registers.specs.declared.request.Lengths.{Lengths}
-use Rattle.registers.specs.declared.request.Reply.{Reply}
-use Rattle.registers.specs.declared.request.Reply.the-variants.{Sent, Later}
+use Rattle.commands.specs.declared.request.Lengths.{Lengths}
+use Rattle.commands.specs.declared.request.Reply.{Reply}
+use Rattle.commands.specs.declared.request.Reply.the-variants.{Sent, Later}
 
 -- Table 4.2. One error bit is set, the first that applies, in this order.
 abbrev pub trnWrong : ℕ
