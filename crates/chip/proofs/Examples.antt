@@ -1,17 +1,23 @@
 -- Worked examples, computed: document 01's listing, and the manual's tables with their codes and lengths.
-use Prim.Native.Nat.{ℕ, suc, _+_, _*_, _%_}
-use mathlib.Core.List.{List, [], _∷_, _++_}
+use Prim.Native.Nat.{ℕ, _*_}
+use mathlib.Core.List.{List, [], _∷_}
 use mathlib.Core.Path.{_≡_, refl}
 use lib.ListN.{length, take, getD}
 use Rattle.bits.specs.Bits.{word}
-use Rattle.registers.specs.Channels.{channelOf}
-use Rattle.registers.specs.Controller.{controllerAnswer, actControl, controllerCommand}
-use Rattle.registers.specs.Spi.{spiAnswer, actSpi, spiCommand, spiCompleted, completedWord}
-use Rattle.registers.specs.Gpio.{gpioAnswer, actGpio, gpioCommand}
+use Rattle.commands.specs.Channels.{channelOf}
+use Rattle.commands.specs.Controller.{controllerCommand}
+use Rattle.registers.specs.Controller.{controllerAnswer, actControl}
+use Rattle.commands.specs.Spi.{spiCommand}
+use Rattle.registers.specs.Spi.{spiAnswer, actSpi, spiCompleted, completedWord}
+use Rattle.commands.specs.Gpio.{gpioCommand}
+use Rattle.registers.specs.Gpio.{gpioAnswer, actGpio}
 use Rattle.registers.specs.Pins.{gpioSampled, datainAfter, firingLines}
-use Rattle.registers.specs.Seu.{seuAnswer, actSeu, seuCommand}
-use Rattle.registers.specs.ChipId.{idAnswer, actId, idCommand}
-use Rattle.registers.specs.Dac.{dacAnswer, actDac, dacCommand}
+use Rattle.commands.specs.Seu.{seuCommand}
+use Rattle.registers.specs.Seu.{seuAnswer, actSeu}
+use Rattle.commands.specs.ChipId.{idCommand}
+use Rattle.registers.specs.ChipId.{idAnswer, actId}
+use Rattle.commands.specs.Dac.{dacCommand}
+use Rattle.registers.specs.Dac.{dacAnswer, actDac}
 use Rattle.chip.specs.Event.{Event, frame, completion, sample, upset}
 use Rattle.chip.specs.State.{poweredOn, powerOn}
 use Rattle.chip.specs.Answer.{padded}
@@ -155,9 +161,9 @@ pub record Tables : Type 0 where
 
 pub tables : Tables
 unfolding
-  reaction onFrame commanded carried numbered requested answered onChannel replies onCompletion onSample onUpset padded poweredOn word
-  channelOf controllerAnswer actControl controllerCommand spiAnswer actSpi spiCommand spiCompleted completedWord gpioAnswer actGpio
-  gpioCommand gpioSampled datainAfter firingLines seuAnswer actSeu seuCommand idAnswer actId idCommand dacAnswer actDac dacCommand
+    reaction onFrame commanded carried numbered requested answered onChannel replies onCompletion onSample onUpset padded poweredOn word
+    channelOf controllerAnswer actControl controllerCommand spiAnswer actSpi spiCommand spiCompleted completedWord gpioAnswer actGpio
+    gpioCommand gpioSampled datainAfter firingLines seuAnswer actSeu seuCommand idAnswer actId idCommand dacAnswer actDac dacCommand
 tables =
     record {
       listing = refl;
@@ -180,5 +186,5 @@ tables =
       checks = refl;
       commands = refl;
       dropped = refl;
-      kept = refl
+      kept = refl;
     }
