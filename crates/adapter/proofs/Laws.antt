@@ -13,7 +13,7 @@ use Rattle.chip.specs.declared.Adapter.{Adapter}
 use Rattle.chip.specs.Event.{Event}
 use Rattle.chip.specs.Chip.{reaction, acceptedReset}
 use Rattle.chip.specs.State.{poweredOn, powerOn, inRange}
-use Rattle.chip.specs.Values.{Fits}
+use Rattle.chip.proofs.Fits.{Fits}
 use Rattle.journal.specs.Layout.{version1, sizeOf, keptOf, wellFormed, past, emptied, pushed, lowered}
 use Rattle.journal.specs.Record.{before, restored, sound}
 use Rattle.journal.proofs.Record.{length-before, restored-before, sound-before}

@@ -2,21 +2,20 @@
 use Prim.Native.Nat.{ℕ}
 use mathlib.Core.Bool.{Bool}
 use mathlib.Core.List.{List}
-use mathlib.Core.Path.{_≡_, refl, sym, _∙_}
+use mathlib.Core.Path.{_≡_}
 use borrow.Author.Tests.{eq-eqb, ne-eqb}
-use lib.ListN.{getD}
 use Rattle.registers.specs.declared.controller.Answered.{Answered as ControlAnswered}
 use Rattle.registers.specs.declared.spi.Answered.{Answered as SpiAnswered}
 use Rattle.registers.specs.declared.gpio.Answered.{Answered as GpioAnswered}
 use Rattle.registers.specs.declared.seu.Answered.{Answered as SeuAnswered}
 use Rattle.registers.specs.declared.dac.Answered.{Answered as DacAnswered}
-use Rattle.registers.specs.declared.channel.Channel.{Channel}
-use Rattle.registers.specs.declared.channel.Channel.the-variants.{Controller, Spi, Gpio, Seu, Id, Dac, Unknown}
-use Rattle.registers.specs.declared.request.Request.{Request}
-use Rattle.registers.specs.declared.request.Reply.{Reply}
-use Rattle.registers.specs.declared.request.Reply.the-variants.{Sent, Later}
-use Rattle.registers.specs.Request.{refusal, trnWrong, chUnknown}
-use Rattle.registers.specs.Channels.{channelOf}
+use Rattle.commands.specs.declared.channel.Channel.{Channel}
+use Rattle.commands.specs.declared.channel.Channel.the-variants.{Controller, Spi, Gpio, Seu, Id, Dac, Unknown}
+use Rattle.commands.specs.declared.request.Request.{Request}
+use Rattle.commands.specs.declared.request.Reply.{Reply}
+use Rattle.commands.specs.declared.request.Reply.the-variants.{Sent, Later}
+use Rattle.commands.specs.Request.{refusal, trnWrong, chUnknown}
+use Rattle.commands.specs.Channels.{channelOf}
 use Rattle.registers.specs.Controller.{controllerAnswer, spiEnabled, gpioEnabled, seuEnabled, idEnabled}
 use Rattle.registers.specs.Spi.{spiAnswer}
 use Rattle.registers.specs.Gpio.{gpioAnswer}
@@ -26,7 +25,7 @@ use Rattle.registers.specs.Dac.{dacAnswer}
 use Rattle.chip.specs.Numbers.{noFrame}
 use Rattle.chip.specs.State.{withControl, withSpi, withGpio, withDac, withSeu}
 use Rattle.chip.specs.Answer.{gives}
-use Rattle.chip.specs.Request.{fourBytes, requestOf, onChannel, answered, replies, finished, requested}
+use Rattle.chip.specs.Request.{requestOf, onChannel, answered, replies, finished, requested}
 use Rattle.chip.specs.declared.Adapter.{Adapter}
 use Rattle.chip.specs.declared.Reaction.{Reaction}
 use Rattle.chip.specs.declared.request.Answered.{Answered}

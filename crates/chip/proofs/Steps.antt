@@ -1,20 +1,19 @@
 -- Every outcome of an event. A law about the step is one call of `step-cases`.
 use Prim.Native.Nat.{ℕ, _+_, _%_, _^_, _≤_, _<_}
-use mathlib.Core.Bool.{Bool, true, false, not, _||_, cond}
+use mathlib.Core.Bool.{Bool, true, false, not, _&&_, _||_, cond, false≢true, true≢false}
 use mathlib.Core.List.{List, [], _∷_}
-use mathlib.Core.Path.{_≡_, refl, sym, _∙_}
-use native.Mathlib.Omega.{arith}
-use borrow.Author.Tests.{eqb-true, eqb-false, not-true, not-false}
+use mathlib.Core.Path.{_≡_, refl}
+use borrow.Author.Tests.{not-false}
 use lib.Dec.{eqb, lit≤, lit<}
 use lib.ListN.{length, getD, drop}
 use Rattle.bits.specs.Bits.{bitOf}
-use Rattle.registers.specs.declared.channel.Channel.{Channel}
-use Rattle.registers.specs.declared.channel.Channel.the-variants.{Controller, Spi, Gpio, Seu, Id, Dac, Unknown}
-use Rattle.registers.specs.declared.request.Request.{Request}
-use Rattle.registers.specs.declared.request.Reply.{Reply}
-use Rattle.registers.specs.declared.request.Reply.the-variants.{Sent, Later}
-use Rattle.registers.specs.Request.{refusal, trnWrong, chUnknown}
-use Rattle.registers.specs.Channels.{channelOf}
+use Rattle.commands.specs.declared.channel.Channel.{Channel}
+use Rattle.commands.specs.declared.channel.Channel.the-variants.{Controller, Spi, Gpio, Seu, Id, Dac, Unknown}
+use Rattle.commands.specs.declared.request.Request.{Request}
+use Rattle.commands.specs.declared.request.Reply.{Reply}
+use Rattle.commands.specs.declared.request.Reply.the-variants.{Sent, Later}
+use Rattle.commands.specs.Request.{refusal, trnWrong, chUnknown}
+use Rattle.commands.specs.Channels.{channelOf}
 use Rattle.registers.specs.Controller.{controllerAnswer, spiEnabled, gpioEnabled, seuEnabled, idEnabled}
 use Rattle.registers.specs.Spi.{spiBusy, spiAnswer, spiCompleted}
 use Rattle.registers.specs.Gpio.{gpioAnswer}
@@ -28,7 +27,7 @@ use Rattle.chip.specs.State.{withControl, withSpi, withGpio, withDac, wi
 use Rattle.chip.specs.Answer.{sends, gives}
 use Rattle.chip.specs.Link.{rejectControl, acknowledgeControl, receiveNumber, receiveUp, numberIn, connected, reset, looped, inLoopback}
 use Rattle.chip.specs.Request.{requestOf, onChannel, answered, replies, finished, requested}
-use Rattle.chip.specs.Frame.{isConnect, isReset, isTest, isResetFrame, controlOf, informationOf, commanded, numbered, carried, onFrame}
+use Rattle.chip.specs.Frame.{isConnect, isReset, isTest, controlOf, informationOf, commanded, numbered, carried, onFrame}
 use Rattle.chip.specs.Chip.{receivedWords, onCompletion, onSample, onUpset, reaction}
 use Rattle.chip.specs.declared.Adapter.{Adapter}
 use Rattle.chip.specs.declared.Reaction.{Reaction}
@@ -37,6 +36,18 @@ use Rattle.chip.specs.declared.request.Answered.{Answered}
 pub cond-cases : {A : Type 0} (P : A → Type 0) (b : Bool) {x y : A} → (b ≡ true → P x) → (b ≡ false → P y) → P (cond b x y)
 cond-cases P true f g = f refl
 cond-cases P false f g = g refl
+
+pub and-left : (a b : Bool) → (a && b) ≡ true → a ≡ true
+and-left true b h = refl
+and-left false b h = h
+
+pub and-right : (a b : Bool) → (a && b) ≡ true → b ≡ true
+and-right true b h = h
+and-right false b h = absurd (false≢true h)
+
+pub or-second : (a b : Bool) → (a || b) ≡ true → a ≡ false → b ≡ true
+or-second true b h e = absurd (true≢false e)
+or-second false b h e = h
 
 -- ---- how a request can change the state: one channel's registers, by that channel's own answer
 
@@ -64,6 +75,24 @@ unfolding answered
 touched a q =
     cond-cases (λ (x : Answered). Touched a q (x .adapter) (x .reply)) (eqb (q .trn) noTransaction || eqb (q .trn) interruptTransaction)
     (λ _. refused trnWrong (lit< tt)) (λ _. on-channel a q (channelOf (q .ch)))
+
+pub touched-link : (a : Adapter) (q : Request) (b : Adapter) (r : Reply) → Touched a q b r → b .link ≡ a .link
+touched-link a q b r (refused e h) = refl
+touched-link a q b r by-controller = refl
+touched-link a q b r by-spi = refl
+touched-link a q b r by-gpio = refl
+touched-link a q b r by-seu = refl
+touched-link a q b r by-id = refl
+touched-link a q b r by-dac = refl
+
+pub touched-id : (a : Adapter) (q : Request) (b : Adapter) (r : Reply) → Touched a q b r → b .id ≡ a .id
+touched-id a q b r (refused e h) = refl
+touched-id a q b r by-controller = refl
+touched-id a q b r by-spi = refl
+touched-id a q b r by-gpio = refl
+touched-id a q b r by-seu = refl
+touched-id a q b r by-id = refl
+touched-id a q b r by-dac = refl
 
 -- ---- what an event can come to
 

@@ -4,13 +4,13 @@ use mathlib.Core.Bool.{_||_, cond}
 use mathlib.Core.List.{List, [], _∷_}
 use lib.Dec.{eqb}
 use lib.ListN.{getD}
-use Rattle.registers.specs.declared.channel.Channel.{Channel}
-use Rattle.registers.specs.declared.channel.Channel.the-variants.{Controller, Spi, Gpio, Seu, Id, Dac, Unknown}
-use Rattle.registers.specs.declared.request.Request.{Request}
-use Rattle.registers.specs.declared.request.Reply.{Reply}
-use Rattle.registers.specs.declared.request.Reply.the-variants.{Sent, Later}
-use Rattle.registers.specs.Request.{refusal, trnWrong, chUnknown}
-use Rattle.registers.specs.Channels.{channelOf}
+use Rattle.commands.specs.declared.channel.Channel.{Channel}
+use Rattle.commands.specs.declared.channel.Channel.the-variants.{Controller, Spi, Gpio, Seu, Id, Dac, Unknown}
+use Rattle.commands.specs.declared.request.Request.{Request}
+use Rattle.commands.specs.declared.request.Reply.{Reply}
+use Rattle.commands.specs.declared.request.Reply.the-variants.{Sent, Later}
+use Rattle.commands.specs.Request.{refusal, trnWrong, chUnknown}
+use Rattle.commands.specs.Channels.{channelOf}
 use Rattle.registers.specs.Controller.{controllerAnswer, spiEnabled, gpioEnabled, seuEnabled, idEnabled}
 use Rattle.registers.specs.Spi.{spiAnswer}
 use Rattle.registers.specs.Gpio.{gpioAnswer}

@@ -11,7 +11,7 @@ use Rattle.chip.specs.declared.Adapter.{Adapter}
 use Rattle.chip.specs.Event.{Event}
 use Rattle.chip.specs.Chip.{reaction}
 use Rattle.chip.specs.State.{inRange}
-use Rattle.chip.specs.Values.{Fits}
+use Rattle.chip.proofs.Fits.{Fits}
 use Rattle.chip.proofs.Laws.{id-stays}
 use Rattle.parts.specs.Words.{bytesOf, wordsOf}
 use Rattle.parts.proofs.Laws.{length-bytes, words-bytes}

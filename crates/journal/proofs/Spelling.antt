@@ -11,7 +11,7 @@ use lib.Dec.{eqb}
 use borrow.Author.Tests.{eqb-true, eqb-false, lt-ltb, ltb-true}
 use Rattle.bits.specs.Bits.{bitOf, digit}
 use Rattle.chip.specs.declared.Adapter.{Adapter}
-use Rattle.chip.specs.Values.{Fits}
+use Rattle.chip.proofs.Fits.{Fits}
 use Rattle.registers.specs.declared.spi.Spi.{Spi}
 use Rattle.parts.specs.Words.{word}
 use Rattle.parts.proofs.Laws.{Words, none, more, word-digits, word-small, byte0, byte1, byte2, byte3, over3}

@@ -3,13 +3,14 @@ use Prim.Native.Nat.{ℕ}
 use mathlib.Core.Bool.{Bool, true, false}
 use mathlib.Core.Path.{_≡_, refl}
 use borrow.Author.Tests.{eq-eqb, ne-eqb}
-use Rattle.registers.specs.declared.request.Lengths.{Lengths}
-use Rattle.registers.specs.declared.request.Reply.{Reply}
-use Rattle.registers.specs.declared.request.Request.{Request}
-use Rattle.registers.specs.declared.chip_id.Command.{Command}
-use Rattle.registers.specs.declared.chip_id.Command.the-variants.{Read, Unknown}
-use Rattle.registers.specs.Request.{granted, refusal, notEnabled, cmdUnknown, lenWrong}
-use Rattle.registers.specs.ChipId.{actId, idAnswer, idCommand}
+use Rattle.commands.specs.declared.request.Lengths.{Lengths}
+use Rattle.commands.specs.declared.request.Reply.{Reply}
+use Rattle.commands.specs.declared.request.Request.{Request}
+use Rattle.commands.specs.declared.chip_id.Command.{Command}
+use Rattle.commands.specs.declared.chip_id.Command.the-variants.{Read, Unknown}
+use Rattle.commands.specs.Request.{granted, refusal, notEnabled, cmdUnknown, lenWrong}
+use Rattle.commands.specs.ChipId.{idCommand}
+use Rattle.registers.specs.ChipId.{actId, idAnswer}
 
 module _ (id : ℕ) (q : Request) (p : Reply) (k : Command) where
   pub got : (l : Lengths) → k ≡ Read l → q .len ≡ l .asked → p ≡ granted (l .given) id → p ≡ actId id q k

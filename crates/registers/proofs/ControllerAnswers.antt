@@ -3,19 +3,20 @@ use Prim.Native.Nat.{ℕ, _%_}
 use mathlib.Core.Bool.{Bool, true, false}
 use mathlib.Core.Path.{_≡_, refl}
 use borrow.Author.Tests.{eq-eqb, ne-eqb}
-use Rattle.registers.specs.declared.request.Lengths.{Lengths}
-use Rattle.registers.specs.declared.request.Reply.{Reply}
-use Rattle.registers.specs.declared.request.Reply.the-variants.{Later}
-use Rattle.registers.specs.declared.request.Request.{Request}
+use Rattle.commands.specs.declared.request.Lengths.{Lengths}
+use Rattle.commands.specs.declared.request.Reply.{Reply}
+use Rattle.commands.specs.declared.request.Reply.the-variants.{Later}
+use Rattle.commands.specs.declared.request.Request.{Request}
 use Rattle.registers.specs.declared.controller.Answered.{Answered}
-use Rattle.registers.specs.declared.controller.Command.{Command}
-use Rattle.registers.specs.declared.controller.Command.the-variants.{Known, Unknown}
+use Rattle.commands.specs.declared.controller.Command.{Command}
+use Rattle.commands.specs.declared.controller.Command.the-variants.{Known, Unknown}
 use Rattle.registers.specs.declared.controller.Control.{Control}
-use Rattle.registers.specs.declared.controller.Does.{Does}
-use Rattle.registers.specs.declared.controller.Does.the-variants.{Write, Read}
-use Rattle.registers.specs.declared.controller.Register.{Register}
-use Rattle.registers.specs.Request.{granted, refusal, notEnabled, busy, cmdUnknown, lenWrong}
-use Rattle.registers.specs.Controller.{actControl, controllerAnswer, controllerCommand, writeControl, readControl, top, atTop}
+use Rattle.commands.specs.declared.controller.Does.{Does}
+use Rattle.commands.specs.declared.controller.Does.the-variants.{Write, Read}
+use Rattle.commands.specs.declared.controller.Register.{Register}
+use Rattle.commands.specs.Request.{granted, refusal, notEnabled, busy, cmdUnknown, lenWrong}
+use Rattle.commands.specs.Controller.{controllerCommand}
+use Rattle.registers.specs.Controller.{actControl, controllerAnswer, writeControl, readControl, top, atTop}
 
 module _ (c : Control) (q : Request) (k : Command) (l : Lengths) (does : Does) (p : Reply) (e : k ≡ Known l does) where
   pub wrote : (r : Register) (after : Control) → does ≡ Write r → q .len ≡ l .asked → after ≡ writeControl c r (top (q .value)) → p ≡ granted (l .given) 0

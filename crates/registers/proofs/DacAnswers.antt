@@ -3,19 +3,20 @@ use Prim.Native.Nat.{ℕ, _%_}
 use mathlib.Core.Bool.{Bool, true, false}
 use mathlib.Core.Path.{_≡_, refl}
 use borrow.Author.Tests.{eq-eqb, ne-eqb}
-use Rattle.registers.specs.declared.request.Lengths.{Lengths}
-use Rattle.registers.specs.declared.request.Reply.{Reply}
-use Rattle.registers.specs.declared.request.Reply.the-variants.{Later}
-use Rattle.registers.specs.declared.request.Request.{Request}
+use Rattle.commands.specs.declared.request.Lengths.{Lengths}
+use Rattle.commands.specs.declared.request.Reply.{Reply}
+use Rattle.commands.specs.declared.request.Reply.the-variants.{Later}
+use Rattle.commands.specs.declared.request.Request.{Request}
 use Rattle.registers.specs.declared.dac.Answered.{Answered}
-use Rattle.registers.specs.declared.dac.Command.{Command}
-use Rattle.registers.specs.declared.dac.Command.the-variants.{Known, Unknown}
+use Rattle.commands.specs.declared.dac.Command.{Command}
+use Rattle.commands.specs.declared.dac.Command.the-variants.{Known, Unknown}
 use Rattle.registers.specs.declared.dac.Dac.{Dac}
-use Rattle.registers.specs.declared.dac.Does.{Does}
-use Rattle.registers.specs.declared.dac.Does.the-variants.{Write, Read}
-use Rattle.registers.specs.declared.dac.Register.{Register}
-use Rattle.registers.specs.Request.{granted, refusal, notEnabled, busy, cmdUnknown, lenWrong}
-use Rattle.registers.specs.Dac.{actDac, dacAnswer, dacCommand, writeDac, readDac}
+use Rattle.commands.specs.declared.dac.Does.{Does}
+use Rattle.commands.specs.declared.dac.Does.the-variants.{Write, Read}
+use Rattle.commands.specs.declared.dac.Register.{Register}
+use Rattle.commands.specs.Request.{granted, refusal, notEnabled, busy, cmdUnknown, lenWrong}
+use Rattle.commands.specs.Dac.{dacCommand}
+use Rattle.registers.specs.Dac.{actDac, dacAnswer, writeDac, readDac}
 
 module _ (o : Dac) (q : Request) (k : Command) (l : Lengths) (does : Does) (p : Reply) (e : k ≡ Known l does) where
   pub wrote : (r : Register) (after : Dac) → does ≡ Write r → q .len ≡ l .asked → after ≡ writeDac o r (q .value % 0x100) → p ≡ granted (l .given) 0

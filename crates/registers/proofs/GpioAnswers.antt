@@ -3,19 +3,20 @@ use Prim.Native.Nat.{ℕ, _%_}
 use mathlib.Core.Bool.{Bool, true, false}
 use mathlib.Core.Path.{_≡_, refl}
 use borrow.Author.Tests.{eq-eqb, ne-eqb}
-use Rattle.registers.specs.declared.request.Lengths.{Lengths}
-use Rattle.registers.specs.declared.request.Reply.{Reply}
-use Rattle.registers.specs.declared.request.Reply.the-variants.{Later}
-use Rattle.registers.specs.declared.request.Request.{Request}
+use Rattle.commands.specs.declared.request.Lengths.{Lengths}
+use Rattle.commands.specs.declared.request.Reply.{Reply}
+use Rattle.commands.specs.declared.request.Reply.the-variants.{Later}
+use Rattle.commands.specs.declared.request.Request.{Request}
 use Rattle.registers.specs.declared.gpio.Answered.{Answered}
-use Rattle.registers.specs.declared.gpio.Command.{Command}
-use Rattle.registers.specs.declared.gpio.Command.the-variants.{Known, Unknown}
+use Rattle.commands.specs.declared.gpio.Command.{Command}
+use Rattle.commands.specs.declared.gpio.Command.the-variants.{Known, Unknown}
 use Rattle.registers.specs.declared.gpio.Gpio.{Gpio}
-use Rattle.registers.specs.declared.gpio.Does.{Does}
-use Rattle.registers.specs.declared.gpio.Does.the-variants.{Write, Read, ReadDatain}
-use Rattle.registers.specs.declared.gpio.Register.{Register}
-use Rattle.registers.specs.Request.{granted, refusal, notEnabled, busy, cmdUnknown, lenWrong}
-use Rattle.registers.specs.Gpio.{actGpio, gpioAnswer, gpioCommand, writeGpio, readGpio}
+use Rattle.commands.specs.declared.gpio.Does.{Does}
+use Rattle.commands.specs.declared.gpio.Does.the-variants.{Write, Read, ReadDatain}
+use Rattle.commands.specs.declared.gpio.Register.{Register}
+use Rattle.commands.specs.Request.{granted, refusal, notEnabled, busy, cmdUnknown, lenWrong}
+use Rattle.commands.specs.Gpio.{gpioCommand}
+use Rattle.registers.specs.Gpio.{actGpio, gpioAnswer, writeGpio, readGpio}
 
 module _ (g : Gpio) (q : Request) (k : Command) (l : Lengths) (does : Does) (p : Reply) (e : k ≡ Known l does) where
   pub wrote : (r : Register) (after : Gpio) → does ≡ Write r → q .len ≡ l .asked → after ≡ writeGpio g r (q .value) → p ≡ granted (l .given) 0

@@ -12,11 +12,11 @@ use Rattle.bits.specs.Bits.{digit}
 use Rattle.bits.proofs.Masks.{or-none, none-set}
 use Rattle.bits.proofs.Tests.{eqb-same}
 use Rattle.registers.specs.declared.controller.Control.{Control}
-use Rattle.registers.specs.declared.controller.Register.{Register}
-use Rattle.registers.specs.declared.controller.Register.the-variants.{Crb, Crc, Crd}
+use Rattle.commands.specs.declared.controller.Register.{Register}
+use Rattle.commands.specs.declared.controller.Register.the-variants.{Crb, Crc, Crd}
 use Rattle.registers.specs.declared.gpio.Gpio.{Gpio}
-use Rattle.registers.specs.declared.gpio.Register.{Register as GpioRegister}
-use Rattle.registers.specs.declared.gpio.Register.the-variants.{Intenable}
+use Rattle.commands.specs.declared.gpio.Register.{Register as GpioRegister}
+use Rattle.commands.specs.declared.gpio.Register.the-variants.{Intenable}
 use Rattle.registers.specs.declared.spi.Spi.{Spi}
 use Rattle.registers.specs.Controller.{kept, writeControl, controlInRange}
 use Rattle.registers.specs.Gpio.{writeGpio, gpioIsZero}

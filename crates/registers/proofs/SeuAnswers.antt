@@ -3,16 +3,17 @@ use Prim.Native.Nat.{ℕ}
 use mathlib.Core.Bool.{Bool, true, false}
 use mathlib.Core.Path.{_≡_, refl}
 use borrow.Author.Tests.{eq-eqb, ne-eqb}
-use Rattle.registers.specs.declared.request.Lengths.{Lengths}
-use Rattle.registers.specs.declared.request.Reply.{Reply}
-use Rattle.registers.specs.declared.request.Request.{Request}
+use Rattle.commands.specs.declared.request.Lengths.{Lengths}
+use Rattle.commands.specs.declared.request.Reply.{Reply}
+use Rattle.commands.specs.declared.request.Request.{Request}
 use Rattle.registers.specs.declared.seu.Answered.{Answered}
-use Rattle.registers.specs.declared.seu.Command.{Command}
-use Rattle.registers.specs.declared.seu.Command.the-variants.{Known, Unknown}
-use Rattle.registers.specs.declared.seu.Does.{Does}
-use Rattle.registers.specs.declared.seu.Does.the-variants.{Read, Clear}
-use Rattle.registers.specs.Request.{granted, refusal, notEnabled, cmdUnknown, lenWrong}
-use Rattle.registers.specs.Seu.{actSeu, seuAnswer, seuCommand}
+use Rattle.commands.specs.declared.seu.Command.{Command}
+use Rattle.commands.specs.declared.seu.Command.the-variants.{Known, Unknown}
+use Rattle.commands.specs.declared.seu.Does.{Does}
+use Rattle.commands.specs.declared.seu.Does.the-variants.{Read, Clear}
+use Rattle.commands.specs.Request.{granted, refusal, notEnabled, cmdUnknown, lenWrong}
+use Rattle.commands.specs.Seu.{seuCommand}
+use Rattle.registers.specs.Seu.{actSeu, seuAnswer}
 
 module _ (seu : ℕ) (q : Request) (k : Command) (l : Lengths) (does : Does) (p : Reply) (e : k ≡ Known l does) where
   pub got : does ≡ Read → q .len ≡ l .asked → p ≡ granted (l .given) seu

@@ -3,19 +3,20 @@ use Prim.Native.Nat.{ℕ, _%_}
 use mathlib.Core.Bool.{Bool, true, false}
 use mathlib.Core.Path.{_≡_, refl}
 use borrow.Author.Tests.{eq-eqb, ne-eqb}
-use Rattle.registers.specs.declared.request.Lengths.{Lengths}
-use Rattle.registers.specs.declared.request.Reply.{Reply}
-use Rattle.registers.specs.declared.request.Reply.the-variants.{Later}
-use Rattle.registers.specs.declared.request.Request.{Request}
+use Rattle.commands.specs.declared.request.Lengths.{Lengths}
+use Rattle.commands.specs.declared.request.Reply.{Reply}
+use Rattle.commands.specs.declared.request.Reply.the-variants.{Later}
+use Rattle.commands.specs.declared.request.Request.{Request}
 use Rattle.registers.specs.declared.spi.Answered.{Answered}
-use Rattle.registers.specs.declared.spi.Command.{Command}
-use Rattle.registers.specs.declared.spi.Command.the-variants.{Known, Unknown}
+use Rattle.commands.specs.declared.spi.Command.{Command}
+use Rattle.commands.specs.declared.spi.Command.the-variants.{Known, Unknown}
 use Rattle.registers.specs.declared.spi.Spi.{Spi}
-use Rattle.registers.specs.declared.spi.Does.{Does}
-use Rattle.registers.specs.declared.spi.Does.the-variants.{Write, Read, Go}
-use Rattle.registers.specs.declared.spi.Register.{Register}
-use Rattle.registers.specs.Request.{granted, refusal, notEnabled, busy, cmdUnknown, lenWrong}
-use Rattle.registers.specs.Spi.{actSpi, spiAnswer, spiCommand, writeSpi, readSpi, startedSpi}
+use Rattle.commands.specs.declared.spi.Does.{Does}
+use Rattle.commands.specs.declared.spi.Does.the-variants.{Write, Read, Go}
+use Rattle.commands.specs.declared.spi.Register.{Register}
+use Rattle.commands.specs.Request.{granted, refusal, notEnabled, busy, cmdUnknown, lenWrong}
+use Rattle.commands.specs.Spi.{spiCommand}
+use Rattle.registers.specs.Spi.{actSpi, spiAnswer, writeSpi, readSpi, startedSpi}
 
 module _ (s : Spi) (q : Request) (k : Command) (l : Lengths) (does : Does) (p : Reply) (e : k ≡ Known l does) where
   pub wrote : (r : Register) (after : Spi) → does ≡ Write r → q .len ≡ l .asked → after ≡ writeSpi s r (q .value) → p ≡ granted (l .given) 0

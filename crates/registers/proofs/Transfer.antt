@@ -14,10 +14,10 @@ use Rattle.bits.specs.Bits.{bitOf, word}
 use Rattle.bits.proofs.Bits.{is-word, word-same}
 use Rattle.bits.proofs.Masks.{bit-none, bit-below, chosen-by}
 use Rattle.bits.proofs.Tests.{ltb-same}
-use Rattle.registers.specs.declared.request.Reply.{Reply}
+use Rattle.commands.specs.declared.request.Reply.{Reply}
 use Rattle.registers.specs.declared.spi.Answered.{Answered}
 use Rattle.registers.specs.declared.spi.Spi.{Spi}
-use Rattle.registers.specs.Request.{granted}
+use Rattle.commands.specs.Request.{granted}
 use Rattle.registers.specs.Spi.{transferLength, dataBit, completedBit, completedWord, spiCompleted}
 
 module _ (control : ℕ) where

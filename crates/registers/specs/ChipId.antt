@@ -3,20 +3,12 @@ use Prim.Native.Nat.{ℕ}
 use mathlib.Core.Bool.{Bool, not, cond}
 use mathlib.Core.List.{List, [], _∷_}
 use lib.Dec.{eqb}
-use Rattle.bits.specs.Table.{Row, row, look}
-use Rattle.registers.specs.declared.request.Lengths.{Lengths}
-use Rattle.registers.specs.declared.request.Request.{Request}
-use Rattle.registers.specs.declared.request.Reply.{Reply}
-use Rattle.registers.specs.declared.chip_id.Command.{Command}
-use Rattle.registers.specs.declared.chip_id.Command.the-variants.{Read, Unknown}
-use Rattle.registers.specs.Request.{lengths, granted, refusal, notEnabled, cmdUnknown, lenWrong}
-
--- LEN: read 4/4
-abbrev pub idCommands : List (Row Command)
-idCommands = row 0xd1 (Read (lengths 4 4)) ∷ []
-
-unfoldable pub idCommand : ℕ → Command
-idCommand cmd = look idCommands Unknown cmd
+use Rattle.commands.specs.declared.request.Request.{Request}
+use Rattle.commands.specs.declared.request.Reply.{Reply}
+use Rattle.commands.specs.declared.chip_id.Command.{Command}
+use Rattle.commands.specs.declared.chip_id.Command.the-variants.{Read, Unknown}
+use Rattle.commands.specs.ChipId.{idCommand}
+use Rattle.commands.specs.Request.{granted, refusal, notEnabled, cmdUnknown, lenWrong}
 
 -- CMD unknown, LEN wrong, else the ID
 unfoldable pub actId : ℕ → Request → Command → Reply

@@ -4,38 +4,17 @@ use mathlib.Core.Bool.{Bool, not, _&&_, cond}
 use mathlib.Core.List.{List, [], _∷_}
 use lib.Dec.{eqb}
 use Rattle.bits.specs.Bits.{bitOf}
-use Rattle.bits.specs.Table.{Row, row, look}
-use Rattle.registers.specs.declared.request.Lengths.{Lengths}
-use Rattle.registers.specs.declared.request.Request.{Request}
+use Rattle.commands.specs.declared.request.Request.{Request}
 use Rattle.registers.specs.declared.controller.Answered.{Answered}
-use Rattle.registers.specs.declared.controller.Command.{Command}
-use Rattle.registers.specs.declared.controller.Command.the-variants.{Known, Unknown}
+use Rattle.commands.specs.declared.controller.Command.{Command}
+use Rattle.commands.specs.declared.controller.Command.the-variants.{Known, Unknown}
 use Rattle.registers.specs.declared.controller.Control.{Control}
-use Rattle.registers.specs.declared.controller.Does.{Does}
-use Rattle.registers.specs.declared.controller.Does.the-variants.{Write, Read}
-use Rattle.registers.specs.declared.controller.Register.{Register}
-use Rattle.registers.specs.declared.controller.Register.the-variants.{Crb, Crc, Crd}
-use Rattle.registers.specs.Request.{lengths, granted, refusal, cmdUnknown, lenWrong}
-
--- LEN: write 4/2, read 2/4
-abbrev write : Lengths
-write = lengths 4 2
-
-abbrev read : Lengths
-read = lengths 2 4
-
-abbrev pub controllerCommands : List (Row Command)
-controllerCommands =
-    row 0x02 (Known write (Write Crb))
-    ∷ row 0x04 (Known write (Write Crc))
-    ∷ row 0x06 (Known write (Write Crd))
-    ∷ row 0x03 (Known read (Read Crb))
-    ∷ row 0x05 (Known read (Read Crc))
-    ∷ row 0x07 (Known read (Read Crd))
-    ∷ []
-
-unfoldable pub controllerCommand : ℕ → Command
-controllerCommand cmd = look controllerCommands Unknown cmd
+use Rattle.commands.specs.declared.controller.Does.{Does}
+use Rattle.commands.specs.declared.controller.Does.the-variants.{Write, Read}
+use Rattle.commands.specs.declared.controller.Register.{Register}
+use Rattle.commands.specs.declared.controller.Register.the-variants.{Crb, Crc, Crd}
+use Rattle.commands.specs.Controller.{controllerCommand}
+use Rattle.commands.specs.Request.{granted, refusal, cmdUnknown, lenWrong}
 
 -- Power-on.
 abbrev pub controlZero : Control

@@ -1,5 +1,3 @@
-pub mod Request
-pub mod Channels
 pub mod Controller
 pub mod Spi
 pub mod Gpio

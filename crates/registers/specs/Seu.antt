@@ -3,31 +3,14 @@ use Prim.Native.Nat.{ℕ}
 use mathlib.Core.Bool.{Bool, not, cond}
 use mathlib.Core.List.{List, [], _∷_}
 use lib.Dec.{eqb}
-use Rattle.bits.specs.Table.{Row, row, look}
-use Rattle.registers.specs.declared.request.Lengths.{Lengths}
-use Rattle.registers.specs.declared.request.Request.{Request}
+use Rattle.commands.specs.declared.request.Request.{Request}
 use Rattle.registers.specs.declared.seu.Answered.{Answered}
-use Rattle.registers.specs.declared.seu.Command.{Command}
-use Rattle.registers.specs.declared.seu.Command.the-variants.{Known, Unknown}
-use Rattle.registers.specs.declared.seu.Does.{Does}
-use Rattle.registers.specs.declared.seu.Does.the-variants.{Read, Clear}
-use Rattle.registers.specs.Request.{lengths, granted, refusal, notEnabled, cmdUnknown, lenWrong}
-
--- LEN: read 4/4, clear 4/2
-abbrev read : Lengths
-read = lengths 4 4
-
-abbrev clear : Lengths
-clear = lengths 4 2
-
-abbrev pub seuCommands : List (Row Command)
-seuCommands =
-    row 0xf1 (Known read Read)
-    ∷ row 0xf0 (Known clear Clear)
-    ∷ []
-
-unfoldable pub seuCommand : ℕ → Command
-seuCommand cmd = look seuCommands Unknown cmd
+use Rattle.commands.specs.declared.seu.Command.{Command}
+use Rattle.commands.specs.declared.seu.Command.the-variants.{Known, Unknown}
+use Rattle.commands.specs.declared.seu.Does.{Does}
+use Rattle.commands.specs.declared.seu.Does.the-variants.{Read, Clear}
+use Rattle.commands.specs.Seu.{seuCommand}
+use Rattle.commands.specs.Request.{granted, refusal, notEnabled, cmdUnknown, lenWrong}
 
 abbrev pub refuseSeu : ℕ → ℕ → Answered
 refuseSeu seu error = record { seu = seu; reply = refusal error }

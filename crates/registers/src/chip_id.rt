@@ -1,30 +1,14 @@
 // Channel 0x14: the chip ID, read only.
 ghost use mathlib.Core.Path.{_≡_};
-ghost use Rattle.registers.specs.ChipId.{idCommand, actId, idAnswer};
-use crate::request::CMD_UNKNOWN;
-use crate::request::LEN_WRONG;
-use crate::request::Lengths;
-use crate::request::NOT_ENABLED;
-use crate::request::Reply;
-use crate::request::Request;
-use crate::request::granted;
-use crate::request::refusal;
-
-pub enum Command {
-    Read(Lengths),
-    Unknown,
-}
-
-const READ: Lengths = Lengths { asked: 4, given: 4 };
-
-pub fn command_of(cmd: u8) -> Command
-    ensures { λ r. ⌜ r ≡ idCommand cmd ⌝ }
-{
-    match cmd {
-        0xd1 => Command::Read(READ),
-        _ => Command::Unknown,
-    }
-}
+ghost use Rattle.registers.specs.ChipId.{actId, idAnswer};
+use commands::chip_id::Command;
+use commands::request::CMD_UNKNOWN;
+use commands::request::LEN_WRONG;
+use commands::request::NOT_ENABLED;
+use commands::request::Reply;
+use commands::request::Request;
+use commands::request::granted;
+use commands::request::refusal;
 
 fn act(id: u32, q: Request, command: Command) -> Reply
     ensures { λ r. ⌜ r ≡ actId id q command ⌝ }
@@ -45,7 +29,7 @@ pub fn answer(id: u32, enabled: bool, q: Request) -> Reply
     ensures { λ r. ⌜ r ≡ idAnswer id enabled q ⌝ }
 {
     if enabled {
-        act(id, q, command_of(q.cmd))
+        act(id, q, commands::chip_id::command_of(q.cmd))
     } else {
         refusal(NOT_ENABLED)
     }

@@ -1,53 +1,21 @@
 // Channel 0x00, the controller: the registers that switch the other channels on.
 ghost use mathlib.Core.Path.{_≡_};
-ghost use Rattle.registers.specs.Controller.{controllerCommand, readControl, writeControl, actControl, controllerAnswer};
+ghost use Rattle.registers.specs.Controller.{readControl, writeControl, actControl, controllerAnswer};
 ghost use Rattle.registers.specs.Controller.{controlZero, controlInRange, spiEnabled, gpioEnabled, seuEnabled, idEnabled};
-use crate::request::CMD_UNKNOWN;
-use crate::request::LEN_WRONG;
-use crate::request::Lengths;
-use crate::request::Reply;
-use crate::request::Request;
-use crate::request::granted;
-use crate::request::refusal;
+use commands::controller::Command;
+use commands::controller::Does;
+use commands::controller::Register;
+use commands::request::CMD_UNKNOWN;
+use commands::request::LEN_WRONG;
+use commands::request::Reply;
+use commands::request::Request;
+use commands::request::granted;
+use commands::request::refusal;
 
 pub struct Control {
     pub crb: u8,
     pub crc: u8,
     pub crd: u8,
-}
-
-pub enum Register {
-    Crb,
-    Crc,
-    Crd,
-}
-
-pub enum Does {
-    Write(Register),
-    Read(Register),
-}
-
-pub enum Command {
-    Known(Lengths, Does),
-    Unknown,
-}
-
-const WRITE: Lengths = Lengths { asked: 4, given: 2 };
-
-const READ: Lengths = Lengths { asked: 2, given: 4 };
-
-pub fn command_of(cmd: u8) -> Command
-    ensures { λ r. ⌜ r ≡ controllerCommand cmd ⌝ }
-{
-    match cmd {
-        0x02 => Command::Known(WRITE, Does::Write(Register::Crb)),
-        0x04 => Command::Known(WRITE, Does::Write(Register::Crc)),
-        0x06 => Command::Known(WRITE, Does::Write(Register::Crd)),
-        0x03 => Command::Known(READ, Does::Read(Register::Crb)),
-        0x05 => Command::Known(READ, Does::Read(Register::Crc)),
-        0x07 => Command::Known(READ, Does::Read(Register::Crd)),
-        _ => Command::Unknown,
-    }
 }
 
 fn read(c: Control, which: Register) -> u8
@@ -119,7 +87,7 @@ fn act(c: Control, q: Request, command: Command) -> Answered
 pub fn answer(c: Control, q: Request) -> Answered
     ensures { λ r. ⌜ r ≡ controllerAnswer c q ⌝ }
 {
-    act(c, q, command_of(q.cmd))
+    act(c, q, commands::controller::command_of(q.cmd))
 }
 
 pub fn zero() -> Control

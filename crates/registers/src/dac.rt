@@ -1,56 +1,21 @@
 // Channel 0x15, the four DAC outputs.
 ghost use mathlib.Core.Path.{_≡_};
-ghost use Rattle.registers.specs.Dac.{dacCommand, readDac, writeDac, actDac, dacAnswer, dacZero};
-use crate::request::CMD_UNKNOWN;
-use crate::request::LEN_WRONG;
-use crate::request::Lengths;
-use crate::request::Reply;
-use crate::request::Request;
-use crate::request::granted;
-use crate::request::refusal;
+ghost use Rattle.registers.specs.Dac.{readDac, writeDac, actDac, dacAnswer, dacZero};
+use commands::dac::Command;
+use commands::dac::Does;
+use commands::dac::Register;
+use commands::request::CMD_UNKNOWN;
+use commands::request::LEN_WRONG;
+use commands::request::Reply;
+use commands::request::Request;
+use commands::request::granted;
+use commands::request::refusal;
 
 pub struct Dac {
     pub a: u8,
     pub b: u8,
     pub c: u8,
     pub d: u8,
-}
-
-pub enum Register {
-    A,
-    B,
-    C,
-    D,
-}
-
-pub enum Does {
-    Write(Register),
-    Read(Register),
-}
-
-pub enum Command {
-    Known(Lengths, Does),
-    Unknown,
-}
-
-const WRITE: Lengths = Lengths { asked: 4, given: 1 };
-
-const READ: Lengths = Lengths { asked: 1, given: 4 };
-
-pub fn command_of(cmd: u8) -> Command
-    ensures { λ r. ⌜ r ≡ dacCommand cmd ⌝ }
-{
-    match cmd {
-        0x10 => Command::Known(WRITE, Does::Write(Register::A)),
-        0x20 => Command::Known(WRITE, Does::Write(Register::B)),
-        0x30 => Command::Known(WRITE, Does::Write(Register::C)),
-        0x40 => Command::Known(WRITE, Does::Write(Register::D)),
-        0x11 => Command::Known(READ, Does::Read(Register::A)),
-        0x21 => Command::Known(READ, Does::Read(Register::B)),
-        0x31 => Command::Known(READ, Does::Read(Register::C)),
-        0x41 => Command::Known(READ, Does::Read(Register::D)),
-        _ => Command::Unknown,
-    }
 }
 
 fn read(o: Dac, which: Register) -> u8
@@ -123,7 +88,7 @@ fn act(o: Dac, q: Request, command: Command) -> Answered
 pub fn answer(o: Dac, q: Request) -> Answered
     ensures { λ r. ⌜ r ≡ dacAnswer o q ⌝ }
 {
-    act(o, q, command_of(q.cmd))
+    act(o, q, commands::dac::command_of(q.cmd))
 }
 
 pub fn zero() -> Dac

@@ -2,16 +2,18 @@
 ghost use mathlib.Core.Path.{_≡_};
 ghost use mathlib.Core.Bool.{cond};
 ghost use Rattle.bits.specs.Bits.{bitOf, word};
-ghost use Rattle.registers.specs.Gpio.{gpioCommand, readGpio, writeGpio, actGpio, gpioAnswer, gpioZero, gpioIsZero};
+ghost use Rattle.registers.specs.Gpio.{readGpio, writeGpio, actGpio, gpioAnswer, gpioZero, gpioIsZero};
 ghost use Rattle.registers.specs.Pins.{takes, datainAfter, firingLines, gpioSampled};
-use crate::request::CMD_UNKNOWN;
-use crate::request::LEN_WRONG;
-use crate::request::Lengths;
-use crate::request::NOT_ENABLED;
-use crate::request::Reply;
-use crate::request::Request;
-use crate::request::granted;
-use crate::request::refusal;
+use commands::gpio::Command;
+use commands::gpio::Does;
+use commands::gpio::Register;
+use commands::request::CMD_UNKNOWN;
+use commands::request::LEN_WRONG;
+use commands::request::NOT_ENABLED;
+use commands::request::Reply;
+use commands::request::Request;
+use commands::request::granted;
+use commands::request::refusal;
 
 pub struct Gpio {
     pub dataout: u32,
@@ -23,58 +25,6 @@ pub struct Gpio {
     pub clksel: u32,
     pub edgesel: u32,
     pub intenable: bool,
-}
-
-// The registers that are written and read; DATAIN is only read.
-pub enum Register {
-    Dataout,
-    Direction,
-    Intsel,
-    Inttrig,
-    Ints,
-    Clksel,
-    Edgesel,
-    Intenable,
-}
-
-pub enum Does {
-    Write(Register),
-    Read(Register),
-    ReadDatain,
-}
-
-pub enum Command {
-    Known(Lengths, Does),
-    Unknown,
-}
-
-const WRITE: Lengths = Lengths { asked: 4, given: 2 };
-
-const READ: Lengths = Lengths { asked: 1, given: 4 };
-
-pub fn command_of(cmd: u8) -> Command
-    ensures { λ r. ⌜ r ≡ gpioCommand cmd ⌝ }
-{
-    match cmd {
-        0x10 => Command::Known(WRITE, Does::Write(Register::Dataout)),
-        0x11 => Command::Known(READ, Does::Read(Register::Dataout)),
-        0x20 => Command::Known(WRITE, Does::Write(Register::Direction)),
-        0x21 => Command::Known(READ, Does::Read(Register::Direction)),
-        0x30 => Command::Known(WRITE, Does::Write(Register::Intsel)),
-        0x31 => Command::Known(READ, Does::Read(Register::Intsel)),
-        0x40 => Command::Known(WRITE, Does::Write(Register::Inttrig)),
-        0x41 => Command::Known(READ, Does::Read(Register::Inttrig)),
-        0x70 => Command::Known(WRITE, Does::Write(Register::Ints)),
-        0x71 => Command::Known(READ, Does::Read(Register::Ints)),
-        0x80 => Command::Known(WRITE, Does::Write(Register::Clksel)),
-        0x81 => Command::Known(READ, Does::Read(Register::Clksel)),
-        0x90 => Command::Known(WRITE, Does::Write(Register::Edgesel)),
-        0x91 => Command::Known(READ, Does::Read(Register::Edgesel)),
-        0x60 => Command::Known(WRITE, Does::Write(Register::Intenable)),
-        0x61 => Command::Known(READ, Does::Read(Register::Intenable)),
-        0x01 => Command::Known(READ, Does::ReadDatain),
-        _ => Command::Unknown,
-    }
 }
 
 fn read(g: Gpio, which: Register) -> u32
@@ -160,7 +110,7 @@ pub fn answer(g: Gpio, enabled: bool, q: Request) -> Answered
     ensures { λ r. ⌜ r ≡ gpioAnswer g enabled q ⌝ }
 {
     if enabled {
-        act(g, q, command_of(q.cmd))
+        act(g, q, commands::gpio::command_of(q.cmd))
     } else {
         Answered {
             gpio: g,

@@ -1,9 +1,7 @@
-// The registers of each channel, a module for one channel, by value: the command table, read, write, start.
-pub mod channel;
+// The registers of each channel, a module for one channel, by value: what a request reads, writes or starts.
 pub mod chip_id;
 pub mod controller;
 pub mod dac;
 pub mod gpio;
-pub mod request;
 pub mod seu;
 pub mod spi;

@@ -1,38 +1,15 @@
 // Channel 0x13: the counter of single event upsets, read and cleared.
 ghost use mathlib.Core.Path.{_≡_};
-ghost use Rattle.registers.specs.Seu.{seuCommand, actSeu, seuAnswer};
-use crate::request::CMD_UNKNOWN;
-use crate::request::LEN_WRONG;
-use crate::request::Lengths;
-use crate::request::NOT_ENABLED;
-use crate::request::Reply;
-use crate::request::Request;
-use crate::request::granted;
-use crate::request::refusal;
-
-pub enum Does {
-    Read,
-    Clear,
-}
-
-pub enum Command {
-    Known(Lengths, Does),
-    Unknown,
-}
-
-const READ: Lengths = Lengths { asked: 4, given: 4 };
-
-const CLEAR: Lengths = Lengths { asked: 4, given: 2 };
-
-pub fn command_of(cmd: u8) -> Command
-    ensures { λ r. ⌜ r ≡ seuCommand cmd ⌝ }
-{
-    match cmd {
-        0xf1 => Command::Known(READ, Does::Read),
-        0xf0 => Command::Known(CLEAR, Does::Clear),
-        _ => Command::Unknown,
-    }
-}
+ghost use Rattle.registers.specs.Seu.{actSeu, seuAnswer};
+use commands::request::CMD_UNKNOWN;
+use commands::request::LEN_WRONG;
+use commands::request::NOT_ENABLED;
+use commands::request::Reply;
+use commands::request::Request;
+use commands::request::granted;
+use commands::request::refusal;
+use commands::seu::Command;
+use commands::seu::Does;
 
 // What a request leaves of the counter, and its reply.
 pub struct Answered {
@@ -74,7 +51,7 @@ pub fn answer(seu: u32, enabled: bool, q: Request) -> Answered
     ensures { λ r. ⌜ r ≡ seuAnswer seu enabled q ⌝ }
 {
     if enabled {
-        act(seu, q, command_of(q.cmd))
+        act(seu, q, commands::seu::command_of(q.cmd))
     } else {
         Answered {
             seu: seu,

@@ -4,17 +4,19 @@ ghost use mathlib.Core.Bool.{cond};
 ghost use Rattle.bits.specs.Bits.{bitOf, word};
 ghost use lib.Dec.{ltb};
 ghost use Prim.Native.Nat.{_+_};
-ghost use Rattle.registers.specs.Spi.{spiCommand, readSpi, writeSpi, actSpi, spiAnswer};
+ghost use Rattle.registers.specs.Spi.{readSpi, writeSpi, actSpi, spiAnswer};
 ghost use Rattle.registers.specs.Spi.{spiZero, spiIsZero, transferLength, spiCompleted};
-use crate::request::BUSY;
-use crate::request::CMD_UNKNOWN;
-use crate::request::LEN_WRONG;
-use crate::request::Lengths;
-use crate::request::NOT_ENABLED;
-use crate::request::Reply;
-use crate::request::Request;
-use crate::request::granted;
-use crate::request::refusal;
+use commands::request::BUSY;
+use commands::request::CMD_UNKNOWN;
+use commands::request::LEN_WRONG;
+use commands::request::NOT_ENABLED;
+use commands::request::Reply;
+use commands::request::Request;
+use commands::request::granted;
+use commands::request::refusal;
+use commands::spi::Command;
+use commands::spi::Does;
+use commands::spi::Register;
 
 pub struct Spi {
     pub control: u16,
@@ -24,56 +26,6 @@ pub struct Spi {
     pub words: [u32; 4],
     // The TRN of the open GO, or 0 where none is open: no TRN that is answered is 0.
     pub go: u8,
-}
-
-pub enum Register {
-    Control,
-    Freq,
-    Ss,
-    Data0,
-    Data1,
-    Data2,
-    Data3,
-}
-
-pub enum Does {
-    Write(Register),
-    Read(Register),
-    Go,
-}
-
-pub enum Command {
-    Known(Lengths, Does),
-    Unknown,
-}
-
-const WRITE: Lengths = Lengths { asked: 6, given: 2 };
-
-const READ: Lengths = Lengths { asked: 2, given: 6 };
-
-const GO: Lengths = Lengths { asked: 2, given: 6 };
-
-pub fn command_of(cmd: u8) -> Command
-    ensures { λ r. ⌜ r ≡ spiCommand cmd ⌝ }
-{
-    match cmd {
-        0x40 => Command::Known(WRITE, Does::Write(Register::Control)),
-        0x41 => Command::Known(READ, Does::Read(Register::Control)),
-        0x50 => Command::Known(WRITE, Does::Write(Register::Freq)),
-        0x51 => Command::Known(READ, Does::Read(Register::Freq)),
-        0x60 => Command::Known(WRITE, Does::Write(Register::Ss)),
-        0x61 => Command::Known(READ, Does::Read(Register::Ss)),
-        0x00 => Command::Known(WRITE, Does::Write(Register::Data0)),
-        0x01 => Command::Known(READ, Does::Read(Register::Data0)),
-        0x10 => Command::Known(WRITE, Does::Write(Register::Data1)),
-        0x11 => Command::Known(READ, Does::Read(Register::Data1)),
-        0x20 => Command::Known(WRITE, Does::Write(Register::Data2)),
-        0x21 => Command::Known(READ, Does::Read(Register::Data2)),
-        0x30 => Command::Known(WRITE, Does::Write(Register::Data3)),
-        0x31 => Command::Known(READ, Does::Read(Register::Data3)),
-        0x72 => Command::Known(GO, Does::Go),
-        _ => Command::Unknown,
-    }
 }
 
 fn read(s: Spi, which: Register) -> u32
@@ -157,7 +109,7 @@ pub fn answer(s: Spi, enabled: bool, q: Request) -> Answered
 {
     if enabled {
         if s.go == 0 {
-            act(s, q, command_of(q.cmd))
+            act(s, q, commands::spi::command_of(q.cmd))
         } else {
             Answered {
                 spi: s,
@@ -244,6 +196,6 @@ pub fn completed(s: Spi, received: [u32; 4]) -> Answered
             go: 0,
             ..s
         },
-        reply: granted(GO.given, w0),
+        reply: granted(commands::spi::GO.given, w0),
     }
 }
