@@ -154,7 +154,7 @@ module _ (a : Adapter) (f : Fits a) where
         high-half _ _ (f .spi .control) (f .spi .freq),
         ss-read _ (f .spi .ss),
       )
-      (ap (λ (l : List ℕ). record { control = a .spi .control; freq = a .spi .freq; ss = a .spi .ss; words = l; go = a .spi .go }) (elements-all (a .spi .words) 4 (f .spi .four)))
+      (ap (λ (l : List ℕ). record { control = a .spi .control; freq = a .spi .freq; ss = a .spi .ss; words = l; go = a .spi .go }) (elements-all (a .spi .words) 4 (f .spi .count)))
 
   pub state-image : (id : ℕ) → id ≡ a .id → stateOf id (imageWords a) ≡ a
   unfolding stateOf imageWords flags-of
