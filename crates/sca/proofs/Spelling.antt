@@ -16,7 +16,7 @@ use Rattle.link.specs.declared.Received.{Received}
 use Rattle.sca.specs.Link.{receiverBytes, receiverOf, packReceived, receiveResult, receiveReceiver, receiveOutput}
 
 -- a list written over from its front to its end is what was written
-put-all : (s d : List ℕ) → length s ≡ length d → put 0 s d ≡ s
+pub put-all : (s d : List ℕ) → length s ≡ length d → put 0 s d ≡ s
 unfolding put
 put-all s d e = let h : length d ≤ 0 + length s = omega arith in ap (λ (l : List ℕ). s ++ l) (drop-of-length-le d h) ∙ append-nil s
 

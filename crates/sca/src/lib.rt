@@ -1,13 +1,20 @@
 // What C and Rust link: every call on numbers and byte slices. include/sca.h is its manual.
 mod receiver;
+mod state;
 
+use adapter::Answer;
+use adapter::Created;
+use adapter::KeptNumber;
 use link::Received;
 use link::Sent;
 use numbers::BAD_STATE;
 use numbers::NO_FRAME;
 ghost use mathlib.Core.Path.{_≡_};
 ghost use Prim.Native.Nat.{_≤_, _<_};
+ghost use lib.ListN.{length};
+ghost use Rattle.chip.specs.Event.{Event};
 ghost use Rattle.sca.specs.Link as calls;
+ghost use Rattle.sca.specs.Adapter as events;
 
 // A number, in a result of 64 bits.
 fn wide(number: u8) -> u64
@@ -65,6 +72,146 @@ pub extern "C" fn sca_receive(rx: &mut [u8], input: &[u8], start: usize, output:
         let got = link::receive(receiver::spelled_by(rx), input, start, output);
         receiver::spell(got.rx, rx);
         return pack_received(got);
+    }
+    wide(BAD_STATE)
+}
+
+// The number in bits 7 to 0, the frame's length in bits 15 to 8, its port in bits 23 to 16.
+fn pack_answer(a: Answer) -> u64
+    ensures { λ r. ⌜ r ≡ events.packAnswer a ⌝ }
+{
+    wide(a.number) + 256 * wide(a.length) + 65536 * wide(a.port)
+}
+
+// The number in bits 7 to 0, the kept number in bits 15 to 8.
+fn pack_kept(k: KeptNumber) -> u64
+    ensures { λ r. ⌜ r ≡ events.packKept k ⌝ }
+{
+    wide(k.number) + 256 * wide(k.kept)
+}
+
+// An answer, with the state it leaves.
+fn finish(bytes: &mut [u8], a: Answer) -> u64
+    requires { ⌜ length (now bytes) ≡ 76 ⌝ }
+    ensures { λ r. ⌜ r ≡ events.packAnswer a ⌝ }
+    ensures { λ _. ⌜ now (bytes .exit) ≡ events.stateBytes (a .adapter) ⌝ }
+{
+    let after = a.adapter;
+    state::spell(after, bytes);
+    pack_answer(a)
+}
+
+// A new adapter for a chip of this ID.
+#[no_mangle]
+pub extern "C" fn sca_create(bytes: &mut [u8], id: u32) -> u64
+    ensures { λ r. ⌜ events.gave r (now (bytes .exit)) ≡ events.created (now (bytes .entry)) id ⌝ }
+{
+    if bytes.len() == state::BYTES {
+        let c = adapter::create(id);
+        if c.number == NO_FRAME {
+            let after = c.adapter;
+            state::spell(after, bytes);
+            return wide(c.number);
+        }
+        return wide(c.number);
+    }
+    wide(BAD_STATE)
+}
+
+// Makes a journal empty.
+#[no_mangle]
+pub extern "C" fn sca_empty(journal: &mut [u8]) -> u64
+    ensures { λ r. ⌜ events.gave r (now (journal .exit)) ≡ events.emptied (now (journal .entry)) ⌝ }
+{
+    wide(adapter::empty(journal))
+}
+
+// How many events a journal can take back.
+#[no_mangle]
+pub extern "C" fn sca_kept(journal: &[u8]) -> u64
+    ensures { λ r. ⌜ r ≡ events.kept (now (journal .entry)) ⌝ }
+{
+    pack_kept(adapter::kept(journal))
+}
+
+// A frame body on a port.
+#[no_mangle]
+pub extern "C" fn sca_frame(
+    bytes: &mut [u8],
+    journal: &mut [u8],
+    port: u8,
+    body: &[u8],
+    output: &mut [u8],
+) -> u64
+    ensures { λ r. ⌜ events.left r (now (bytes .exit)) (now (journal .exit)) (now (output .exit)) ≡ events.happened (now (bytes .entry)) (now (journal .entry)) (Event.frame port (now (body .entry))) (now (output .entry)) ⌝ }
+{
+    if state::is_state(bytes) {
+        let before = state::state_in(bytes);
+        let a = adapter::frame(before, journal, port, body, output);
+        return finish(bytes, a);
+    }
+    wide(BAD_STATE)
+}
+
+// An SPI completion with 16 received bytes.
+#[no_mangle]
+pub extern "C" fn sca_completion(
+    bytes: &mut [u8],
+    journal: &mut [u8],
+    received: &[u8],
+    output: &mut [u8],
+) -> u64
+    ensures { λ r. ⌜ events.left r (now (bytes .exit)) (now (journal .exit)) (now (output .exit)) ≡ events.happened (now (bytes .entry)) (now (journal .entry)) (Event.completion (now (received .entry))) (now (output .entry)) ⌝ }
+{
+    if state::is_state(bytes) {
+        let before = state::state_in(bytes);
+        let a = adapter::completion(before, journal, received, output);
+        return finish(bytes, a);
+    }
+    wide(BAD_STATE)
+}
+
+// A pin sample.
+#[no_mangle]
+pub extern "C" fn sca_sample(
+    bytes: &mut [u8],
+    journal: &mut [u8],
+    levels: u32,
+    kind: u8,
+    output: &mut [u8],
+) -> u64
+    ensures { λ r. ⌜ events.left r (now (bytes .exit)) (now (journal .exit)) (now (output .exit)) ≡ events.happened (now (bytes .entry)) (now (journal .entry)) (Event.sample levels kind) (now (output .entry)) ⌝ }
+{
+    if state::is_state(bytes) {
+        let before = state::state_in(bytes);
+        let a = adapter::sample(before, journal, levels, kind, output);
+        return finish(bytes, a);
+    }
+    wide(BAD_STATE)
+}
+
+// An upset.
+#[no_mangle]
+pub extern "C" fn sca_upset(bytes: &mut [u8], journal: &mut [u8], output: &mut [u8]) -> u64
+    ensures { λ r. ⌜ events.left r (now (bytes .exit)) (now (journal .exit)) (now (output .exit)) ≡ events.happened (now (bytes .entry)) (now (journal .entry)) Event.upset (now (output .entry)) ⌝ }
+{
+    if state::is_state(bytes) {
+        let before = state::state_in(bytes);
+        let a = adapter::upset(before, journal, output);
+        return finish(bytes, a);
+    }
+    wide(BAD_STATE)
+}
+
+// Takes the newest standing event back.
+#[no_mangle]
+pub extern "C" fn sca_step_back(bytes: &mut [u8], journal: &mut [u8]) -> u64
+    ensures { λ r. ⌜ events.backed r (now (bytes .exit)) (now (journal .exit)) ≡ events.steppedBack (now (bytes .entry)) (now (journal .entry)) ⌝ }
+{
+    if state::is_state(bytes) {
+        let before = state::state_in(bytes);
+        let a = adapter::step_back(before, journal);
+        return finish(bytes, a);
     }
     wide(BAD_STATE)
 }
