@@ -2,6 +2,7 @@
 
 /// The calls as include/sca.h declares them.
 mod library {
+    #[link(name = "sca", kind = "static")]
     extern "C" {
         pub fn sca_receiver_new(receiver: *mut u8, receiver_length: usize) -> u64;
         pub fn sca_receive(

@@ -3,7 +3,10 @@
 pub const FLAG: [bool; 8] = [false, true, true, true, true, true, true, false];
 
 pub fn bits_of(bytes: &[u8]) -> Vec<bool> {
-    bytes.iter().flat_map(|byte| (0..8).map(move |place| byte >> place & 1 == 1)).collect()
+    bytes
+        .iter()
+        .flat_map(|byte| (0..8).map(move |place| byte >> place & 1 == 1))
+        .collect()
 }
 
 /// The bits at the end of whole bytes, and the bit that they start at. Each bit before that one is `before`.

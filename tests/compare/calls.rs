@@ -30,7 +30,12 @@ pub enum Call {
     /// Reads a buffer from a start bit to its end, answer by answer; once, where that is refused.
     Read { input: Input, start: usize, room: usize },
     /// Reads once with a receiver of these bytes; the stream's own is not touched.
-    Spelled { receiver: Vec<u8>, input: Input, start: usize, room: usize },
+    Spelled {
+        receiver: Vec<u8>,
+        input: Input,
+        start: usize,
+        room: usize,
+    },
     /// Frames a body.
     Send { body: Vec<u8>, room: usize },
 }
@@ -59,8 +64,20 @@ impl fmt::Display for Call {
             Call::Read { input, start, room } => {
                 write!(out, "read from {} room {} cable {}", start, room, input)
             }
-            Call::Spelled { receiver, input, start, room } => {
-                write!(out, "spelled {} from {} room {} cable {}", Hex(receiver), start, room, input)
+            Call::Spelled {
+                receiver,
+                input,
+                start,
+                room,
+            } => {
+                write!(
+                    out,
+                    "spelled {} from {} room {} cable {}",
+                    Hex(receiver),
+                    start,
+                    room,
+                    input
+                )
             }
             Call::Send { body, room } => write!(out, "send {} room {}", Hex(body), room),
         }
@@ -74,25 +91,39 @@ fn bytes_in(text: &str) -> Option<Vec<u8>> {
     if text.len() % 2 != 0 || !text.is_ascii() {
         return None;
     }
-    (0..text.len() / 2).map(|at| u8::from_str_radix(&text[2 * at..2 * at + 2], 16).ok()).collect()
+    (0..text.len() / 2)
+        .map(|at| u8::from_str_radix(&text[2 * at..2 * at + 2], 16).ok())
+        .collect()
 }
 
 /// The call that a line spells.
 pub fn call_in(line: &str) -> Option<Call> {
     let number = |text: &str| text.parse::<usize>().ok();
-    let input = |bytes: &str, zeros: &str| Some(Input { bytes: bytes_in(bytes)?, zeros: number(zeros)? });
+    let input = |bytes: &str, zeros: &str| {
+        Some(Input {
+            bytes: bytes_in(bytes)?,
+            zeros: number(zeros)?,
+        })
+    };
     match line.split_whitespace().collect::<Vec<_>>()[..] {
-        ["new", length] => Some(Call::New { length: number(length)? }),
-        ["read", "from", start, "room", room, "cable", bytes, "zeros", zeros] => {
-            Some(Call::Read { input: input(bytes, zeros)?, start: number(start)?, room: number(room)? })
-        }
+        ["new", length] => Some(Call::New {
+            length: number(length)?,
+        }),
+        ["read", "from", start, "room", room, "cable", bytes, "zeros", zeros] => Some(Call::Read {
+            input: input(bytes, zeros)?,
+            start: number(start)?,
+            room: number(room)?,
+        }),
         ["spelled", receiver, "from", start, "room", room, "cable", bytes, "zeros", zeros] => Some(Call::Spelled {
             receiver: bytes_in(receiver)?,
             input: input(bytes, zeros)?,
             start: number(start)?,
             room: number(room)?,
         }),
-        ["send", body, "room", room] => Some(Call::Send { body: bytes_in(body)?, room: number(room)? }),
+        ["send", body, "room", room] => Some(Call::Send {
+            body: bytes_in(body)?,
+            room: number(room)?,
+        }),
         _ => None,
     }
 }
