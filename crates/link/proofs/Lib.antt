@@ -7,3 +7,4 @@ pub mod Content
 pub mod Fields
 pub mod View
 pub mod Calls
+pub mod Bounds

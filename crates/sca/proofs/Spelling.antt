@@ -1,0 +1,70 @@
+-- Laws of a receiver as bytes.
+use mathlib.Core.Path.{_≡_, refl, sym, ap, _∙_}
+use mathlib.Core.List.{List, [], _∷_, _++_, append-nil}
+use Prim.Native.Nat.{ℕ, suc, _+_, _≤_, _<_}
+use native.Mathlib.Omega.{arith}
+use native.Mathlib.Numerals.{add-one}
+use lib.ListN.{length, take, drop, getD, set, length-drop, drop-of-length-le}
+use lib.Seq.{take-all, getD-drop}
+use borrow.Author.Tests.{eq-eqb, ne-eqb}
+use Rattle.numbers.specs.Numbers as number
+use Rattle.parts.specs.Parts.{part, put}
+use Rattle.parts.proofs.Laws.{put-put, copied-more}
+use Rattle.link.specs.Receive.{received, outputAfter}
+use Rattle.link.specs.declared.Receiver.{Receiver}
+use Rattle.link.specs.declared.Received.{Received}
+use Rattle.sca.specs.Link.{receiverBytes, receiverOf, packReceived, receiveResult, receiveReceiver, receiveOutput}
+
+-- a list written over from its front to its end is what was written
+put-all : (s d : List ℕ) → length s ≡ length d → put 0 s d ≡ s
+unfolding put
+put-all s d e = let h : length d ≤ 0 + length s = omega arith in ap (λ (l : List ℕ). s ++ l) (drop-of-length-le d h) ∙ append-nil s
+
+-- the head, then the content
+pub spelled : (r : Receiver) (d d₁ d₂ : List ℕ) → length (r .bytes) ≡ 20 → length d ≡ 24
+    → d₁ ≡ put 0 (r .mode ∷ r .ones ∷ r .lead ∷ r .count ∷ []) d → d₂ ≡ put 4 (r .bytes) d₁ → d₂ ≡ receiverBytes r
+spelled r d d₁ d₂ l n e f =
+    f ∙ ap (put 4 (r .bytes)) e
+    ∙ put-put 0 (r .mode ∷ r .ones ∷ r .lead ∷ r .count ∷ []) (r .bytes) d 4 refl (omega arith)
+    ∙ put-all (receiverBytes r) d (omega arith)
+
+-- one byte more of the content
+pub byte-more : (b s : List ℕ) (i : ℕ) → length b ≡ 20 → length s ≡ 24 → i < 20 → take i b ≡ take i (drop 4 s)
+    → take (i + 1) (set b i (getD s (4 + i) 0)) ≡ take (i + 1) (drop 4 s)
+byte-more b s i l n h e =
+    rw (← getD-drop 4 s i 0) (copied-more b (drop 4 s) i (omega arith) (simp length-drop (omega arith)) e)
+
+pub all-bytes : (b s : List ℕ) (i : ℕ) → length b ≡ 20 → i ≡ 20 → take i b ≡ take i (drop 4 s) → b ≡ part 4 20 s
+unfolding part
+all-bytes b s i l e t = sym (take-all 20 b (omega arith)) ∙ (rw e at t)
+
+pub receiver-of : (b s : List ℕ) → b ≡ part 4 20 s
+    → record { mode = getD s 0 0; ones = getD s 1 0; lead = getD s 2 0; count = getD s 3 0; bytes = b } ≡ receiverOf s
+receiver-of b s e = ap (λ (l : List ℕ). record { mode = getD s 0 0; ones = getD s 1 0; lead = getD s 2 0; count = getD s 3 0; bytes = l }) e
+
+-- bytes spell a receiver that is spelled by them
+pub spelled-again : (s : List ℕ) → length s ≡ 24 → receiverBytes (receiverOf s) ≡ s
+unfolding part
+spelled-again (a ∷ b ∷ c ∷ d ∷ s) e = ap (λ (l : List ℕ). a ∷ b ∷ c ∷ d ∷ l) (take-all 20 s (omega arith))
+spelled-again [] e = absurd (omega arith)
+spelled-again (a ∷ []) e = absurd (omega arith)
+spelled-again (a ∷ b ∷ []) e = absurd (omega arith)
+spelled-again (a ∷ b ∷ c ∷ []) e = absurd (omega arith)
+
+-- ---- what `sca_receive` leaves
+
+module _ (rx input : List ℕ) (start : ℕ) (o : List ℕ) where
+  abbrev Leaves : ℕ → List ℕ → List ℕ → Type 0
+  Leaves p rx′ o′ =
+      (p ≡ receiveResult rx input start o) × ((rx′ ≡ receiveReceiver rx input start o) × (o′ ≡ receiveOutput rx input start o))
+
+  pub read-bytes : {r₀ : Receiver} {r : Received} {p : ℕ} {rx′ o′ : List ℕ} → length rx ≡ 24 → r₀ ≡ receiverOf rx
+      → r ≡ received r₀ input start o → o′ ≡ outputAfter r₀ input start o → rx′ ≡ receiverBytes (r .rx) → p ≡ packReceived r
+      → Leaves p rx′ o′
+  read-bytes h f e g s q =
+      let d = e ∙ ap (λ (x : Receiver). received x input start o) f in
+      rw (eq-eqb (length rx) 24 h)
+      (q ∙ ap packReceived d, (s ∙ ap (λ (x : Received). receiverBytes (x .rx)) d, g ∙ ap (λ (x : Receiver). outputAfter x input start o) f))
+
+  pub read-refused : {p : ℕ} → (length rx ≡ 24 → ⊥) → p ≡ number.stateRange → Leaves p rx o
+  read-refused h e = rw (ne-eqb (length rx) 24 h) (e, (refl, refl))
