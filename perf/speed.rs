@@ -8,12 +8,12 @@ use std::hint::black_box;
 use std::time::Instant;
 
 /// Rounds of each measurement; the best of them counts.
-const ROUNDS: usize = 9;
+const ROUNDS: usize = 15;
 /// Bytes of each cable: the most that one call takes.
 const CABLE_BYTES: usize = 65_536;
 /// Readings of a whole cable in a round.
 const TURNS: usize = 8;
-/// Bodies in a round of sending, and how often they are sent.
+/// Bodies that are sent, as often in a round.
 const BODIES: usize = 4_096;
 
 /// Repeatable random bytes (a linear congruence).
@@ -56,7 +56,7 @@ type Work = (usize, usize);
 fn by_library(cable: &[u8]) -> Work {
     let mut receiver = [0; RECEIVER_BYTES];
     boundary::receiver_new(&mut receiver);
-    read(cable, |start, output| {
+    read(|start, output| {
         let received = boundary::receive(&mut receiver, cable, start, output);
         (received.number, received.consumed)
     })
@@ -64,7 +64,7 @@ fn by_library(cable: &[u8]) -> Work {
 
 fn by_link(cable: &[u8]) -> Work {
     let mut receiver = link::Receiver::new();
-    read(cable, |start, output| {
+    read(|start, output| {
         let (number, consumed, _) = receiver.receive(cable, start, output);
         (number, consumed)
     })
@@ -72,13 +72,13 @@ fn by_link(cable: &[u8]) -> Work {
 
 fn by_swift(cable: &[u8]) -> Work {
     let mut receiver = swift::Receiver::new();
-    read(cable, |start, output| {
+    read(|start, output| {
         let (number, consumed, _) = receiver.receive(cable, start, output);
         (number, consumed)
     })
 }
 
-fn read(cable: &[u8], mut call: impl FnMut(usize, &mut [u8]) -> (u8, usize)) -> Work {
+fn read(mut call: impl FnMut(usize, &mut [u8]) -> (u8, usize)) -> Work {
     let (mut frames, mut start) = (0, 0);
     let mut output = [0; 16];
     loop {
@@ -139,11 +139,10 @@ fn main() {
         "{:<32} {:>9} {:>9} {:>9} {:>12} {:>12}",
         "", "library", "link", "swift", "link/library", "swift/library"
     );
-    let cables: [(&str, Vec<u8>); 4] = [
+    let cables: [(&str, Vec<u8>); 3] = [
         ("receive, random frames", frames()),
         ("receive, idle flags", vec![0x7E; CABLE_BYTES]),
         ("receive, idle ones and a zero", vec![0x7F; CABLE_BYTES]),
-        ("receive, idle ones", vec![0xFF; CABLE_BYTES]),
     ];
     for (what, cable) in &cables {
         let sides: [&dyn Fn() -> Work; 3] = [&|| by_library(cable), &|| by_link(cable), &|| by_swift(cable)];

@@ -7,15 +7,16 @@ bad() { failed=$((failed + 1)) && echo "FAIL $*"; }
 
 # step NAME COMMAND..: a step that other tests need; it counts only where it fails, and then shows its log.
 step() {
-    name=$1
+    step=$1
     shift
     "$@" >"$logs/step" 2>&1 && return
-    bad "$name"
+    bad "$step"
     tail -n 20 "$logs/step"
     return 1
 }
 
-# add NAME STATUS GOOD BAD: what a test program counted. Nothing counted is a failure, and so is a status that no failed test explains.
+# add NAME STATUS GOOD BAD: what a test program counted. Nothing counted is a failure, and so is a status that no failed
+# test explains.
 add() {
     passed=$((passed + $3)) failed=$((failed + $4))
     echo "     $1: $3 passed, $4 failed"
@@ -28,10 +29,10 @@ add() {
 
 # tally NAME COMMAND..: a program that writes a line 'ok ..' or 'FAIL ..' for each of its tests.
 tally() {
-    name=$1
+    tallied=$1
     shift
     "$@" >"$logs/tally" 2>&1
     status=$?
     cut -c 1-1000 "$logs/tally"
-    add "$name" "$status" "$(grep -c '^ok ' "$logs/tally")" "$(grep -c '^FAIL ' "$logs/tally")"
+    add "$tallied" "$status" "$(grep -c '^ok ' "$logs/tally")" "$(grep -c '^FAIL ' "$logs/tally")"
 }

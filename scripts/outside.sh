@@ -24,14 +24,14 @@ build_reference() { rust_build --crate-type rlib --crate-name reference tests/re
 # The reference's own tests, as Rust's test harness counts them.
 test_reference() {
     for file in tests/reference/tests/*.rs; do
-        name=$(basename "$file" .rs)
-        step "build $file" rust_build --test --crate-name "reference_$name" --extern reference "$file" || continue
-        run "$built/reference_$name" >"$logs/harness" 2>&1
+        harness=$(basename "$file" .rs)
+        step "build $file" rust_build --test --crate-name "reference_$harness" --extern reference "$file" || continue
+        run "$built/reference_$harness" >"$logs/harness" 2>&1
         status=$?
         counts=$(sed -n 's/^test result: .* \([0-9]*\) passed; \([0-9]*\) failed.*/\1 \2/p' "$logs/harness")
         [ "$status" -eq 0 ] || tail -n 40 "$logs/harness"
         # shellcheck disable=SC2086
-        add "reference, $name" "$status" ${counts:-0 0}
+        add "reference, $harness" "$status" ${counts:-0 0}
     done
 }
 

@@ -40,7 +40,8 @@ pub enum Call {
     Send { body: Vec<u8>, room: usize },
 }
 
-struct Hex<'a>(&'a [u8]);
+/// Bytes as pairs of hex digits; none as a dash.
+pub struct Hex<'a>(pub &'a [u8]);
 
 impl fmt::Display for Hex<'_> {
     fn fmt(&self, out: &mut fmt::Formatter) -> fmt::Result {

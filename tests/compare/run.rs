@@ -2,7 +2,7 @@
 //! compares all that each call gives and leaves.
 
 use crate::bits::{bits_of, buffer_of};
-use crate::calls::Call;
+use crate::calls::{Call, Hex};
 use crate::fault::Fault;
 use crate::receiver::{in_range, way_to};
 use boundary::{Received, Sent, RECEIVER_BYTES};
@@ -51,7 +51,7 @@ fn same<T: PartialEq + std::fmt::Debug>(what: &str, ours: T, theirs: T) -> Check
 }
 
 /// A lent output between bytes that nobody may touch.
-#[derive(Clone, PartialEq, Eq, Debug)]
+#[derive(Clone, PartialEq, Eq)]
 struct Output {
     bytes: Vec<u8>,
 }
@@ -69,6 +69,14 @@ impl Output {
     fn lent(&mut self) -> &mut [u8] {
         let end = self.bytes.len() - GUARD;
         &mut self.bytes[GUARD..end]
+    }
+}
+
+impl std::fmt::Debug for Output {
+    fn fmt(&self, out: &mut std::fmt::Formatter) -> std::fmt::Result {
+        let (before, rest) = self.bytes.split_at(GUARD);
+        let (lent, behind) = rest.split_at(rest.len() - GUARD);
+        write!(out, "{}[{}]{}", Hex(before), Hex(lent), Hex(behind))
     }
 }
 
