@@ -4,16 +4,13 @@
 
 use boundary::RECEIVER_BYTES;
 use reference::{link, swift};
-use std::hint::black_box;
 use std::time::Instant;
 
-/// Rounds of each measurement; the best of them counts.
-const ROUNDS: usize = 15;
+/// Rounds of each measurement: a cable is read, or all bodies are sent. The best of them counts.
+const ROUNDS: usize = 101;
 /// Bytes of each cable: the most that one call takes.
 const CABLE_BYTES: usize = 65_536;
-/// Readings of a whole cable in a round.
-const TURNS: usize = 8;
-/// Bodies that are sent, as often in a round.
+/// Bodies sent in a round.
 const BODIES: usize = 4_096;
 
 /// Repeatable random bytes (a linear congruence).
@@ -50,8 +47,14 @@ fn frames() -> Vec<u8> {
     }
 }
 
-/// Frames found and bits read: the same for all, or the cable was not read alike.
-type Work = (usize, usize);
+/// What was done: frames, bits, and a sum over bytes that were written. It is the same for all, or they
+/// did not do the same work.
+#[derive(Clone, Copy, PartialEq, Eq, Debug)]
+struct Work {
+    frames: usize,
+    bits: usize,
+    sum: usize,
+}
 
 fn by_library(cable: &[u8]) -> Work {
     let mut receiver = [0; RECEIVER_BYTES];
@@ -79,44 +82,53 @@ fn by_swift(cable: &[u8]) -> Work {
 }
 
 fn read(mut call: impl FnMut(usize, &mut [u8]) -> (u8, usize)) -> Work {
-    let (mut frames, mut start) = (0, 0);
+    let (mut frames, mut bits, mut sum) = (0, 0, 0);
     let mut output = [0; 16];
     loop {
-        let (number, consumed) = call(start, &mut output);
-        start += consumed;
+        let (number, consumed) = call(bits, &mut output);
+        bits += consumed;
         frames += usize::from(number == 0);
+        sum += usize::from(output[0]);
         if number == 17 {
-            return (frames, start);
+            return Work { frames, bits, sum };
         }
     }
 }
 
 fn send(bodies: &[Vec<u8>], call: impl Fn(&[u8], &mut [u8]) -> usize) -> Work {
+    let (mut bytes, mut sum) = (0, 0);
     let mut output = [0; 24];
-    let count = |body: &Vec<u8>| call(body, black_box(&mut output));
-    (bodies.len(), 8 * bodies.iter().map(count).sum::<usize>())
+    for body in bodies {
+        let count = call(body, &mut output);
+        bytes += count;
+        sum += usize::from(output[count / 2]);
+    }
+    Work {
+        frames: bodies.len(),
+        bits: 8 * bytes,
+        sum,
+    }
 }
 
 /// The three sides in turn, round after round; nanoseconds a bit, each side's best.
-fn best(turns: usize, sides: [&dyn Fn() -> Work; 3]) -> ([f64; 3], Work) {
+fn best(sides: [&dyn Fn() -> Work; 3]) -> ([f64; 3], Work) {
     let mut least = [f64::INFINITY; 3];
     let done = sides[0]();
     for _ in 0..ROUNDS {
         for (least, side) in least.iter_mut().zip(&sides) {
             let begin = Instant::now();
-            for _ in 0..turns {
-                assert_eq!(black_box(side()), done, "all sides do the same work");
-            }
+            let work = side();
             let nanoseconds = begin.elapsed().as_nanos() as f64;
-            *least = least.min(nanoseconds / (turns * done.1) as f64);
+            assert_eq!(work, done, "all sides do the same work");
+            *least = least.min(nanoseconds / work.bits as f64);
         }
     }
     (least, done)
 }
 
-fn show(what: &str, (ours, link, swift): (f64, f64, f64)) {
+fn show(what: &str, [ours, link, swift]: [f64; 3]) {
     println!(
-        "{:<32} {:>9.2} {:>9.2} {:>9.2} {:>12.2} {:>12.2}",
+        "{:<42} {:>9.2} {:>9.2} {:>9.2} {:>12.2} {:>12.2}",
         what,
         ours,
         link,
@@ -128,15 +140,12 @@ fn show(what: &str, (ours, link, swift): (f64, f64, f64)) {
 
 fn main() {
     println!(
-        "cables of {} bytes read whole {} times a round; {} bodies of 2 to 16 bytes framed {} times a round;",
-        CABLE_BYTES, TURNS, BODIES, TURNS
+        "A round: a cable of {} bytes read by one receiver, or {} bodies of 2 to 16 bytes sent. Best of {} rounds,",
+        CABLE_BYTES, BODIES, ROUNDS
     );
+    println!("in nanoseconds a bit of cable. A ratio over 1: the library is faster.");
     println!(
-        "best of {} rounds, nanoseconds a bit; a ratio over 1: the library is faster",
-        ROUNDS
-    );
-    println!(
-        "{:<32} {:>9} {:>9} {:>9} {:>12} {:>12}",
+        "{:<42} {:>9} {:>9} {:>9} {:>12} {:>12}",
         "", "library", "link", "swift", "link/library", "swift/library"
     );
     let cables: [(&str, Vec<u8>); 3] = [
@@ -146,8 +155,8 @@ fn main() {
     ];
     for (what, cable) in &cables {
         let sides: [&dyn Fn() -> Work; 3] = [&|| by_library(cable), &|| by_link(cable), &|| by_swift(cable)];
-        let (times, (frames, _)) = best(TURNS, sides);
-        show(&format!("{} ({})", what, frames), (times[0], times[1], times[2]));
+        let (times, work) = best(sides);
+        show(&format!("{}, {} frames", what, work.frames), times);
     }
     let mut chance = Chance(2);
     let bodies: Vec<Vec<u8>> = (0..BODIES).map(|_| chance.body()).collect();
@@ -156,6 +165,6 @@ fn main() {
         &|| send(&bodies, |body, output| link::transmit(body, output).1),
         &|| send(&bodies, |body, output| swift::transmit(body, output).1),
     ];
-    let (times, (frames, _)) = best(TURNS, sides);
-    show(&format!("transmit ({})", frames), (times[0], times[1], times[2]));
+    let (times, work) = best(sides);
+    show(&format!("transmit, {} frames", work.frames), times);
 }
