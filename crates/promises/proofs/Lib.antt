@@ -1,0 +1,14 @@
+pub mod Wire
+pub mod AllCases
+pub mod InParts
+pub mod Ranges
+pub mod RoundTrip
+pub mod AnyReceiver
+pub mod OneOutcome
+pub mod Called
+pub mod Calls
+pub mod Answers
+pub mod Readings
+pub mod Stuffing
+pub mod States
+pub mod Steps

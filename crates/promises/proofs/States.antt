@@ -1,0 +1,229 @@
+-- The states that arise, which every bit keeps, and the structs in range that stand for them.
+use mathlib.Core.Path.{_≡_, refl, sym, ap, ap₂, _∙_}
+use mathlib.Core.Bool.{Bool, true, cond, _&&_}
+use mathlib.Core.Logic.{⊎-elim, inl, inr}
+use mathlib.Core.List.{List, [], _∷_, _++_, foldl}
+use Prim.Native.Nat.{ℕ, zero, suc, _+_, _-_, _%_, _≤_, _<_, min}
+use native.Mathlib.Nat.{eq-or-lt-of-le}
+use native.Mathlib.Omega.{arith}
+use borrow.Author.Tests.{eq-eqb, ne-eqb, le-leb, eqb-true, leb-true, ltb-true, ltb-false}
+use lib.Dec.{eqb, ltb, leb, lit≤}
+use lib.ListN.{length, take, drop, replicate, length-append, length-take, length-drop, length-replicate, take-append-drop}
+use lib.Seq.{take-at, drop-at}
+use Rattle.link.specs.Bits.{wire, num, pack}
+use Rattle.link.specs.Receiver.{State, push, next, view, image, fieldsFit, inRange}
+use Rattle.link.specs.Receive.{reading}
+use Rattle.link.specs.declared.Receiver.{Receiver}
+use Rattle.link.proofs.Bits.{Bit, AreBits, AreBytes, none, more, bits-append, bits-take, bits-drop, bits-wire, bits-zeros, length-wire, length-pack, pack-wire, wire-pack}
+use Rattle.promises.specs.Wire.{hunter}
+use Rattle.promises.proofs.Steps.{split, and-left, and-right}
+use Rattle.promises.proofs.Calls.{call-state}
+
+-- the states that arise
+pub data Held : State → Type 0 where
+  hunts-on : {j : ℕ} → j ≤ 7 → Held (hunter j)
+  frames : {k l : ℕ} {c : List ℕ} → k ≤ 6 → l ≤ 1 → length c ≤ 152 → l + min k 5 ≤ length c → AreBits c
+      → Held (record { mode = 1; ones = k; lead = l; content = c })
+
+-- ---- kept by every bit
+
+record Pushed (c p : List ℕ) : Type 0 where
+  most : length p ≤ 152
+  least : min (length c + 1) 152 ≤ length p
+  bits : AreBits p
+
+pushes : (c : List ℕ) (b : ℕ) → length c ≤ 152 → AreBits c → Bit b → Pushed c (push 1 c b)
+pushes c b h hc hb =
+    split (ltb (length c) 152)
+    (λ e.
+    let l : length c < 152 = ltb-true (length c) 152 e in
+    rw e
+    (record { most = simp length-append (omega arith); least = simp length-append (omega arith); bits = bits-append hc (more hb none) }))
+    (λ e. let l : 152 ≤ length c = ltb-false (length c) 152 e in rw e (record { most = h; least = omega arith; bits = hc }))
+
+hunter-zero : (j : ℕ) → Held (next (hunter j) 0)
+hunter-zero j =
+    split (ltb j 5) (λ e. rw e (hunts-on (lit≤ tt)))
+    (λ e. split (eqb j 6) (λ f. rw (e, f) (frames (lit≤ tt) (lit≤ tt) (lit≤ tt) (lit≤ tt) none)) (λ f. rw (e, f) (hunts-on (lit≤ tt))))
+
+hunter-one : (j : ℕ) → Held (next (hunter j) 1)
+hunter-one j =
+    split (ltb j 5) (λ e. let l : j < 5 = ltb-true j 5 e in rw e (hunts-on {j = j + 1} (omega arith)))
+    (λ e. split (eqb j 5) (λ f. rw (e, f) (hunts-on (lit≤ tt))) (λ f. rw (e, f) (hunts-on (lit≤ tt))))
+
+module _ (k l : ℕ) (c : List ℕ) (hk : k ≤ 6) (hl : l ≤ 1) (hc : length c ≤ 152) (h : l + min k 5 ≤ length c) (bits : AreBits c) where
+  frame-zero : Held (next (record { mode = 1; ones = k; lead = l; content = c }) 0)
+  frame-zero =
+      split (ltb k 5)
+      (λ e.
+      let p : Pushed c (push 1 c 0) = pushes c 0 hc bits (inl refl) in
+      let least : min (length c + 1) 152 ≤ length (push 1 c 0) = p .least in
+      rw e (frames {k = 0} {l = 1} {c = push 1 c 0} (lit≤ tt) (lit≤ tt) (p .most) (omega arith) (p .bits)))
+      (λ e. split (eqb k 6) (λ f. rw (e, f) (frames (lit≤ tt) (lit≤ tt) (lit≤ tt) (lit≤ tt) none))
+      (λ f. rw (e, f) (frames {k = 0} {l = 0} {c = c} (lit≤ tt) (lit≤ tt) hc (omega arith) bits)))
+
+  frame-one : Held (next (record { mode = 1; ones = k; lead = l; content = c }) 1)
+  frame-one =
+      split (ltb k 5)
+      (λ e.
+      let p : Pushed c (push 1 c 1) = pushes c 1 hc bits (inr refl) in
+      let least : min (length c + 1) 152 ≤ length (push 1 c 1) = p .least in
+      let k5 : k < 5 = ltb-true k 5 e in
+      rw e (frames {k = k + 1} {l = l} {c = push 1 c 1} (omega arith) hl (p .most) (omega arith) (p .bits)))
+      (λ e. split (eqb k 5) (λ f. let k5 : k ≡ 5 = eqb-true k 5 f in rw (e, f) (frames {k = 6} {l = l} {c = c} (lit≤ tt) hl hc (omega arith) bits))
+      (λ f. rw (e, f) (hunts-on (lit≤ tt))))
+
+pub held-next : {s : State} (b : ℕ) → Bit b → Held s → Held (next s b)
+held-next b (inl z) (hunts-on {j} h) = rw z (hunter-zero j)
+held-next b (inr z) (hunts-on {j} h) = rw z (hunter-one j)
+held-next b (inl z) (frames {k} {l} {c} hk hl hc h bits) = rw z (frame-zero k l c hk hl hc h bits)
+held-next b (inr z) (frames {k} {l} {c} hk hl hc h bits) = rw z (frame-one k l c hk hl hc h bits)
+
+pub held-all : {bits : List ℕ} → AreBits bits → (s : State) → Held s → Held (foldl next s bits)
+held-all none s h = h
+held-all {bits = b ∷ bs} (more z hb) s h = held-all hb (next s b) (held-next b z h)
+
+-- a reading leaves a state that arises
+pub held-reading : {bits : List ℕ} → AreBits bits → (s : State) → Held s → Held (reading s bits .state)
+held-reading {bits = bits} hb s h =
+    rw (call-state s bits) (held-all (bits-take (reading s bits .consumed) hb) s h)
+
+-- ---- the struct that stands for a state
+
+num-zeros : (n : ℕ) → num (replicate n 0) ≡ 0
+unfolding num
+num-zeros zero = refl
+num-zeros (suc n) = rw (num-zeros n) refl
+
+module _ (c : List ℕ) (h : length c ≤ 152) (bits : AreBits c) where
+  abbrev spelled : List ℕ
+  spelled = pack (c ++ replicate (160 - length c) 0)
+
+  wire-spelled : wire spelled ≡ c ++ replicate (160 - length c) 0
+  wire-spelled =
+      let l : length (c ++ replicate (160 - length c) 0) ≡ 160 = simp (length-append, length-replicate) (omega arith) in
+      let e : length (c ++ replicate (160 - length c) 0) % 8 ≡ 0 = rw l refl in
+      wire-pack (c ++ replicate (160 - length c) 0) (bits-append bits (bits-zeros (160 - length c))) e
+
+  size-spelled : length spelled ≡ 20
+  size-spelled =
+      let l : length (c ++ replicate (160 - length c) 0) ≡ 160 = simp (length-append, length-replicate) (omega arith) in
+      length-pack (c ++ replicate (160 - length c) 0) ∙ rw l refl
+
+  take-spelled : take (length c) (wire spelled) ≡ c
+  take-spelled = rw wire-spelled (take-at c (replicate (160 - length c) 0) (length c) refl)
+
+  drop-spelled : num (drop (length c) (wire spelled)) ≡ 0
+  drop-spelled = rw (wire-spelled, drop-at c (replicate (160 - length c) 0) (length c) refl) (num-zeros (160 - length c))
+
+-- A STATE AND ITS STRUCT: the struct of a state that arises stands for that state, and is in range.
+pub view-image : {s : State} → Held s → view (image s) ≡ s
+view-image (hunts-on {j} h) = refl
+view-image (frames {k} {l} {c} hk hl hc h bits) =
+    ap (λ (x : List ℕ). record { mode = 1; ones = k; lead = l; content = x }) (take-spelled c hc bits)
+
+pub image-inRange : {s : State} → Held s → inRange (image s) ≡ true
+unfolding inRange fieldsFit
+image-inRange (hunts-on {j} h) = rw (le-leb j 7 h, drop-spelled [] (lit≤ tt) none) refl
+image-inRange (frames {k} {l} {c} hk hl hc h bits) =
+    rw
+    (le-leb k 7 (omega arith), le-leb l 1 hl, le-leb (length c) 152 hc, le-leb k 6 hk, le-leb (l + min k 5) (length c) h, drop-spelled c hc bits)
+    refl
+
+pub image-size : {s : State} → Held s → length (image s .bytes) ≡ 20
+image-size (hunts-on {j} h) = size-spelled [] (lit≤ tt) none
+image-size (frames {k} {l} {c} hk hl hc h bits) = size-spelled c hc bits
+
+-- ---- a struct in range
+
+-- the ranges one by one
+record Fields (r : Receiver) : Type 0 where
+  mode : r .mode ≤ 1
+  ones : r .ones ≤ 7
+  lead : r .lead ≤ 1
+  count : r .count ≤ 152
+  idle : r .mode ≡ 0 → (r .count ≡ 0) × (r .lead ≡ 0)
+  busy : r .mode ≡ 1 → (r .ones ≤ 6) × (r .lead + min (r .ones) 5 ≤ r .count)
+  rest : num (drop (r .count) (wire (r .bytes))) ≡ 0
+
+one-zero : (n : ℕ) → n ≡ 1 → n ≡ 0 → ⊥
+one-zero n e z = omega arith
+
+-- six tests that all hold
+all-hold : (a b c d e f : Bool) → a && b && c && d && e && f ≡ true
+    → (a ≡ true) × (b ≡ true) × (c ≡ true) × (d ≡ true) × (e ≡ true) × (f ≡ true)
+all-hold a b c d e f h =
+    let h₅ : a && b && c && d && e ≡ true = and-left (a && b && c && d && e) f h in
+    let h₄ : a && b && c && d ≡ true = and-left (a && b && c && d) e h₅ in
+    let h₃ : a && b && c ≡ true = and-left (a && b && c) d h₄ in
+    let h₂ : a && b ≡ true = and-left (a && b) c h₃ in (
+      and-left a b h₂,
+      and-right a b h₂,
+      and-right (a && b) c h₃,
+      and-right (a && b && c) d h₄,
+      and-right (a && b && c && d) e h₅,
+      and-right (a && b && c && d && e) f h,
+    )
+
+fields : (r : Receiver) → inRange r ≡ true → Fields r
+unfolding inRange fieldsFit
+fields r h =
+    let idle = eqb (r .count) 0 && eqb (r .lead) 0 in
+    let busy = leb (r .ones) 6 && leb (r .lead + min (r .ones) 5) (r .count) in
+    let t = all-hold (leb (r .mode) 1) (leb (r .ones) 7) (leb (r .lead) 1) (leb (r .count) 152) (cond (eqb (r .mode) 0) idle busy)
+    (eqb (num (drop (r .count) (wire (r .bytes)))) 0) h in
+    record {
+      mode = leb-true (r .mode) 1 (t .0);
+      ones = leb-true (r .ones) 7 (t .1);
+      lead = leb-true (r .lead) 1 (t .2);
+      count = leb-true (r .count) 152 (t .3);
+      idle = λ e.
+          let u : idle ≡ true = rw (eq-eqb (r .mode) 0 e) at (t .4) in (
+            eqb-true (r .count) 0 (and-left (eqb (r .count) 0) (eqb (r .lead) 0) u),
+            eqb-true (r .lead) 0 (and-right (eqb (r .count) 0) (eqb (r .lead) 0) u),
+          );
+      busy = λ e.
+          let u : busy ≡ true = rw (ne-eqb (r .mode) 0 (one-zero (r .mode) e)) at (t .4) in (
+            leb-true (r .ones) 6 (and-left (leb (r .ones) 6) (leb (r .lead + min (r .ones) 5) (r .count)) u),
+            leb-true (r .lead + min (r .ones) 5) (r .count) (and-right (leb (r .ones) 6) (leb (r .lead + min (r .ones) 5) (r .count)) u),
+          );
+      rest = eqb-true (num (drop (r .count) (wire (r .bytes)))) 0 (t .5);
+    }
+
+zeros : {l : List ℕ} → AreBits l → num l ≡ 0 → l ≡ replicate (length l) 0
+unfolding num
+zeros none e = refl
+zeros {l = b ∷ bs} (more z hb) e =
+    let b0 : b ≡ 0 = omega arith in
+    let bs0 : num bs ≡ 0 = omega arith in
+    ap₂ (λ (x : ℕ) (xs : List ℕ). x ∷ xs) b0 (zeros hb bs0)
+
+module _ (r : Receiver) (h : inRange r ≡ true) (size : length (r .bytes) ≡ 20) where
+  kept-length : length (take (r .count) (wire (r .bytes))) ≡ r .count
+  kept-length = let f : r .count ≤ 152 = fields r h .count in rw (length-take, length-wire, size) (omega arith)
+
+  -- A RECEIVER IN RANGE stands for a state that arises.
+  pub view-held : Held (view r)
+  view-held =
+      let f : Fields r = fields r h in
+      ⊎-elim (λ (m : r .mode ≡ 1).
+      let l : r .lead + min (r .ones) 5 ≤ length (take (r .count) (wire (r .bytes))) = rw kept-length (f .busy m .1) in
+      let n : length (take (r .count) (wire (r .bytes))) ≤ 152 = rw kept-length (f .count) in
+      rw m (frames (f .busy m .0) (f .lead) n l (bits-take (r .count) (bits-wire (r .bytes)))))
+      (λ (m : r .mode < 1).
+      let z : r .mode ≡ 0 = omega arith in
+      rw (z, f .idle z .0, f .idle z .1) (hunts-on (f .ones)))
+      (eq-or-lt-of-le (f .mode))
+
+  zero-rest : drop (r .count) (wire (r .bytes)) ≡ replicate (160 - r .count) 0
+  zero-rest =
+      let l : length (drop (r .count) (wire (r .bytes))) ≡ 160 - r .count = rw (length-drop, length-wire, size) refl in
+      zeros (bits-drop (r .count) (bits-wire (r .bytes))) (fields r h .rest) ∙ ap (λ (n : ℕ). replicate n 0) l
+
+  -- and no other struct in range stands for that state
+  pub image-view : AreBytes (r .bytes) → image (view r) ≡ r
+  image-view small =
+      let e : take (r .count) (wire (r .bytes)) ++ replicate (160 - length (take (r .count) (wire (r .bytes)))) 0 ≡ wire (r .bytes) =
+      rw (kept-length, sym zero-rest) (take-append-drop (r .count) (wire (r .bytes))) in
+      ap₂ (λ (n : ℕ) (b : List ℕ). record { mode = r .mode; ones = r .ones; lead = r .lead; count = n; bytes = b }) kept-length
+      (ap pack e ∙ pack-wire (r .bytes) small)

@@ -1,0 +1,69 @@
+-- The standard's words that the promises on the wire use, over the receiver's reading of bits.
+use mathlib.Core.Path.{_≡_}
+use mathlib.Core.Bool.{cond}
+use mathlib.Core.List.{List, [], _∷_, _++_}
+use Prim.Native.Nat.{ℕ, _+_, _-_}
+use lib.Dec.{eqb, ltb}
+use lib.ListN.{length, take, drop, getD, replicate}
+use Rattle.numbers.specs.Numbers as number
+use Rattle.link.specs.Frame.{flag}
+use Rattle.link.specs.Receiver.{State, opened}
+use Rattle.link.specs.Receive.{Answer, bare, Reading, reading}
+
+-- p stands nowhere in bits
+abbrev pub absent : List ℕ → List ℕ → Type 0
+absent p bits = (i : ℕ) → take (length p) (drop i bits) ≡ p → ⊥
+
+abbrev pub sixOnes : List ℕ
+sixOnes = 1 ∷ 1 ∷ 1 ∷ 1 ∷ 1 ∷ 1 ∷ []
+
+abbrev pub sevenOnes : List ℕ
+sevenOnes = 1 ∷ sixOnes
+
+-- after five ones the receiver removes a zero; k ones have gone before
+unfoldable pub unstuff : ℕ → List ℕ → List ℕ
+unstuff k [] = []
+unstuff k (b ∷ bs) = cond (eqb b 0) (cond (eqb k 5) (unstuff 0 bs) (0 ∷ unstuff 0 bs)) (1 ∷ unstuff (k + 1) bs)
+
+abbrev pub destuff : List ℕ → List ℕ
+destuff raw = unstuff 0 raw
+
+-- at a seventh one: 24 with at least 32 content bits before the run of ones, else no answer
+abbrev pub atAbort : List ℕ → Answer
+atAbort content = cond (ltb (length content) 32) (bare number.done) (bare number.aborted)
+
+-- a reading that has come to answer a and state s with n bits consumed, while rest follows: it stops there,
+-- and where a is no answer (17) it goes on
+abbrev pub after : Answer → State → ℕ → List ℕ → Reading
+after a s n rest =
+    cond (eqb (a .number) number.done)
+    (record { answer = reading s rest .answer; state = reading s rest .state; consumed = n + reading s rest .consumed })
+    (record { answer = a; state = s; consumed = n })
+
+-- the reading that finds a body, after so many bits
+abbrev pub found : List ℕ → ℕ → Reading
+found body n = record { answer = record { number = number.sent; body = body }; state = opened; consumed = n }
+
+-- ---- after a flag
+
+-- what bits may be
+pub data AfterFlag : List ℕ → Type 0 where
+  -- they run out with no six ones in a row, or in six ones
+  unended : (bits : List ℕ) → absent sixOnes bits → AfterFlag bits
+  six-last : (raw : List ℕ) → absent sixOnes raw → getD raw (length raw - 1) 0 ≡ 0 → AfterFlag (raw ++ sixOnes)
+  -- a flag closes the frame
+  closes : (raw rest : List ℕ) → absent sixOnes raw → AfterFlag (raw ++ (flag ++ rest))
+  -- a flag shares the zero of the flag before it
+  shares : (rest : List ℕ) → AfterFlag (drop 1 flag ++ rest)
+  -- seven ones abort
+  aborts : (raw rest : List ℕ) → absent sixOnes raw → getD raw (length raw - 1) 0 ≡ 0 → AfterFlag (raw ++ (sevenOnes ++ rest))
+
+-- ---- hunting
+
+-- a hunting receiver that has seen this many ones since a zero; 7 where they can begin no flag
+abbrev pub hunter : ℕ → State
+hunter ones = record { mode = 0; ones = ones; lead = 0; content = [] }
+
+-- the bits that it has seen of what may become a flag
+unfoldable pub seen : ℕ → List ℕ
+seen ones = cond (eqb ones 7) [] (0 ∷ replicate ones 1)
