@@ -3,7 +3,7 @@
 
 test_proofs() {
     if rt fmt --check >"$logs/layout" 2>&1; then good "layout"; else bad "layout" && tail -n 20 "$logs/layout"; fi
-    { rt ci 2>&1 && echo 0 >"$logs/status" || echo $? >"$logs/status"; } | tee "$logs/ci" | grep '^rt:'
+    { rt ci 2>&1 && echo 0 >"$logs/status" || echo $? >"$logs/status"; } | tee "$logs/ci" | grep --line-buffered '^rt:'
     counts=$(sed -n '$s/^\([0-9]*\) passed, \([0-9]*\) failed$/\1 \2/p' "$logs/ci")
     status=$(cat "$logs/status")
     [ "$status" -eq 0 ] || tail -n 40 "$logs/ci"
