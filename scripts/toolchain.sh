@@ -19,8 +19,8 @@ rustc=rustc
 
 as_root() { if [ "$(id -u)" -eq 0 ]; then "$@"; else sudo "$@"; fi; }
 
-# install PACKAGE..
-install() {
+# from_debian PACKAGE..
+from_debian() {
     [ -n "$emulator" ] && as_root dpkg --add-architecture amd64
     as_root apt-get -q update && as_root env DEBIAN_FRONTEND=noninteractive apt-get -q -y --no-install-recommends install "$@"
 }
@@ -51,10 +51,10 @@ rust_works() {
 # A compiler of the machine that works is taken as it is; else Debian's, by its path, since another may stand before it.
 c_ready() {
     # shellcheck disable=SC2086
-    c_works >/dev/null 2>&1 || { install $c_packages && c_works; }
+    c_works >/dev/null 2>&1 || { from_debian $c_packages && c_works; }
 }
 rust_ready() {
     # shellcheck disable=SC2086
-    rust_works >/dev/null 2>&1 || { rustc=/usr/bin/rustc && install $rust_packages && rust_works; }
+    rust_works >/dev/null 2>&1 || { rustc=/usr/bin/rustc && from_debian $rust_packages && rust_works; }
 }
 toolchain_ready() { mkdir -p "$built" && c_ready && rust_ready; }
