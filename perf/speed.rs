@@ -128,7 +128,7 @@ fn best(sides: [&dyn Fn() -> Work; 3]) -> ([f64; 3], Work) {
 
 fn show(what: &str, [ours, link, swift]: [f64; 3]) {
     println!(
-        "{:<42} {:>9.2} {:>9.2} {:>9.2} {:>12.2} {:>12.2}",
+        "{:<43} {:>9.2} {:>9.2} {:>9.2} {:>12.2} {:>12.2}",
         what,
         ours,
         link,
@@ -145,12 +145,13 @@ fn main() {
     );
     println!("in nanoseconds a bit of cable. A ratio over 1: the library is faster.");
     println!(
-        "{:<42} {:>9} {:>9} {:>9} {:>12} {:>12}",
+        "{:<43} {:>9} {:>9} {:>9} {:>12} {:>12}",
         "", "library", "link", "swift", "link/library", "swift/library"
     );
-    let cables: [(&str, Vec<u8>); 3] = [
+    let cables: [(&str, Vec<u8>); 4] = [
         ("receive, random frames", frames()),
         ("receive, idle flags", vec![0x7E; CABLE_BYTES]),
+        ("receive, idle flags across bytes", vec![0xF3; CABLE_BYTES]),
         ("receive, idle ones and a zero", vec![0x7F; CABLE_BYTES]),
     ];
     for (what, cable) in &cables {
