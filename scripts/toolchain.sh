@@ -19,10 +19,11 @@ rustc=rustc
 
 as_root() { if [ "$(id -u)" -eq 0 ]; then "$@"; else sudo "$@"; fi; }
 
-# from_debian PACKAGE..
+# from_debian PACKAGE..: a source of packages that cannot be read is no failure as long as the others have what is asked for.
 from_debian() {
-    [ -n "$emulator" ] && as_root dpkg --add-architecture amd64
-    as_root apt-get -q update && as_root env DEBIAN_FRONTEND=noninteractive apt-get -q -y --no-install-recommends install "$@"
+    [ -z "$emulator" ] || as_root dpkg --add-architecture amd64
+    as_root apt-get -q update || echo "apt-get update: status $?"
+    as_root env DEBIAN_FRONTEND=noninteractive apt-get -q -y --no-install-recommends install "$@"
 }
 
 # run PROGRAM WORD..
