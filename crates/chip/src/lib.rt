@@ -1,5 +1,10 @@
 // The chip as a pure machine: its whole state by value, and what each event makes of it.
+mod answer;
+pub mod events;
+mod frame;
 pub mod link;
+mod request;
+pub mod state;
 
 use link::Link;
 use registers::controller::Control;

@@ -22,15 +22,15 @@ module _ (body o : List ℕ) where
   abbrev Sends : Sent → List ℕ → Type 0
   Sends r o′ = (r ≡ Transmit.transmitted body o) × (o′ ≡ Transmit.outputAfter body o)
 
-  pub body-short : length body < 2 → Sends (record { number = number.bodyLength; count = 0 }) o
+  pub body-short : length body < 2 → Sends (record { number = number.badBody; count = 0 }) o
   unfolding Transmit.transmitted Transmit.outputAfter
   body-short h = rw (lt-leb 2 (length body) h) (refl, refl)
 
-  pub body-long : 2 ≤ length body → 16 < length body → Sends (record { number = number.bodyLength; count = 0 }) o
+  pub body-long : 2 ≤ length body → 16 < length body → Sends (record { number = number.badBody; count = 0 }) o
   unfolding Transmit.transmitted Transmit.outputAfter
   body-long h k = rw (le-leb 2 (length body) h, lt-leb (length body) 16 k) (refl, refl)
 
-  pub frame-room : 2 ≤ length body → length body ≤ 16 → length o < 24 → Sends (record { number = number.outputShort; count = 0 }) o
+  pub frame-room : 2 ≤ length body → length body ≤ 16 → length o < 24 → Sends (record { number = number.shortOutput; count = 0 }) o
   unfolding Transmit.transmitted Transmit.outputAfter
   frame-room h k l = rw (le-leb 2 (length body) h, le-leb (length body) 16 k, lt-leb 24 (length o) l) (refl, refl)
 
@@ -45,22 +45,22 @@ module _ (rx : Receiver) (input : List ℕ) (start : ℕ) (o : List ℕ) where
   abbrev Gives : Received → List ℕ → Type 0
   Gives r o′ = (r ≡ Receive.received rx input start o) × (o′ ≡ Receive.outputAfter rx input start o)
 
-  pub state-refused : {r : Received} → inRange rx ≡ false → r ≡ barely rx number.stateRange 0 → Gives r o
+  pub state-refused : {r : Received} → inRange rx ≡ false → r ≡ barely rx number.badState 0 → Gives r o
   unfolding Receive.received Receive.outputAfter
   state-refused h e = rw h (e, refl)
 
   module _ (h : inRange rx ≡ true) where
-    pub input-refused : {r : Received} → 65536 < length input → r ≡ barely rx number.inputLong 0 → Gives r o
+    pub input-refused : {r : Received} → 65536 < length input → r ≡ barely rx number.longInput 0 → Gives r o
     unfolding Receive.received Receive.outputAfter
     input-refused k e = rw (h, lt-leb (length input) 65536 k) (e, refl)
 
     module _ (k : length input ≤ 65536) where
-      pub start-refused : {r : Received} → 8 * length input < start → r ≡ barely rx number.startRange 0 → Gives r o
+      pub start-refused : {r : Received} → 8 * length input < start → r ≡ barely rx number.badStart 0 → Gives r o
       unfolding Receive.received Receive.outputAfter
       start-refused l e = rw (h, le-leb (length input) 65536 k, lt-leb start (8 * length input) l) (e, refl)
 
       module _ (l : start ≤ 8 * length input) where
-        pub output-refused : {r : Received} → length o < 16 → r ≡ barely rx number.outputShort 0 → Gives r o
+        pub output-refused : {r : Received} → length o < 16 → r ≡ barely rx number.shortOutput 0 → Gives r o
         unfolding Receive.received Receive.outputAfter
         output-refused m e =
             rw (h, le-leb (length input) 65536 k, le-leb start (8 * length input) l, lt-leb 16 (length o) m) (e, refl)

@@ -55,11 +55,11 @@ length-content : (kept : List ℕ) (bits : ℕ) → length kept ≡ 20 → bits 
 length-content kept bits h k = length-take bits (wire kept) ∙ omega (arith, length-wire kept)
 
 module _ (kept : List ℕ) (bits : ℕ) (h32 : 32 ≤ bits) (hm : bits ≤ 152) (hl : length kept ≡ 20) where
-  pub flag-long : 144 < bits → atFlag (take bits (wire kept)) ≡ bare number.contentLong
+  pub flag-long : 144 < bits → atFlag (take bits (wire kept)) ≡ bare number.longContent
   unfolding atFlag
   flag-long h = rw (length-content kept bits hl hm, le-ltb bits 32 h32, lt-ltb 144 bits h) refl
 
-  pub flag-broken : bits ≤ 144 → (bits % 8 ≡ 0 → ⊥) → atFlag (take bits (wire kept)) ≡ bare number.contentBroken
+  pub flag-broken : bits ≤ 144 → (bits % 8 ≡ 0 → ⊥) → atFlag (take bits (wire kept)) ≡ bare number.brokenContent
   unfolding atFlag
   flag-broken h z = rw (length-content kept bits hl hm, le-ltb bits 32 h32, le-ltb 144 bits h, ne-eqb (bits % 8) 0 z) refl
 
@@ -69,7 +69,7 @@ module _ (kept : List ℕ) (bits : ℕ) (h32 : 32 ≤ bits) (hm : bits ≤ 152) 
         let e : bits ≡ 8 * (bits / 8) = omega arith in
         ap (λ (n : ℕ). take n (wire kept)) e ∙ take-wire (bits / 8) kept (omega arith)
 
-    pub flag-wrong : (register preset (wire (take (bits / 8) kept)) ≡ residue → ⊥) → atFlag (take bits (wire kept)) ≡ bare number.fcsWrong
+    pub flag-wrong : (register preset (wire (take (bits / 8) kept)) ≡ residue → ⊥) → atFlag (take bits (wire kept)) ≡ bare number.wrongFcs
     unfolding atFlag
     flag-wrong w =
         rw (length-content kept bits hl hm, le-ltb bits 32 h32, le-ltb 144 bits h, eq-eqb (bits % 8) 0 z, whole, ne-eqb (register preset (wire (take (bits / 8) kept))) residue w) refl
@@ -102,7 +102,7 @@ length-front kept n h k = length-take n kept ∙ omega arith
 -- ---- where a scan stopped, and what it concludes
 
 module _ (p : Scanned) (g : Good (p .control) (p .bytes)) where
-  ran-out : p .hit ≡ 0 → concluded (stopOf p) ≡ record { answer = bare number.done; state = stateOf (p .control) (p .bytes); consumed = p .used }
+  ran-out : p .hit ≡ 0 → concluded (stopOf p) ≡ record { answer = bare number.noFrame; state = stateOf (p .control) (p .bytes); consumed = p .used }
   ran-out h = rw (eq-eqb (p .hit) 0 h) refl
 
   content-kept : (bits : ℕ) → bits ≡ p .control .count - (5 + p .control .lead)
@@ -123,10 +123,10 @@ module _ (p : Scanned) (g : Good (p .control) (p .bytes)) where
   at-abort h k = rw (ne-eqb (p .hit) 0 h, ne-eqb (p .hit) 1 k) refl
 
   pub conclude-out : {rx : Receiver} {r : Received} (o : List ℕ) → p .hit ≡ 0 → rx ≡ receiverOf (p .control) (p .bytes)
-      → r ≡ barely rx number.done (p .used)
+      → r ≡ barely rx number.noFrame (p .used)
       → (r ≡ receivedAs (concluded (stopOf p))) × (o ≡ put 0 (concluded (stopOf p) .answer .body) o)
   conclude-out o h f e =
-      rw (ran-out h) (e ∙ ap (λ (x : Receiver). barely x number.done (p .used)) (f ∙ image-state (p .control) (p .bytes) g), put-none 0 o)
+      rw (ran-out h) (e ∙ ap (λ (x : Receiver). barely x number.noFrame (p .used)) (f ∙ image-state (p .control) (p .bytes) g), put-none 0 o)
 
   pub conclude-flag : {r : Received} (bits : ℕ) (o o′ : List ℕ) → bits ≡ p .control .count - (5 + p .control .lead) → p .hit ≡ 1
       → r ≡ receivedAs (record { answer = atFlag (take bits (wire (p .bytes))); state = opened; consumed = p .used })

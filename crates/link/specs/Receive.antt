@@ -23,11 +23,11 @@ bare n = record { number = n; body = [] }
 -- at a flag: content under 32 bits is passed over without an answer; over 144 bits is 21; not a multiple of 8 is 22; FCS wrong is 23
 unfoldable pub atFlag : List ℕ → Answer
 atFlag content =
-    cond (ltb (length content) 32) (bare number.done)
-    (cond (ltb 144 (length content)) (bare number.contentLong)
+    cond (ltb (length content) 32) (bare number.noFrame)
+    (cond (ltb 144 (length content)) (bare number.longContent)
     (cond (eqb (length content % 8) 0)
-    (cond (eqb (register preset content) residue) (record { number = number.sent; body = take (length content / 8 - 2) (pack content) }) (bare number.fcsWrong))
-    (bare number.contentBroken)))
+    (cond (eqb (register preset content) residue) (record { number = number.sent; body = take (length content / 8 - 2) (pack content) }) (bare number.wrongFcs))
+    (bare number.brokenContent)))
 
 -- what a reading gives: its answer, the state it leaves, the bits consumed
 pub record Reading : Type 0 where
@@ -38,7 +38,7 @@ pub record Reading : Type 0 where
 -- if the bits run out: 17; a flag answers by its content and opens the next frame; a seventh one is 24, and the receiver hunts
 abbrev pub concluded : Stop → Reading
 concluded p =
-    cond (eqb (p .hit) 0) (record { answer = bare number.done; state = p .state; consumed = p .used })
+    cond (eqb (p .hit) 0) (record { answer = bare number.noFrame; state = p .state; consumed = p .used })
     (cond (eqb (p .hit) 1) (record { answer = atFlag (take (ended (p .state) 0) (p .state .content)); state = opened; consumed = p .used })
     (record { answer = bare number.aborted; state = hunting; consumed = p .used }))
 
@@ -52,10 +52,10 @@ unlessRefused rx input start output refused done =
     cond (inRange rx)
     (cond (leb (length input) 65536)
     (cond (leb start (8 * length input))
-    (cond (leb 16 (length output)) done (refused number.outputShort))
-    (refused number.startRange))
-    (refused number.inputLong))
-    (refused number.stateRange)
+    (cond (leb 16 (length output)) done (refused number.shortOutput))
+    (refused number.badStart))
+    (refused number.longInput))
+    (refused number.badState)
 
 abbrev pub readFrom : Receiver → List ℕ → ℕ → Reading
 readFrom rx input start = reading (view rx) (drop start (wire input))

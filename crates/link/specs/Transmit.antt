@@ -13,8 +13,8 @@ use Rattle.link.specs.Frame.{framed}
 abbrev pub unlessRefused : {A : Type 0} → List ℕ → List ℕ → (ℕ → A) → A → A
 unlessRefused body output refused done =
     cond (leb 2 (length body) && leb (length body) 16)
-    (cond (leb 24 (length output)) done (refused number.outputShort))
-    (refused number.bodyLength)
+    (cond (leb 24 (length output)) done (refused number.shortOutput))
+    (refused number.badBody)
 
 -- the number, and the count of bytes written (refused: 0)
 unfoldable pub transmitted : List ℕ → List ℕ → Sent

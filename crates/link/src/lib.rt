@@ -5,12 +5,12 @@ mod ranges;
 mod scanning;
 mod verdict;
 
-use numbers::BODY_LENGTH;
-use numbers::INPUT_LONG;
-use numbers::OUTPUT_SHORT;
+use numbers::BAD_BODY;
+use numbers::BAD_START;
+use numbers::BAD_STATE;
+use numbers::LONG_INPUT;
 use numbers::SENT;
-use numbers::START_RANGE;
-use numbers::STATE_RANGE;
+use numbers::SHORT_OUTPUT;
 use scanning::Control;
 ghost use mathlib.Core.Path.{_≡_};
 ghost use Rattle.link.specs.Transmit as transmit;
@@ -77,19 +77,19 @@ pub fn transmit(body: &[u8], output: &mut [u8]) -> Sent
 {
     if body.len() < BODY_LEAST {
         return Sent {
-            number: BODY_LENGTH,
+            number: BAD_BODY,
             count: 0,
         };
     }
     if BODY_MOST < body.len() {
         return Sent {
-            number: BODY_LENGTH,
+            number: BAD_BODY,
             count: 0,
         };
     }
     if output.len() < FRAME_BYTES {
         return Sent {
-            number: OUTPUT_SHORT,
+            number: SHORT_OUTPUT,
             count: 0,
         };
     }
@@ -125,15 +125,15 @@ pub fn receive(rx: Receiver, input: &[u8], start: usize, output: &mut [u8]) -> R
 {
     if ranges::in_range(rx) {
         if INPUT_MOST < input.len() {
-            return verdict::bare(rx, INPUT_LONG, 0);
+            return verdict::bare(rx, LONG_INPUT, 0);
         }
         if 8 * input.len() < start {
-            return verdict::bare(rx, START_RANGE, 0);
+            return verdict::bare(rx, BAD_START, 0);
         }
         if output.len() < BODY_ROOM {
-            return verdict::bare(rx, OUTPUT_SHORT, 0);
+            return verdict::bare(rx, SHORT_OUTPUT, 0);
         }
         return read(rx, input, start, output);
     }
-    verdict::bare(rx, STATE_RANGE, 0)
+    verdict::bare(rx, BAD_STATE, 0)
 }

@@ -4,11 +4,11 @@ use crate::Receiver;
 use crate::fcs;
 use crate::scanning::Scanned;
 use numbers::ABORTED;
-use numbers::CONTENT_BROKEN;
-use numbers::CONTENT_LONG;
-use numbers::DONE;
-use numbers::FCS_WRONG;
+use numbers::BROKEN_CONTENT;
+use numbers::LONG_CONTENT;
+use numbers::NO_FRAME;
 use numbers::SENT;
+use numbers::WRONG_FCS;
 ghost use mathlib.Core.Path.{_≡_};
 ghost use Prim.Native.Nat.{ℕ, _+_, _≤_, _<_};
 ghost use lib.ListN.{length, take, getD};
@@ -53,14 +53,14 @@ fn at_flag(kept: [u8; 20], bits: u8, used: usize, output: &mut [u8]) -> Received
     ensures { λ _. ⌜ now (output .exit) ≡ put 0 (atFlag (take bits (wire kept)) .body) (now (output .entry)) ⌝ }
 {
     if CONTENT_MOST < bits {
-        return bare(at_opening(), CONTENT_LONG, used);
+        return bare(at_opening(), LONG_CONTENT, used);
     }
     if bits % 8 != 0 {
-        return bare(at_opening(), CONTENT_BROKEN, used);
+        return bare(at_opening(), BROKEN_CONTENT, used);
     }
     let n = (bits / 8) as usize;
     if fcs::register(&kept[..n]) != fcs::RESIDUE {
-        return bare(at_opening(), FCS_WRONG, used);
+        return bare(at_opening(), WRONG_FCS, used);
     }
     let length = n - 2;
     parts::store(output, 0, &kept[..length]);
@@ -92,7 +92,7 @@ pub fn conclude(stop: Scanned, output: &mut [u8]) -> Received
             count: c.count,
             bytes: kept,
         };
-        return bare(rx, DONE, used);
+        return bare(rx, NO_FRAME, used);
     }
     if hit == 1 {
         let bits = c.count - (5 + c.lead);

@@ -6,84 +6,84 @@ abbrev pub sent : ℕ
 sent = 0
 
 -- The output is under 16 bytes, for the transmitter under 24.
-abbrev pub outputShort : ℕ
-outputShort = 1
+abbrev pub shortOutput : ℕ
+shortOutput = 1
 
 -- The body is not 2 to 16 bytes.
-abbrev pub bodyLength : ℕ
-bodyLength = 2
+abbrev pub badBody : ℕ
+badBody = 2
 
 -- The port is not 0 or 1, the edge kind is over 2, or the completion is not 16 bytes.
-abbrev pub argument : ℕ
-argument = 3
+abbrev pub badArgument : ℕ
+badArgument = 3
 
 -- The journal's length, mark, version or layout is wrong.
-abbrev pub journalWrong : ℕ
-journalWrong = 4
+abbrev pub badJournal : ℕ
+badJournal = 4
 
 -- The kept number is 0.
-abbrev pub nothingKept : ℕ
-nothingKept = 5
+abbrev pub noneKept : ℕ
+noneKept = 5
 
 -- A field of the state is out of range.
-abbrev pub stateRange : ℕ
-stateRange = 6
+abbrev pub badState : ℕ
+badState = 6
 
 -- The chip ID is over 0xFFFFFF.
-abbrev pub idRange : ℕ
-idRange = 7
+abbrev pub badId : ℕ
+badId = 7
 
 -- The receiver's input is over 65,536 bytes.
-abbrev pub inputLong : ℕ
-inputLong = 8
+abbrev pub longInput : ℕ
+longInput = 8
 
 -- The start bit is over 8 times the bytes.
-abbrev pub startRange : ℕ
-startRange = 9
+abbrev pub badStart : ℕ
+badStart = 9
 
 -- The line is not readable.
-abbrev pub lineUnreadable : ℕ
-lineUnreadable = 10
+abbrev pub unreadable : ℕ
+unreadable = 10
 
 -- The frame's address is not 0x00.
-abbrev pub address : ℕ
-address = 11
+abbrev pub otherAddress : ℕ
+otherAddress = 11
 
 -- The port is not the active one.
-abbrev pub portInactive : ℕ
-portInactive = 12
+abbrev pub otherPort : ℕ
+otherPort = 12
 
 -- An unknown control with bit 0 set.
-abbrev pub controlUnknown : ℕ
-controlUnknown = 13
+abbrev pub otherControl : ℕ
+otherControl = 13
 
 -- The information is not as long as its frame asks.
-abbrev pub informationLength : ℕ
-informationLength = 14
+abbrev pub wrongLength : ℕ
+wrongLength = 14
 
 -- A completion when not busy.
 abbrev pub notBusy : ℕ
 notBusy = 15
 
 -- A pin sample with GPIO disabled.
-abbrev pub gpioDisabled : ℕ
-gpioDisabled = 16
+abbrev pub linesDisabled : ℕ
+linesDisabled = 16
 
 -- Done, and no frame.
-abbrev pub done : ℕ
-done = 17
+abbrev pub noFrame : ℕ
+noFrame = 17
 
 -- The receiver dropped a frame: content over 144 bits.
-abbrev pub contentLong : ℕ
-contentLong = 21
+abbrev pub longContent : ℕ
+longContent = 21
 
 -- Content that is not a multiple of 8 bits.
-abbrev pub contentBroken : ℕ
-contentBroken = 22
+abbrev pub brokenContent : ℕ
+brokenContent = 22
 
 -- A wrong FCS.
-abbrev pub fcsWrong : ℕ
-fcsWrong = 23
+abbrev pub wrongFcs : ℕ
+wrongFcs = 23
 
 -- Seven ones.
 abbrev pub aborted : ℕ

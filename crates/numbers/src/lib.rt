@@ -3,44 +3,44 @@
 // A frame was read or sent.
 pub const SENT: u8 = 0;
 // The output is under 16 bytes, for the transmitter under 24.
-pub const OUTPUT_SHORT: u8 = 1;
+pub const SHORT_OUTPUT: u8 = 1;
 // The body is not 2 to 16 bytes.
-pub const BODY_LENGTH: u8 = 2;
+pub const BAD_BODY: u8 = 2;
 // The port is not 0 or 1, the edge kind is over 2, or the completion is not 16 bytes.
-pub const ARGUMENT: u8 = 3;
+pub const BAD_ARGUMENT: u8 = 3;
 // The journal's length, mark, version or layout is wrong.
-pub const JOURNAL_WRONG: u8 = 4;
+pub const BAD_JOURNAL: u8 = 4;
 // The kept number is 0.
-pub const NOTHING_KEPT: u8 = 5;
+pub const NONE_KEPT: u8 = 5;
 // A field of the state is out of range.
-pub const STATE_RANGE: u8 = 6;
+pub const BAD_STATE: u8 = 6;
 // The chip ID is over 0xFFFFFF.
-pub const ID_RANGE: u8 = 7;
+pub const BAD_ID: u8 = 7;
 // The receiver's input is over 65,536 bytes.
-pub const INPUT_LONG: u8 = 8;
+pub const LONG_INPUT: u8 = 8;
 // The start bit is over 8 times the bytes.
-pub const START_RANGE: u8 = 9;
+pub const BAD_START: u8 = 9;
 // The line is not readable.
-pub const LINE_UNREADABLE: u8 = 10;
+pub const UNREADABLE: u8 = 10;
 // The frame's address is not 0x00.
-pub const ADDRESS: u8 = 11;
+pub const OTHER_ADDRESS: u8 = 11;
 // The port is not the active one.
-pub const PORT_INACTIVE: u8 = 12;
+pub const OTHER_PORT: u8 = 12;
 // An unknown control with bit 0 set.
-pub const CONTROL_UNKNOWN: u8 = 13;
+pub const OTHER_CONTROL: u8 = 13;
 // The information is not as long as its frame asks.
-pub const INFORMATION_LENGTH: u8 = 14;
+pub const WRONG_LENGTH: u8 = 14;
 // A completion when not busy.
 pub const NOT_BUSY: u8 = 15;
 // A pin sample with GPIO disabled.
-pub const GPIO_DISABLED: u8 = 16;
+pub const LINES_DISABLED: u8 = 16;
 // Done, and no frame.
-pub const DONE: u8 = 17;
+pub const NO_FRAME: u8 = 17;
 // The receiver dropped a frame: content over 144 bits.
-pub const CONTENT_LONG: u8 = 21;
+pub const LONG_CONTENT: u8 = 21;
 // Content that is not a multiple of 8 bits.
-pub const CONTENT_BROKEN: u8 = 22;
+pub const BROKEN_CONTENT: u8 = 22;
 // A wrong FCS.
-pub const FCS_WRONG: u8 = 23;
+pub const WRONG_FCS: u8 = 23;
 // Seven ones.
 pub const ABORTED: u8 = 24;

@@ -6,7 +6,7 @@ use native.Mathlib.Numerals.{add-one}
 use native.Mathlib.Nat.{add-zero, div-div-eq-div-mul}
 use native.Mathlib.Omega.{arith}
 use lib.ListN.{length, take, drop, getD, set, length-append, length-take, length-drop, take-append-drop, List·getD-append}
-use lib.Seq.{take-suc, take-suc-set, take-all, take-at, drop-at, length-take-le, ext-getD, getD-take, getD-drop, getD-append-add, take-append-le, drop-append-le, drop-append-add, drop-drop, drop-set-lt}
+use lib.Seq.{take-suc, take-suc-set, take-all, take-at, drop-at, length-take-le, ext-getD, getD-take, getD-drop, getD-append-add, take-append-add, take-append-le, drop-append-le, drop-append-add, drop-drop, drop-set-lt}
 use borrow.Rule.Slice.PartMut.{putMid}
 use Rattle.parts.specs.Parts.{part, put}
 use Rattle.parts.specs.Words.{word, wordBytes, bytesOf, frontWord, wordsOf}
@@ -33,6 +33,18 @@ unfolding part put
 part-put a s d n h e =
     ap (λ (l : List ℕ). take n l) (drop-at (take a d) (s ++ drop (a + length s) d) a (length-take-le a d (omega arith)))
     ∙ take-at s (drop (a + length s) d) n e
+
+-- what was written stands at the front of a longer part
+front-rest : (n m : ℕ) → m ≤ n → n ≡ m + (n - m)
+front-rest n m h = omega arith
+
+pub part-put-front : (a : ℕ) (s d : List ℕ) (n : ℕ) → a ≤ length d → length s ≤ n → part a n (put a s d) ≡ s ++ part (a + length s) (n - length s) d
+unfolding part put
+part-put-front a s d n h l =
+    let rest : List ℕ = drop (a + length s) d in
+    ap (λ (m : List ℕ). take n m) (drop-at (take a d) (s ++ rest) a (length-take-le a d h))
+    ∙ ap (λ (m : ℕ). take m (s ++ rest)) (front-rest n (length s) l)
+    ∙ take-append-add s rest (n - length s)
 
 -- the place b, counted from the end of a prefix p
 split-place : (p a b : ℕ) → p ≡ a → a ≤ b → b ≡ p + (b - p)
@@ -169,7 +181,34 @@ word-digits x h =
     (last-digit (x / 65536) ∙ ap (λ (n : ℕ). x / 65536 % 256 + 256 * n) (div-div-eq-div-mul x 65536 256))
     (omega arith)
 
-pub words-bytes : {ws : List ℕ} → Words ws → wordsOf (length ws) (bytesOf ws) ≡ ws
+pub words-bytes : {ws : List ℕ} → Words ws → (rest : List ℕ) → wordsOf (length ws) (bytesOf ws ++ rest) ≡ ws
 unfolding wordsOf bytesOf
-words-bytes none = refl
-words-bytes (more {w} {ws} h r) = ap (λ (x : ℕ). x ∷ wordsOf (length ws) (bytesOf ws)) (word-digits w h) ∙ ap (λ (l : List ℕ). w ∷ l) (words-bytes r)
+words-bytes none rest = refl
+words-bytes (more {w} {ws} h r) rest =
+    ap (λ (x : ℕ). x ∷ wordsOf (length ws) (bytesOf ws ++ rest)) (word-digits w h) ∙ ap (λ (l : List ℕ). w ∷ l) (words-bytes r rest)
+
+-- the bytes of a word
+module _ (a b c d : ℕ) (ha : a < 256) (hb : b < 256) (hc : c < 256) where
+  pub byte0 : word a b c d % 256 ≡ a
+  byte0 = omega arith
+
+  over1 : word a b c d / 256 ≡ b + 256 * c + 65536 * d
+  over1 = omega arith
+
+  over2 : word a b c d / 65536 ≡ c + 256 * d
+  over2 = omega arith
+
+  pub over3 : word a b c d / 16777216 ≡ d
+  over3 = omega arith
+
+  pub byte1 : word a b c d / 256 % 256 ≡ b
+  byte1 = rw over1 (omega arith)
+
+  pub byte2 : word a b c d / 65536 % 256 ≡ c
+  byte2 = rw over2 (omega arith)
+
+  pub byte3 : d < 256 → word a b c d / 16777216 % 256 ≡ d
+  byte3 hd = rw over3 (omega arith)
+
+  pub word-small : d < 256 → word a b c d < 4294967296
+  word-small hd = omega arith

@@ -35,7 +35,7 @@ decided-answer s b n =
     split (eqb b 0) (λ e. let o : eqb (b + 1) 1 ≡ true = rw (eqb-true b 0 e) refl in rw (z, o, e) refl)
     (λ e. let o : eqb (b + 1) 1 ≡ false = ne-eqb (b + 1) 1 (λ h. eqb-false b 0 e (omega arith)) in rw (z, o, e) refl)
 
-verdict-speaks : (s : State) (b : ℕ) → decides s b ≡ true → eqb (verdict s b .number) number.done ≡ false
+verdict-speaks : (s : State) (b : ℕ) → decides s b ≡ true → eqb (verdict s b .number) number.noFrame ≡ false
 verdict-speaks s b d =
     split (eqb b 0)
     (λ e.
@@ -89,7 +89,7 @@ pub heard-after : (s : State) (bits : List ℕ) (a : Answer) (t : State) (n : �
 unfolding spoken
 heard-after s bits a t n rest e d =
     let on : Reading → List Answer = λ r. spoken (r .answer ∷ []) ++ heard (r .state) (drop (r .consumed) bits) in
-    split (eqb (a .number) number.done)
+    split (eqb (a .number) number.noFrame)
     (λ f.
     let more : reading s bits ≡ record { answer = reading t rest .answer; state = reading t rest .state; consumed = n + reading t rest .consumed } =
     e ∙ rw f refl in
@@ -107,7 +107,7 @@ spoken-append : (a b : List Answer) → spoken (a ++ b) ≡ spoken a ++ spoken b
 unfolding spoken
 spoken-append [] b = refl
 spoken-append (x ∷ a) b =
-    split (eqb (x .number) number.done) (λ e. rw e (spoken-append a b))
+    split (eqb (x .number) number.noFrame) (λ e. rw e (spoken-append a b))
     (λ e. rw e (ap (λ (l : List Answer). x ∷ l) (spoken-append a b)))
 
 -- ---- calls give them all

@@ -38,7 +38,7 @@ heard-frame {raw = raw} hb rest h =
 
 heard-shared : (rest : List ℕ) → heard opened (drop 1 flag ++ rest) ≡ heard opened rest
 unfolding spoken
-heard-shared rest = heard-after opened (drop 1 flag ++ rest) (bare number.done) opened 7 rest (shared-zero rest) refl
+heard-shared rest = heard-after opened (drop 1 flag ++ rest) (bare number.noFrame) opened 7 rest (shared-zero rest) refl
 
 heard-abort : {raw : List ℕ} → AreBits raw → (rest : List ℕ) → absent sixOnes raw → getD raw (length raw - 1) 0 ≡ 0
     → heard opened (raw ++ (sevenOnes ++ rest)) ≡ spoken (atAbort (destuff raw) ∷ []) ++ heard hunting rest

@@ -97,16 +97,16 @@ module _ {rx : Receiver} {input output : List ℕ} {start : ℕ} (a : Accepted r
       ap length (accepted a .bytes) ∙ length-put 0 (readFrom rx input start .answer .body) output (omega arith)
 
   -- 17 HAS CONSUMED ALL BITS,
-  pub silent-bits : received rx input start output .number ≡ number.done → received rx input start output .consumed ≡ 8 * length input - start
+  pub silent-bits : received rx input start output .number ≡ number.noFrame → received rx input start output .consumed ≡ 8 * length input - start
   silent-bits h =
-      let n : readFrom rx input start .answer .number ≡ number.done = rw (accepted a .result) at h in
+      let n : readFrom rx input start .answer .number ≡ number.noFrame = rw (accepted a .result) at h in
       rw (accepted a .result)
       (silent-consumed (view rx) (drop start (wire input)) n ∙ length-drop start (wire input) ∙ ap (λ (l : ℕ). l - start) (length-wire input))
 
   -- and leaves the output as it was.
-  pub silent-output : received rx input start output .number ≡ number.done → outputAfter rx input start output ≡ output
+  pub silent-output : received rx input start output .number ≡ number.noFrame → outputAfter rx input start output ≡ output
   silent-output h =
-      let n : readFrom rx input start .answer .number ≡ number.done = rw (accepted a .result) at h in
+      let n : readFrom rx input start .answer .number ≡ number.noFrame = rw (accepted a .result) at h in
       accepted a .bytes ∙ rw (silent (view rx) (drop start (wire input)) n) (sym (put-none 0 output))
 
 -- SEVERAL CALLS over one buffer are the reading's calls over its bits, and none of them is refused.

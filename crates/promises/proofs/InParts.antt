@@ -28,11 +28,11 @@ module _ {rx : Receiver} {input input₁ output : List ℕ} {start start₁ : �
   whole = ap (reading (view rx)) cut ∙ read-split (view rx) (drop start₁ (wire input₁)) (drop start₂ (wire input₂))
 
   -- Where the first call answers, that is the answer of the whole.
-  pub split-answered : (received rx input₁ start₁ output .number ≡ number.done → ⊥)
+  pub split-answered : (received rx input₁ start₁ output .number ≡ number.noFrame → ⊥)
       → (received rx input start output ≡ received rx input₁ start₁ output) × (outputAfter rx input start output ≡ outputAfter rx input₁ start₁ output)
   split-answered answers =
-      let other : readFrom rx input₁ start₁ .answer .number ≡ number.done → ⊥ = λ h. answers (rw (accepted a₁ .result) h) in
-      let t : eqb (readFrom rx input₁ start₁ .answer .number) number.done ≡ false = ne-eqb _ _ other in
+      let other : readFrom rx input₁ start₁ .answer .number ≡ number.noFrame → ⊥ = λ h. answers (rw (accepted a₁ .result) h) in
+      let t : eqb (readFrom rx input₁ start₁ .answer .number) number.noFrame ≡ false = ne-eqb _ _ other in
       let same : readFrom rx input start ≡ readFrom rx input₁ start₁ = whole ∙ rw t refl in (
         accepted a .result ∙ ap receivedAs same ∙ sym (accepted a₁ .result),
         accepted a .bytes ∙ ap (λ (r : Reading). put 0 (r .answer .body) output) same ∙ sym (accepted a₁ .bytes),
@@ -40,7 +40,7 @@ module _ {rx : Receiver} {input input₁ output : List ℕ} {start start₁ : �
 
   -- Where the first call gives 17, the second goes on from the receiver left: the same receiver, number and body in the end, and the
   -- bits consumed add up.
-  pub split-went-on : received rx input₁ start₁ output .number ≡ number.done → length input₂ ≤ 65536 → start₂ ≤ 8 * length input₂
+  pub split-went-on : received rx input₁ start₁ output .number ≡ number.noFrame → length input₂ ≤ 65536 → start₂ ≤ 8 * length input₂
       → (received rx input start output
       ≡ onFrom (received rx input₁ start₁ output) (received (received rx input₁ start₁ output .rx) input₂ start₂ output))
       × (outputAfter rx input start output ≡ outputAfter (received rx input₁ start₁ output .rx) input₂ start₂ output)
@@ -48,8 +48,8 @@ module _ {rx : Receiver} {input input₁ output : List ℕ} {start start₁ : �
       let first = received rx input₁ start₁ output in
       let R₁ = readFrom rx input₁ start₁ in
       let R₂ = reading (R₁ .state) (drop start₂ (wire input₂)) in
-      let n : R₁ .answer .number ≡ number.done = rw (accepted a₁ .result) at h in
-      let t : eqb (R₁ .answer .number) number.done ≡ true = eq-eqb _ _ n in
+      let n : R₁ .answer .number ≡ number.noFrame = rw (accepted a₁ .result) at h in
+      let t : eqb (R₁ .answer .number) number.noFrame ≡ true = eq-eqb _ _ n in
       let both : readFrom rx input start ≡ record { answer = R₂ .answer; state = R₂ .state; consumed = R₁ .consumed + R₂ .consumed } =
       whole ∙ rw t refl in
       let a₂ : Accepted (first .rx) input₂ start₂ output =

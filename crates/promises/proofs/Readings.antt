@@ -34,7 +34,7 @@ frame-read {raw = raw} hb rest h =
     ap concluded (m .bits) ∙ closing (foldl run 0 raw) (m .lead) (0 + length raw) (destuff raw) rest (m .short) ∙ rw zero-add refl
 
 -- TWO FLAGS THAT SHARE A ZERO enclose nothing: no answer, and the frame is open.
-pub shared-zero : (rest : List ℕ) → reading opened (drop 1 flag ++ rest) ≡ after (bare number.done) opened 7 rest
+pub shared-zero : (rest : List ℕ) → reading opened (drop 1 flag ++ rest) ≡ after (bare number.noFrame) opened 7 rest
 unfolding reading runs
 shared-zero rest = goes-on opened 7 rest
 
@@ -75,7 +75,7 @@ flag-decided s n (b ∷ p) e =
     (λ d. rw d (flag-decided (next s b) (n + 1) p (rw d at e)))
 
 stop-answers : (p : Stop) → (eqb (p .hit) 1 ≡ true → 32 ≤ ended (p .state) 0) → eqb (p .hit) 0 ≡ false
-    → eqb (concluded p .answer .number) number.done ≡ false
+    → eqb (concluded p .answer .number) number.noFrame ≡ false
 stop-answers p f e =
     split (eqb (p .hit) 1)
     (λ t.
@@ -97,12 +97,12 @@ read-split s p q =
     ap concluded stopped ∙ rw (stop-answers (runs s 0 p) (flag-decided s 0 p) e) refl)
 
 -- 17 comes with no body
-pub silent : (s : State) (p : List ℕ) → reading s p .answer .number ≡ number.done → reading s p .answer ≡ bare number.done
+pub silent : (s : State) (p : List ℕ) → reading s p .answer .number ≡ number.noFrame → reading s p .answer ≡ bare number.noFrame
 unfolding reading
 silent s p h =
     split (eqb (runs s 0 p .hit) 0) (λ e. rw e refl)
     (λ e.
-    absurd (eqb-false (concluded (runs s 0 p) .answer .number) number.done (stop-answers (runs s 0 p) (flag-decided s 0 p) e) h))
+    absurd (eqb-false (concluded (runs s 0 p) .answer .number) number.noFrame (stop-answers (runs s 0 p) (flag-decided s 0 p) e) h))
 
 -- and all bits are consumed
 runs-out : (s : State) (n : ℕ) (p : List ℕ) → eqb (runs s n p .hit) 0 ≡ true → runs s n p .used ≡ n + length p
@@ -114,15 +114,15 @@ runs-out s n (b ∷ p) e =
     let f : n + 1 + length p ≡ n + suc (length p) = omega arith in
     rw d (runs-out (next s b) (n + 1) p (rw d at e) ∙ f))
 
-pub silent-consumed : (s : State) (p : List ℕ) → reading s p .answer .number ≡ number.done → reading s p .consumed ≡ length p
+pub silent-consumed : (s : State) (p : List ℕ) → reading s p .answer .number ≡ number.noFrame → reading s p .consumed ≡ length p
 unfolding reading
 silent-consumed s p h =
     split (eqb (runs s 0 p .hit) 0) (λ e. rw e (runs-out s 0 p e ∙ zero-add (length p)))
     (λ e.
-    absurd (eqb-false (concluded (runs s 0 p) .answer .number) number.done (stop-answers (runs s 0 p) (flag-decided s 0 p) e) h))
+    absurd (eqb-false (concluded (runs s 0 p) .answer .number) number.noFrame (stop-answers (runs s 0 p) (flag-decided s 0 p) e) h))
 
 -- THE BITS RUN OUT in a frame, no six ones in a row: 17.
-pub frame-unended : {raw : List ℕ} → AreBits raw → absent sixOnes raw → reading opened raw .answer ≡ bare number.done
+pub frame-unended : {raw : List ℕ} → AreBits raw → absent sixOnes raw → reading opened raw .answer ≡ bare number.noFrame
 unfolding reading
 frame-unended {raw = raw} hb h =
     let m : Ran 0 0 0 [] raw [] = ran hb 0 0 0 [] [] (lit≤ tt) h in
@@ -132,7 +132,7 @@ frame-unended {raw = raw} hb h =
 
 -- and in six ones, too
 pub six-unended : {raw : List ℕ} → AreBits raw → absent sixOnes raw → getD raw (length raw - 1) 0 ≡ 0
-    → reading opened (raw ++ sixOnes) .answer ≡ bare number.done
+    → reading opened (raw ++ sixOnes) .answer ≡ bare number.noFrame
 unfolding reading
 six-unended {raw = raw} hb h last =
     let m : Ran 0 0 0 [] raw sixOnes = ran hb 0 0 0 [] sixOnes (lit≤ tt) h in
@@ -150,8 +150,8 @@ bare-sized n h = record { most = lit≤ tt; least = λ e. absurd (h e); other = 
 flag-sized : (c : List ℕ) → Sized (atFlag c)
 unfolding atFlag
 flag-sized c =
-    split (ltb (length c) 32) (λ e. rw e (bare-sized number.done (λ h. omega arith)))
-    (λ e. split (ltb 144 (length c)) (λ f. rw (e, f) (bare-sized number.contentLong (λ h. omega arith)))
+    split (ltb (length c) 32) (λ e. rw e (bare-sized number.noFrame (λ h. omega arith)))
+    (λ e. split (ltb 144 (length c)) (λ f. rw (e, f) (bare-sized number.longContent (λ h. omega arith)))
     (λ f. split (eqb (length c % 8) 0)
     (λ g. split (eqb (register preset c) residue)
     (λ r.
@@ -160,12 +160,12 @@ flag-sized c =
     let l : length (take (length c / 8 - 2) (pack c)) ≡ length c / 8 - 2 = rw (length-take, length-pack) (omega arith) in
     rw (e, f, g, r)
     (record { most = rw l (omega arith); least = λ z. rw l (omega arith); other = λ z. absurd (z refl) }))
-    (λ r. rw (e, f, g, r) (bare-sized number.fcsWrong (λ h. omega arith)))) (λ g. rw (e, f, g) (bare-sized number.contentBroken (λ h. omega arith)))))
+    (λ r. rw (e, f, g, r) (bare-sized number.wrongFcs (λ h. omega arith)))) (λ g. rw (e, f, g) (bare-sized number.brokenContent (λ h. omega arith)))))
 
 pub reading-sized : (s : State) (p : List ℕ) → Sized (reading s p .answer)
 unfolding reading
 reading-sized s p =
-    split (eqb (runs s 0 p .hit) 0) (λ e. rw e (bare-sized number.done (λ h. omega arith)))
+    split (eqb (runs s 0 p .hit) 0) (λ e. rw e (bare-sized number.noFrame (λ h. omega arith)))
     (λ e. split (eqb (runs s 0 p .hit) 1) (λ f. rw (e, f) (flag-sized (take (ended (runs s 0 p .state) 0) (runs s 0 p .state .content))))
     (λ f. rw (e, f) (bare-sized number.aborted (λ h. omega arith))))
 
@@ -243,7 +243,7 @@ hunted {p = b ∷ p} (more (inr z) hb) j n q r hj h = hunted-one j n p q r b z h
 pub record StillHunting (j : ℕ) (bits : List ℕ) : Type 0 where
   pub ones : ℕ
   pub few : ones ≤ 7
-  pub result : reading (hunter j) bits ≡ record { answer = bare number.done; state = hunter ones; consumed = length bits }
+  pub result : reading (hunter j) bits ≡ record { answer = bare number.noFrame; state = hunter ones; consumed = length bits }
 
 -- HUNTING. Bits that hold no flag, nor end one that the bits before them began: 17, all are consumed, and the receiver still hunts.
 pub hunts : {bits : List ℕ} → AreBits bits → (j : ℕ) → j ≤ 7 → absent flag (seen j ++ bits) → StillHunting j bits
@@ -259,7 +259,7 @@ hunts {bits = bits} hb j hj h =
 
 -- THE FIRST FLAG opens a frame, without an answer.
 pub first-flag : {p : List ℕ} → AreBits p → (j : ℕ) (rest : List ℕ) → j ≤ 7 → absent flag (seen j ++ (p ++ take 7 flag))
-    → reading (hunter j) (p ++ (flag ++ rest)) ≡ after (bare number.done) opened (length p + 8) rest
+    → reading (hunter j) (p ++ (flag ++ rest)) ≡ after (bare number.noFrame) opened (length p + 8) rest
 unfolding reading runs seen
 first-flag {p = p} hb j rest hj h =
     let m : Hunted j 0 p (take 7 flag) (flag ++ rest) = hunted hb j 0 (take 7 flag) (flag ++ rest) hj h in
@@ -273,7 +273,7 @@ first-flag {p = p} hb j rest hj h =
 
 -- A FLAG BEGUN BEFORE THE CALL opens a frame where it ends.
 pub begun-flag : (j : ℕ) (rest : List ℕ) → j ≤ 6
-    → reading (hunter j) (replicate (6 - j) 1 ++ (0 ∷ rest)) ≡ after (bare number.done) opened (7 - j) rest
+    → reading (hunter j) (replicate (6 - j) 1 ++ (0 ∷ rest)) ≡ after (bare number.noFrame) opened (7 - j) rest
 unfolding reading runs
 begun-flag zero rest h = goes-on opened 7 rest
 begun-flag (suc zero) rest h = goes-on opened 6 rest

@@ -212,15 +212,15 @@ goes-on s n r =
 kept : (c z : List ℕ) (m : ℕ) → length z ≡ m → m ≤ 6 → length (take 152 (c ++ z)) - m ≡ min (152 - m) (length c)
 kept c z m e h = rw (length-take, length-append) (omega arith)
 
-at-flag-long : (c : List ℕ) → 144 < length c → atFlag c ≡ bare number.contentLong
+at-flag-long : (c : List ℕ) → 144 < length c → atFlag c ≡ bare number.longContent
 unfolding atFlag
 at-flag-long c h = rw (le-ltb (length c) 32 (omega arith), lt-ltb 144 (length c) h) refl
 
-at-flag-short : (c : List ℕ) → length c < 32 → atFlag c ≡ bare number.done
+at-flag-short : (c : List ℕ) → length c < 32 → atFlag c ≡ bare number.noFrame
 unfolding atFlag
 at-flag-short c h = rw (lt-ltb (length c) 32 h) refl
 
-pub at-flag-answers : (c : List ℕ) → 32 ≤ length c → eqb (atFlag c .number) number.done ≡ false
+pub at-flag-answers : (c : List ℕ) → 32 ≤ length c → eqb (atFlag c .number) number.noFrame ≡ false
 unfolding atFlag
 at-flag-answers c h =
     rw (le-ltb (length c) 32 h)

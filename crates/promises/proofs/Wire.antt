@@ -45,7 +45,7 @@ hunted-state (hunts-on h) m = record { few = h; same = refl }
 hunted-state (frames hk hl hc h bits) m = absurd (omega arith)
 
 module _ {rx : Receiver} {input output : List ℕ} {start : ℕ} (a : Accepted rx input start output) where
-  numbered : readFrom rx input start .answer ≡ bare number.done → received rx input start output .number ≡ number.done
+  numbered : readFrom rx input start .answer ≡ bare number.noFrame → received rx input start output .number ≡ number.noFrame
   numbered e = ap (λ (r : Received). r .number) (accepted a .result) ∙ ap (λ (x : Answer). x .number) e
 
   -- A CALL THAT COMES THROUGH A FLAG, answered there or not, has a frame just opened and goes on from there.
@@ -62,17 +62,17 @@ module _ {rx : Receiver} {input output : List ℕ} {start : ℕ} (a : Accepted r
       reads a opened (raw ++ (flag ++ rest)) _ v e (frame-read (front-bits input start raw (flag ++ rest) e) rest h)
 
   -- THE BITS RUN OUT in a frame, with no six ones in a row or in six ones: 17.
-  pub frame-unended-received : view rx ≡ opened → absent sixOnes (drop start (wire input)) → received rx input start output .number ≡ number.done
+  pub frame-unended-received : view rx ≡ opened → absent sixOnes (drop start (wire input)) → received rx input start output .number ≡ number.noFrame
   frame-unended-received v h = numbered (ap (λ (s : State). reading s (drop start (wire input)) .answer) v ∙ frame-unended (bits-drop start (bits-wire input)) h)
 
   pub six-unended-received : (raw : List ℕ) → view rx ≡ opened → drop start (wire input) ≡ raw ++ sixOnes → absent sixOnes raw
-      → getD raw (length raw - 1) 0 ≡ 0 → received rx input start output .number ≡ number.done
+      → getD raw (length raw - 1) 0 ≡ 0 → received rx input start output .number ≡ number.noFrame
   six-unended-received raw v e h last =
       numbered (ap₂ (λ (s : State) (l : List ℕ). reading s l .answer) v e ∙ six-unended (front-bits input start raw sixOnes e) h last)
 
   -- TWO FLAGS THAT SHARE A ZERO enclose nothing: no answer, and the frame is open.
   pub shared-zero-received : (rest : List ℕ) → view rx ≡ opened → drop start (wire input) ≡ drop 1 flag ++ rest
-      → Gives rx input start output (after (bare number.done) opened 7 rest)
+      → Gives rx input start output (after (bare number.noFrame) opened 7 rest)
   shared-zero-received rest v e = reads a opened (drop 1 flag ++ rest) _ v e (shared-zero rest)
 
   -- AN ABORT. After a flag, any bits without six ones in a row, the last of them no one, and then seven ones: 24 where at least 32
@@ -96,7 +96,7 @@ module _ {rx : Receiver} {input output : List ℕ} {start : ℕ} (a : Accepted r
 
   -- THE FIRST FLAG opens a frame, without an answer.
   pub first-flag-received : (p rest : List ℕ) → rx .mode ≡ 0 → drop start (wire input) ≡ p ++ (flag ++ rest)
-      → absent flag (seen (rx .ones) ++ (p ++ take 7 flag)) → Gives rx input start output (after (bare number.done) opened (length p + 8) rest)
+      → absent flag (seen (rx .ones) ++ (p ++ take 7 flag)) → Gives rx input start output (after (bare number.noFrame) opened (length p + 8) rest)
   first-flag-received p rest m e h =
       let v : HuntedState (view rx) = hunted-state (view-held rx (a .range) (a .size)) m in
       reads a (hunter (rx .ones)) (p ++ (flag ++ rest)) _ (v .same) e
@@ -105,7 +105,7 @@ module _ {rx : Receiver} {input output : List ℕ} {start : ℕ} (a : Accepted r
   -- A FLAG BEGUN BEFORE THE CALL, by a zero and the ones since, opens a frame where it ends.
   pub begun-flag-received : (rest : List ℕ) → rx .mode ≡ 0 → rx .ones ≤ 6
       → drop start (wire input) ≡ replicate (6 - rx .ones) 1 ++ (0 ∷ rest)
-      → Gives rx input start output (after (bare number.done) opened (7 - rx .ones) rest)
+      → Gives rx input start output (after (bare number.noFrame) opened (7 - rx .ones) rest)
   begun-flag-received rest m h e =
       let v : HuntedState (view rx) = hunted-state (view-held rx (a .range) (a .size)) m in
       reads a (hunter (rx .ones)) (replicate (6 - rx .ones) 1 ++ (0 ∷ rest)) _ (v .same) e (begun-flag (rx .ones) rest h)

@@ -55,7 +55,7 @@ receives (suc n) rx input start output =
 -- those that are answers; 17 is none
 unfoldable pub spoken : List Answer → List Answer
 spoken [] = []
-spoken (a ∷ more) = cond (eqb (a .number) number.done) (spoken more) (a ∷ spoken more)
+spoken (a ∷ more) = cond (eqb (a .number) number.noFrame) (spoken more) (a ∷ spoken more)
 
 -- a body has 2 to 16 bytes, and comes with 0 alone
 pub record Sized (a : Answer) : Type 0 where
@@ -68,7 +68,7 @@ pub record StillHunts (rx : Receiver) (input : List ℕ) (start : ℕ) (output :
   pub ones : ℕ
   pub few : ones ≤ 7
   pub gives : Gives rx input start output
-      (record { answer = bare number.done; state = hunter ones; consumed = length (drop start (wire input)) })
+      (record { answer = bare number.noFrame; state = hunter ones; consumed = length (drop start (wire input)) })
 
 -- ---- all the answers along a cable
 

@@ -30,13 +30,13 @@ destuff raw = unstuff 0 raw
 
 -- at a seventh one: 24 with at least 32 content bits before the run of ones, else no answer
 abbrev pub atAbort : List ℕ → Answer
-atAbort content = cond (ltb (length content) 32) (bare number.done) (bare number.aborted)
+atAbort content = cond (ltb (length content) 32) (bare number.noFrame) (bare number.aborted)
 
 -- a reading that has come to answer a and state s with n bits consumed, while rest follows: it stops there,
 -- and where a is no answer (17) it goes on
 abbrev pub after : Answer → State → ℕ → List ℕ → Reading
 after a s n rest =
-    cond (eqb (a .number) number.done)
+    cond (eqb (a .number) number.noFrame)
     (record { answer = reading s rest .answer; state = reading s rest .state; consumed = n + reading s rest .consumed })
     (record { answer = a; state = s; consumed = n })
 

@@ -66,5 +66,5 @@ module _ (rx input : List ℕ) (start : ℕ) (o : List ℕ) where
       rw (eq-eqb (length rx) 24 h)
       (q ∙ ap packReceived d, (s ∙ ap (λ (x : Received). receiverBytes (x .rx)) d, g ∙ ap (λ (x : Receiver). outputAfter x input start o) f))
 
-  pub read-refused : {p : ℕ} → (length rx ≡ 24 → ⊥) → p ≡ number.stateRange → Leaves p rx o
+  pub read-refused : {p : ℕ} → (length rx ≡ 24 → ⊥) → p ≡ number.badState → Leaves p rx o
   read-refused h e = rw (ne-eqb (length rx) 24 h) (e, (refl, refl))

@@ -45,7 +45,7 @@ transmitOutput body output = Transmit.outputAfter body output
 -- ---- sca_receiver_new
 
 abbrev pub newResult : List ℕ → ℕ
-newResult rx = ofItsLength rx number.done number.stateRange
+newResult rx = ofItsLength rx number.noFrame number.badState
 
 abbrev pub newReceiver : List ℕ → List ℕ
 newReceiver rx = ofItsLength rx (receiverBytes (image hunting)) rx
@@ -53,7 +53,7 @@ newReceiver rx = ofItsLength rx (receiverBytes (image hunting)) rx
 -- ---- sca_receive
 
 abbrev pub receiveResult : List ℕ → List ℕ → ℕ → List ℕ → ℕ
-receiveResult rx input start output = ofItsLength rx (packReceived (received (receiverOf rx) input start output)) number.stateRange
+receiveResult rx input start output = ofItsLength rx (packReceived (received (receiverOf rx) input start output)) number.badState
 
 abbrev pub receiveReceiver : List ℕ → List ℕ → ℕ → List ℕ → List ℕ
 receiveReceiver rx input start output = ofItsLength rx (receiverBytes (received (receiverOf rx) input start output .rx)) rx

@@ -3,8 +3,8 @@ mod receiver;
 
 use link::Received;
 use link::Sent;
-use numbers::DONE;
-use numbers::STATE_RANGE;
+use numbers::BAD_STATE;
+use numbers::NO_FRAME;
 ghost use mathlib.Core.Path.{_≡_};
 ghost use Prim.Native.Nat.{_≤_, _<_};
 ghost use Rattle.sca.specs.Link as calls;
@@ -49,9 +49,9 @@ pub extern "C" fn sca_receiver_new(rx: &mut [u8]) -> u64
 {
     if rx.len() == receiver::BYTES {
         receiver::spell(link::Receiver::new(), rx);
-        return wide(DONE);
+        return wide(NO_FRAME);
     }
-    wide(STATE_RANGE)
+    wide(BAD_STATE)
 }
 
 // Reads cable bits from a start bit on, up to the first answer.
@@ -66,5 +66,5 @@ pub extern "C" fn sca_receive(rx: &mut [u8], input: &[u8], start: usize, output:
         receiver::spell(got.rx, rx);
         return pack_received(got);
     }
-    wide(STATE_RANGE)
+    wide(BAD_STATE)
 }

@@ -1,0 +1,95 @@
+-- The laws of the public calls, for what stands above them: what an event that is not refused leaves to be taken back, and what a step
+-- back makes of it. A journal that is well formed stays so. Assumes nothing.
+use Prim.Native.Nat.{ℕ, suc, _+_, _-_, min, _≤_, _<_}
+use mathlib.Core.Path.{_≡_, refl, sym, ap, _∙_}
+use mathlib.Core.Bool.{Bool, true, false, not, cond}
+use mathlib.Core.List.{List, _++_}
+use mathlib.Core.Logic.{_⊎_, inl, inr}
+use native.Mathlib.Omega.{arith}
+use lib.ListN.{length}
+use lib.Dec.{eqb, ltb, lit<}
+use borrow.Author.Tests.{eq-eqb, ne-eqb}
+use Rattle.chip.specs.declared.Adapter.{Adapter}
+use Rattle.chip.specs.Event.{Event}
+use Rattle.chip.specs.Chip.{reaction, acceptedReset}
+use Rattle.chip.specs.State.{poweredOn, powerOn, inRange}
+use Rattle.chip.proofs.Fits.{Fits}
+use Rattle.journal.specs.Layout.{version1, sizeOf, keptOf, wellFormed, past, emptied, pushed, lowered}
+use Rattle.journal.specs.Record.{before, restored, sound}
+use Rattle.journal.proofs.Record.{length-before, restored-before, sound-before}
+use Rattle.journal.proofs.Ring.{Well, well-of, of-well, emptied-well, emptied-kept, behind, pushed-well, pushed-kept, pushed-newest, pushed-older, lowered-well, lowered-kept, lowered-past}
+use Rattle.adapter.specs.declared.Verdict.{Verdict}
+use Rattle.adapter.specs.declared.Verdict.the-variants.{Refused, Passed}
+use Rattle.adapter.specs.Refusals.{wrongArgument, wrongBody, inOrder, verdict}
+use Rattle.adapter.specs.Calls.{outcome, plain, recorded, done, called, Stepped, stepped, steppedBack, cleared, madeEmpty, created}
+
+-- ---- creation
+
+-- the adapter that comes with 7 is one that every call refuses
+pub no-adapter : inRange (powerOn 0xFFFFFFFF) ≡ false
+unfolding inRange poweredOn
+no-adapter = refl
+
+-- ---- an event
+
+module _ (a : Adapter) (j : List ℕ) (e : Event) (o : List ℕ) where
+  pub called-refused : (n : ℕ) → verdict a j e o ≡ Refused n → called a j e o ≡ outcome (plain a n) j o
+  unfolding called
+  called-refused n h = rw h refl
+
+  pub called-done : verdict a j e o ≡ Passed → called a j e o ≡ done a j e o
+  unfolding called
+  called-done h = rw h refl
+
+  -- in range and well formed, only the event's own arguments and the output can be refused
+  pub own-refusals : inRange a ≡ true → Well version1 j → verdict a j e o ≡ inOrder false false (ltb (length o) 16) (wrongArgument e) (wrongBody e)
+  unfolding verdict
+  own-refusals h w = rw (h, well-of w) refl
+
+-- what an event leaves in the journal
+module _ (a : Adapter) (e : Event) (j : List ℕ) (w : Well version1 j) where
+  pub recorded-well : Well version1 (recorded a e j)
+  recorded-well = either (acceptedReset e)
+    where
+      either : (b : Bool) → Well version1 (cond b (emptied version1 j) (pushed version1 (before a e) j))
+      either true = emptied-well version1 j (w .size) (lit< tt)
+      either false = pushed-well version1 (before a e) j w (length-before a e)
+
+  pub recorded-kept : keptOf (recorded a e j) ≡ cond (acceptedReset e) 0 (min 64 (keptOf j + 1))
+  recorded-kept = either (acceptedReset e)
+    where
+      either : (b : Bool) → keptOf (cond b (emptied version1 j) (pushed version1 (before a e) j)) ≡ cond b 0 (min 64 (keptOf j + 1))
+      either true = emptied-kept version1 j
+      either false = pushed-kept version1 (before a e) j w (length-before a e)
+
+  module _ (kept : acceptedReset e ≡ false) where
+    -- the newest record is the event's
+    newest : past version1 (recorded a e j) 0 ≡ before a e ++ behind version1 (before a e) j w (length-before a e)
+    newest = simp kept (pushed-newest version1 (before a e) j w (length-before a e))
+
+    pub newest-restores : (b : Adapter) → b .id ≡ a .id → Fits a → restored b (past version1 (recorded a e j) 0) ≡ a
+    newest-restores b i f = rw newest (restored-before b a e (behind version1 (before a e) j w (length-before a e)) i f)
+
+    pub newest-sound : (b : Adapter) → b .id ≡ a .id → Fits a → inRange a ≡ true → sound b (past version1 (recorded a e j) 0) ≡ true
+    newest-sound b i f h = rw newest (sound-before b a e (behind version1 (before a e) j w (length-before a e)) i f h)
+
+    -- the others are each one older
+    pub older-stay : (i : ℕ) → suc i < min 64 (keptOf j + 1) → past version1 (recorded a e j) (suc i) ≡ past version1 j i
+    older-stay i h = simp kept (pushed-older version1 (before a e) j w (length-before a e) i h)
+
+-- ---- a step back
+
+module _ (a : Adapter) (j : List ℕ) (ranged : inRange a ≡ true) (w : Well version1 j) where
+  pub back-refused : keptOf j ≡ 0 → steppedBack a j ≡ stepped (plain a 5) j
+  unfolding steppedBack
+  back-refused h = simp (ranged, well-of w, eq-eqb (keptOf j) 0 h)
+
+  pub back-done : (keptOf j ≡ 0 → ⊥) → sound a (past version1 j 0) ≡ true → steppedBack a j ≡ stepped (plain (restored a (past version1 j 0)) 17) (lowered j)
+  unfolding steppedBack
+  back-done h s = simp (ranged, well-of w, ne-eqb (keptOf j) 0 h, s)
+
+-- ---- a journal made empty
+
+pub empty-done : (j : List ℕ) → length j ≡ sizeOf version1 → madeEmpty j ≡ cleared 17 (emptied version1 j)
+unfolding madeEmpty
+empty-done j h = simp (eq-eqb (length j) 17408 h)

@@ -1,0 +1,4 @@
+-- The public calls: document 01's numbers, what refuses a call, and what each call gives and leaves.
+pub mod Numbers
+pub mod Refusals
+pub mod Calls

@@ -1,0 +1,41 @@
+-- What refuses a call, in document 01's order: 6, 4, 1, 3, 2 for an event.
+use Prim.Native.Nat.{ℕ}
+use mathlib.Core.Bool.{Bool, false, not, cond, _||_}
+use mathlib.Core.List.{List}
+use lib.ListN.{length}
+use lib.Dec.{eqb, ltb}
+use Rattle.chip.specs.declared.Adapter.{Adapter}
+use Rattle.chip.specs.Event.{Event, frame, completion, sample, upset}
+use Rattle.chip.specs.State.{inRange}
+use Rattle.journal.specs.Layout.{version1, wellFormed}
+use Rattle.adapter.specs.declared.Verdict.{Verdict}
+use Rattle.adapter.specs.declared.Verdict.the-variants.{Refused, Passed}
+use Rattle.adapter.specs.Numbers.{shortOutput, badBody, badArgument, badJournal, badState}
+
+-- port not 0 or 1, edge kind over 2, or completion not 16 bytes
+abbrev pub wrongArgument : Event → Bool
+wrongArgument (frame port body) = ltb 1 port
+wrongArgument (completion received) = not (eqb (length received) 16)
+wrongArgument (sample levels kind) = ltb 2 kind
+wrongArgument upset = false
+
+-- body not 2 to 16 bytes
+abbrev pub wrongBody : Event → Bool
+wrongBody (frame port body) = ltb (length body) 2 || ltb 16 (length body)
+wrongBody (completion received) = false
+wrongBody (sample levels kind) = false
+wrongBody upset = false
+
+-- the first that applies
+unfoldable pub inOrder : Bool → Bool → Bool → Bool → Bool → Verdict
+inOrder state journal output argument body =
+    cond state (Refused badState)
+    (cond journal (Refused badJournal)
+    (cond output (Refused shortOutput)
+    (cond argument (Refused badArgument)
+    (cond body (Refused badBody) Passed))))
+
+-- of an event that is handed a state, a journal and an output
+unfoldable pub verdict : Adapter → List ℕ → Event → List ℕ → Verdict
+verdict a journal e output =
+    inOrder (not (inRange a)) (not (wellFormed version1 journal)) (ltb (length output) 16) (wrongArgument e) (wrongBody e)

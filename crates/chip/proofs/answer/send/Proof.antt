@@ -1,0 +1,11 @@
+use borrow.Author.Needs.{needs}
+use Rattle.chip.proofs.answer.send.Statement.{statement}
+use Rattle.chip.proofs.answer.send.Tie as tie
+
+pub send-spec : {M : Type 1} → statement M
+send-spec =
+    tie.close
+    (tie.spec
+    (λ c κs. search needs)
+    (λ c. search needs)
+    (λ c. simp (c .padded-body .ensures)))

@@ -1,0 +1,17 @@
+use borrow.Author.Needs.{needs}
+use Rattle.chip.proofs.Happens.{disabled, interrupted, sampled}
+use Rattle.chip.proofs.events.on_sample.Statement.{statement}
+use Rattle.chip.proofs.events.on_sample.Tie as tie
+
+pub on-sample-spec : {M : Type 1} → statement M
+on-sample-spec =
+    tie.close
+    (tie.spec
+    (λ c κs. search needs)
+    (λ c κs. search needs)
+    (λ c κs. search needs)
+    (λ c κs. search needs)
+    (λ c κs. search needs)
+    (λ c. search interrupted)
+    (λ c. search sampled)
+    (λ c. search disabled))

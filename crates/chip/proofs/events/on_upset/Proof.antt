@@ -1,0 +1,12 @@
+use borrow.Author.Needs.{needs}
+use Rattle.chip.proofs.Happens.{upsets}
+use Rattle.chip.proofs.events.on_upset.Statement.{statement}
+use Rattle.chip.proofs.events.on_upset.Tie as tie
+
+pub on-upset-spec : {M : Type 1} → statement M
+on-upset-spec =
+    tie.close
+    (tie.spec
+    (λ c κs. search needs)
+    (λ c κs. search needs)
+    (λ c. search upsets))

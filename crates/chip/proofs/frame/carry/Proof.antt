@@ -1,0 +1,23 @@
+use borrow.Author.Needs.{needs}
+use Rattle.chip.proofs.Cases.{echoed, inactive, misfit, fitting}
+use Rattle.chip.proofs.frame.carry.Statement.{statement}
+use Rattle.chip.proofs.frame.carry.Tie as tie
+
+pub carry-spec : {M : Type 1} → statement M
+carry-spec =
+    tie.close
+    (tie.spec
+    (λ c κs. search needs)
+    (λ c κs. search needs)
+    (λ c. search echoed)
+    (λ c κs. search needs)
+    (λ c. search inactive)
+    (λ c. search needs)
+    (λ c κs. search needs)
+    (λ c. search misfit)
+    (λ c. search needs)
+    (λ c. search needs)
+    (λ c. search needs)
+    (λ c. search needs)
+    (λ c κs. search needs)
+    (λ c. search fitting))

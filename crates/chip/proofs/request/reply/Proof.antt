@@ -1,0 +1,18 @@
+use borrow.Author.Needs.{needs}
+use Rattle.chip.proofs.Cases.{replied}
+use Rattle.chip.proofs.request.reply.Statement.{statement}
+use Rattle.chip.proofs.request.reply.Tie as tie
+
+pub reply-spec : {M : Type 1} → statement M
+reply-spec =
+    tie.close
+    (tie.spec
+    (λ c κs. search needs)
+    (λ c κs. search needs)
+    (λ c κs. search needs)
+    (λ c κs. search needs)
+    (λ c κs. search needs)
+    (λ c κs. search needs)
+    (λ c. search needs)
+    (λ c κs. search needs)
+    (λ c. search replied))

@@ -1,0 +1,13 @@
+use borrow.Author.Needs.{needs}
+use Rattle.chip.proofs.Answers.{done}
+use Rattle.chip.proofs.request.request.Statement.{statement}
+use Rattle.chip.proofs.request.request.Tie as tie
+
+pub request-spec : {M : Type 1} → statement M
+request-spec =
+    tie.close
+    (tie.spec
+    (λ c κs. search needs)
+    (λ c κs. search needs)
+    (λ c κs. search needs)
+    (λ c. search done))

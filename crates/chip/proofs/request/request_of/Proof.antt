@@ -1,0 +1,18 @@
+use borrow.Author.Needs.{needs}
+use Rattle.chip.proofs.request.request_of.Statement.{statement}
+use Rattle.chip.proofs.request.request_of.Tie as tie
+
+pub request-of-spec : {M : Type 1} → statement M
+request-of-spec =
+    tie.close
+    (tie.spec
+    (λ c. search needs)
+    (λ c. search needs)
+    (λ c. search needs)
+    (λ c. search needs)
+    (λ c κs. search needs)
+    (λ c. search needs)
+    (λ c. search needs)
+    (λ c. search needs)
+    (λ c. search needs)
+    (λ c. cc))

@@ -1,0 +1,16 @@
+use borrow.Author.Needs.{needs}
+use Rattle.chip.specs.State.{inRange}
+use Rattle.chip.proofs.state.in_range.Statement.{statement}
+use Rattle.chip.proofs.state.in_range.Tie as tie
+
+pub in-range-spec : {M : Type 1} → statement M
+unfolding inRange
+in-range-spec =
+    tie.close
+    (tie.spec
+    (λ c κs. search needs)
+    (λ c κs. search needs)
+    (λ c κs. search needs)
+    (λ c κs. search needs)
+    (λ c κs. search needs)
+    (λ c. simp (c .in-range .ensures, c .before .is-zero2 .ensures, c .before .before .gpio-enabled .ensures, c .before .before .before .is-zero .ensures, c .before .before .before .before .spi-enabled .ensures)))

@@ -1,0 +1,66 @@
+-- A frame body on a port: document 01's checks 1 to 8, in order.
+use Prim.Native.Nat.{ℕ}
+use mathlib.Core.Bool.{Bool, not, _&&_, _||_, cond}
+use mathlib.Core.List.{List, [], _∷_}
+use lib.Dec.{eqb}
+use lib.ListN.{length, getD, drop}
+use Rattle.chip.specs.Numbers.{otherAddress, otherPort, otherControl, wrongLength}
+use Rattle.bits.specs.Bits.{bitOf}
+use Rattle.chip.specs.Answer.{sends, gives}
+use Rattle.chip.specs.Link.{receiveNumber, receiveUp, numberIn, rejectControl, acknowledgeControl, connected, reset, looped, inLoopback}
+use Rattle.chip.specs.Request.{requested}
+use Rattle.chip.specs.declared.Adapter.{Adapter}
+use Rattle.chip.specs.declared.Reaction.{Reaction}
+
+-- The body is address, control and information.
+abbrev pub addressOf : List ℕ → ℕ
+addressOf body = getD body 0 0
+
+abbrev pub controlOf : List ℕ → ℕ
+controlOf body = getD body 1 0
+
+abbrev pub informationOf : List ℕ → List ℕ
+informationOf body = drop 2 body
+
+abbrev pub isConnect : ℕ → Bool
+isConnect control = eqb control 0x2F || eqb control 0x3F
+
+abbrev pub isReset : ℕ → Bool
+isReset control = eqb control 0x8F || eqb control 0x9F
+
+abbrev pub isTest : ℕ → Bool
+isTest control = eqb control 0xE3 || eqb control 0xF3
+
+-- A RESET that every state accepts: the chip's address, RESET's control, no information.
+unfoldable pub isResetFrame : List ℕ → Bool
+isResetFrame body = eqb (addressOf body) 0x00 && isReset (controlOf body) && eqb (length (informationOf body)) 0
+
+-- A command's information is empty, or 14; its acknowledgement leaves on the same port.
+unfoldable pub commanded : Adapter → Adapter → ℕ → List ℕ → Reaction
+commanded a b port body =
+    cond (eqb (length (informationOf body)) 0) (sends b port (0x00 ∷ acknowledgeControl (controlOf body) ∷ []))
+    (gives a wrongLength)
+
+-- Checks 7 and 8, of information that has 8 bytes.
+unfoldable pub numbered : Adapter → ℕ → ℕ → List ℕ → Reaction
+numbered a port control info =
+    cond (not (eqb (numberIn control) (receiveNumber a))) (sends a port (0x00 ∷ rejectControl a ∷ []))
+    (requested (receiveUp a) info)
+
+-- Checks 4 to 8.
+unfoldable pub carried : Adapter → ℕ → List ℕ → Reaction
+carried a port body =
+    cond (inLoopback a port) (sends a port body)
+    (cond (not (eqb port (a .link .port))) (gives a otherPort)
+    (cond (not (eqb (length (informationOf body)) 8)) (gives a wrongLength)
+    (numbered a port (controlOf body) (informationOf body))))
+
+-- Checks 1 to 8.
+unfoldable pub onFrame : Adapter → ℕ → List ℕ → Reaction
+onFrame a port body =
+    cond (not (eqb (addressOf body) 0x00)) (gives a otherAddress)
+    (cond (isConnect (controlOf body)) (commanded a (connected a port) port body)
+    (cond (isReset (controlOf body)) (commanded a (reset a port) port body)
+    (cond (isTest (controlOf body)) (commanded a (looped a port) port body)
+    (cond (bitOf (controlOf body) 0) (gives a otherControl)
+    (carried a port body)))))

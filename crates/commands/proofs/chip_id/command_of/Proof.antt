@@ -1,0 +1,14 @@
+use mathlib.Core.Path.{ap, sym}
+use Rattle.bits.proofs.Rows.{none-of}
+use Rattle.commands.specs.ChipId.{idCommand, idCommands}
+use Rattle.commands.specs.declared.chip_id.Command.the-variants.{Unknown}
+use Rattle.commands.proofs.chip_id.command_of.Statement.{statement}
+use Rattle.commands.proofs.chip_id.command_of.Tie as tie
+
+pub command-of-spec : {M : Type 1} → statement M
+unfolding idCommand
+command-of-spec =
+    tie.close
+    (tie.spec
+    (λ c. ap idCommand (sym (c .match .keys1)))
+    (λ c. none-of idCommands Unknown _ (c .match .rest)))

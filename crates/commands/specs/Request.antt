@@ -1,0 +1,36 @@
+-- What requests to all channels have in common.
+use Prim.Native.Nat.{ℕ}
+use Rattle.commands.specs.declared.request.Lengths.{Lengths}
+use Rattle.commands.specs.declared.request.Reply.{Reply}
+use Rattle.commands.specs.declared.request.Reply.the-variants.{Sent, Later}
+
+-- Table 4.2. One error bit is set, the first that applies, in this order.
+abbrev pub trnWrong : ℕ
+trnWrong = 0x08
+
+abbrev pub chUnknown : ℕ
+chUnknown = 0x02
+
+abbrev pub notEnabled : ℕ
+notEnabled = 0x20
+
+abbrev pub busy : ℕ
+busy = 0x40
+
+abbrev pub cmdUnknown : ℕ
+cmdUnknown = 0x04
+
+abbrev pub lenWrong : ℕ
+lenWrong = 0x10
+
+-- an error reply has LEN 2 and zero data
+abbrev pub refusal : ℕ → Reply
+refusal error = Sent error 2 0
+
+-- a reply without an error
+abbrev pub granted : ℕ → ℕ → Reply
+granted length value = Sent 0 length value
+
+-- LEN of a command, request/reply
+abbrev pub lengths : ℕ → ℕ → Lengths
+lengths asked given = record { asked = asked; given = given }

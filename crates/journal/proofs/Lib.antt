@@ -1,0 +1,4 @@
+pub mod OneOutcome
+pub mod Record
+pub mod Ring
+pub mod Spelling

@@ -1,0 +1,11 @@
+-- `journal::first_after` meets its contract. Assumes nothing.
+use mathlib.Core.Path.{_≡_}
+use borrow.Author.Tests.{eq-eqb, ne-eqb}
+use borrow.Author.Needs.{needs}
+use Rattle.journal.proofs.first_after.Statement.{statement}
+use Rattle.journal.proofs.first_after.Tie as tie
+
+pub first-after-spec : {M : Type 1} → statement M
+first-after-spec =
+    tie.close
+    (tie.spec (λ c. search needs) (λ c. simp (eq-eqb _ _ (c .if1 .taken))) (λ c. simp (ne-eqb _ _ (c .if1 .left))))

@@ -1,0 +1,129 @@
+// The journal: a ring of records in lent bytes, each the state as it was before an event.
+pub mod image;
+
+use chip::Adapter;
+ghost use mathlib.Core.Path.{_≡_};
+ghost use mathlib.Core.Bool.{true};
+ghost use Prim.Native.Nat.{_+_, _*_, _%_, _<_, _≤_, min};
+ghost use lib.ListN.{length};
+ghost use Rattle.chip.specs.Event.{Event};
+ghost use Rattle.parts.specs.Words.{wordsOf};
+ghost use Rattle.journal.specs.Layout.{version1, sizeOf, firstOf, keptOf, wellFormed, past, emptied, firstAfter, pushed, lowered};
+ghost use Rattle.journal.specs.Record.{before, restoredBy};
+
+pub struct Restored {
+    pub sound: bool,
+    pub adapter: Adapter,
+}
+
+pub const SIZE: usize = 17408;
+
+const SLOTS: u8 = 64;
+
+// Length and header are those of a journal.
+pub fn is_well_formed(j: &[u8]) -> bool
+    ensures { λ r. ⌜ r ≡ wellFormed version1 (now (j .entry)) ⌝ }
+{
+    if j.len() != SIZE {
+        return false;
+    }
+    let m0 = j[0] == 0x53;
+    let m1 = j[1] == 0x43;
+    let m2 = j[2] == 0x4A;
+    let v0 = j[3] == 1;
+    let v1 = j[4] == 0;
+    let first = j[5] < SLOTS;
+    let kept = j[6] <= SLOTS;
+    m0 & m1 & m2 & v0 & v1 & first & kept
+}
+
+// Makes a journal empty, whatever it held.
+pub fn empty(j: &mut [u8])
+    requires { ⌜ length (now j) ≡ sizeOf version1 ⌝ }
+    ensures { λ _. ⌜ now (j .exit) ≡ emptied version1 (now (j .entry)) ⌝ }
+{
+    let header = [0x53, 0x43, 0x4A, 1, 0, 0, 0];
+    parts::store(j, 0, &header);
+}
+
+// Where the slot stands that is k slots after the first.
+fn place(first: u8, k: u8) -> usize
+    ensures { λ r. ⌜ r ≡ 1024 + 256 * ((first + k) % 64) ⌝ }
+{
+    1024 + 256 * (((first as usize) + (k as usize)) % 64)
+}
+
+fn first_after(first: u8, kept: u8) -> u8
+    requires { ⌜ first < 64 ⌝ }
+    ensures { λ r. ⌜ r ≡ Rattle.journal.specs.Layout.advanced version1 first kept ⌝ }
+{
+    if kept == SLOTS {
+        (first + 1) % SLOTS
+    } else {
+        first
+    }
+}
+
+fn kept_after(kept: u8) -> u8
+    requires { ⌜ kept ≤ 64 ⌝ }
+    ensures { λ r. ⌜ r ≡ min 64 (kept + 1) ⌝ }
+{
+    if kept == SLOTS { SLOTS } else { kept + 1 }
+}
+
+// Keeps an event, whatever it is, that happens to the state a.
+pub fn push(j: &mut [u8], a: Adapter)
+    requires { ⌜ wellFormed version1 (now j) ≡ true ⌝ }
+    ensures { λ _. ⌜ ((e : Event) → now (j .exit) ≡ pushed version1 (before a e) (now (j .entry))) ⌝ }
+{
+    let first = j[5];
+    let kept = j[6];
+    let at = place(first, kept);
+    let f = first_after(first, kept);
+    let k = kept_after(kept);
+    let words = image::words_of(a);
+    parts::store_words(j, at, &words);
+    j[5] = f;
+    j[6] = k;
+}
+
+// The words of the newest record.
+fn newest(j: &[u8]) -> [u32; 18]
+    requires { ⌜ wellFormed version1 (now j) ≡ true ⌝ }
+    requires { ⌜ 0 < keptOf (now j) ⌝ }
+    ensures { λ r. ⌜ r ≡ wordsOf 18 (past version1 (now (j .entry)) 0) ⌝ }
+{
+    let first = j[5];
+    let kept = j[6];
+    let at = place(first, kept - 1);
+    let end = at + 256;
+    let mut words = [0u32; 18];
+    parts::load_words(&j[at..end], &mut words);
+    words
+}
+
+// Gives the newest record up.
+pub fn lower(j: &mut [u8])
+    requires { ⌜ wellFormed version1 (now j) ≡ true ⌝ }
+    requires { ⌜ 0 < keptOf (now j) ⌝ }
+    ensures { λ _. ⌜ now (j .exit) ≡ lowered (now (j .entry)) ⌝ }
+{
+    let kept = j[6];
+    j[6] = kept - 1;
+}
+
+// What a step back makes of the state a: whether the newest record is sound, and the state that it restores.
+pub fn restore(a: Adapter, j: &[u8]) -> Restored
+    requires { ⌜ wellFormed version1 (now j) ≡ true ⌝ }
+    requires { ⌜ 0 < keptOf (now j) ⌝ }
+    ensures { λ r. ⌜ r ≡ restoredBy a (past version1 (now (j .entry)) 0) ⌝ }
+{
+    let words = newest(j);
+    let b = image::state_of(words, a.id);
+    let spelled = image::is_spelled(words);
+    let ranged = chip::state::in_range(b);
+    Restored {
+        sound: spelled & ranged,
+        adapter: b,
+    }
+}

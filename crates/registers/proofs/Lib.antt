@@ -1,0 +1,13 @@
+pub mod Cases
+pub mod ChipIdAnswers
+pub mod ControllerAnswers
+pub mod DacAnswers
+pub mod Fits
+pub mod GpioAnswers
+pub mod Laws
+pub mod OneOutcome
+pub mod Pins
+pub mod Ranges
+pub mod SeuAnswers
+pub mod SpiAnswers
+pub mod Transfer

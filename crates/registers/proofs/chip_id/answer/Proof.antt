@@ -1,0 +1,14 @@
+use borrow.Author.Needs.{needs}
+use Rattle.registers.proofs.ChipIdAnswers.{acted, off}
+use Rattle.registers.proofs.chip_id.answer.Statement.{statement}
+use Rattle.registers.proofs.chip_id.answer.Tie as tie
+
+pub answer-spec : {M : Type 1} → statement M
+answer-spec =
+    tie.close
+    (tie.spec
+    (λ c κs. search needs)
+    (λ c κs. search needs)
+    (λ c κs. search needs)
+    (λ c. search acted)
+    (λ c. search off))

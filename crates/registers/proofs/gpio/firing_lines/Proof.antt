@@ -1,0 +1,9 @@
+use Rattle.registers.proofs.Pins.{firing-mask}
+use Rattle.registers.proofs.gpio.firing_lines.Statement.{statement}
+use Rattle.registers.proofs.gpio.firing_lines.Tie as tie
+
+pub firing-lines-spec : {M : Type 1} → statement M
+firing-lines-spec =
+    tie.close
+    (tie.spec
+    (λ c. search firing-mask))

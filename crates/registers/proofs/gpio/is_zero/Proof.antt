@@ -1,0 +1,11 @@
+use borrow.Author.Needs.{needs}
+use Rattle.registers.proofs.Ranges.{gpio-none}
+use Rattle.registers.proofs.gpio.is_zero.Statement.{statement}
+use Rattle.registers.proofs.gpio.is_zero.Tie as tie
+
+pub is-zero-spec : {M : Type 1} → statement M
+is-zero-spec =
+    tie.close
+    (tie.spec
+    (λ c κs. search needs)
+    (λ c. search gpio-none))

@@ -1,0 +1,25 @@
+use borrow.Author.Needs.{needs}
+use Rattle.registers.proofs.Ranges.{wrote-intenable}
+use Rattle.registers.proofs.gpio.write.Statement.{statement}
+use Rattle.registers.proofs.gpio.write.Tie as tie
+
+pub write-spec : {M : Type 1} → statement M
+write-spec =
+    tie.close
+    (tie.spec
+    (λ c. search needs)
+    (λ c. search needs)
+    (λ c. search needs)
+    (λ c. search needs)
+    (λ c. search needs)
+    (λ c. search needs)
+    (λ c. search needs)
+    (λ c. search needs)
+    (λ c. cc)
+    (λ c. cc)
+    (λ c. cc)
+    (λ c. cc)
+    (λ c. cc)
+    (λ c. cc)
+    (λ c. cc)
+    (λ c. search wrote-intenable))

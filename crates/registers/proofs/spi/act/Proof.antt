@@ -1,0 +1,25 @@
+use borrow.Author.Needs.{needs}
+use Rattle.registers.proofs.SpiAnswers.{wrote, got, started, wrong-length, unknown}
+use Rattle.registers.proofs.spi.act.Statement.{statement}
+use Rattle.registers.proofs.spi.act.Tie as tie
+
+pub act-spec : {M : Type 1} → statement M
+act-spec =
+    tie.close
+    (tie.spec
+    (λ c. search needs)
+    (λ c. search needs)
+    (λ c κs. search needs)
+    (λ c κs. search needs)
+    (λ c. search needs)
+    (λ c κs. search needs)
+    (λ c κs. search needs)
+    (λ c. search needs)
+    (λ c κs. search needs)
+    (λ c. search needs)
+    (λ c κs. search needs)
+    (λ c. search wrote)
+    (λ c. search got)
+    (λ c. search started)
+    (λ c. search wrong-length)
+    (λ c. search unknown))
