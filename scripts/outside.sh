@@ -1,0 +1,44 @@
+# shellcheck shell=sh disable=SC2154
+# Tests of the archive that C and Rust programs link. Sourced.
+
+test_outside() {
+    step "a toolchain for x86-64" toolchain_ready || return
+    step "rt staticlib sca" rt staticlib sca || return
+    step "build the reference" build_reference && test_reference
+    test_c link
+    step "build the Rust tests" build_rust_tests || return
+    tally "vectors" run "$built/vectors"
+    tally "comparison" run "$built/compare" --seed "${SEED:-1}"
+    tally "faults in the comparison" run "$built/compare" --seed "${SEED:-1}" --break
+}
+
+archive=target/staticlib/libsca.a
+
+# test_c NAME: a C program over include/sca.h and the archive.
+test_c() {
+    step "build tests/c/$1.c" c_build "$built/c_$1" "tests/c/$1.c" "$archive" && tally "C, $1" run "$built/c_$1"
+}
+
+build_reference() { rust_build --crate-type rlib --crate-name reference tests/reference/src/lib.rs; }
+
+# The reference's own tests, as Rust's test harness counts them.
+test_reference() {
+    for file in tests/reference/tests/*.rs; do
+        harness=$(basename "$file" .rs)
+        step "build $file" rust_build --test --crate-name "reference_$harness" --extern reference "$file" || continue
+        run "$built/reference_$harness" >"$logs/harness" 2>&1
+        status=$?
+        counts=$(sed -n 's/^test result: .* \([0-9]*\) passed; \([0-9]*\) failed.*/\1 \2/p' "$logs/harness")
+        [ "$status" -eq 0 ] || tail -n 40 "$logs/harness"
+        # shellcheck disable=SC2086
+        add "reference, $harness" "$status" ${counts:-0 0}
+    done
+}
+
+build_boundary() { rust_build --crate-type rlib --crate-name boundary -L native=target/staticlib tests/boundary.rs; }
+
+build_rust_tests() {
+    build_boundary &&
+        rust_build --crate-name vectors --extern boundary tests/vectors.rs &&
+        rust_build --crate-name compare --extern boundary --extern reference tests/compare/main.rs
+}

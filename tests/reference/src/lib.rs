@@ -1,0 +1,12 @@
+//! An independent implementation of the slow control adapter, written from
+//! document 01: its link, its events with step back, and its bench listing.
+
+#![forbid(unsafe_code)]
+
+pub mod adapter;
+pub mod link;
+pub mod listing;
+pub mod numbers;
+mod request;
+mod state;
+pub mod swift;

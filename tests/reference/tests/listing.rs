@@ -1,0 +1,197 @@
+//! Tests of the bench listing, by document 01's eight lines and its edges.
+//! An independent implementation, written from document 01.
+
+use reference::listing::played;
+
+const INPUT: &str = "\
+F 0 00000100040200040000
+F 0 00020202041034127856
+F 0 00040302011100000000
+F 0 00060401024100000000
+F 0 00060401024100000000
+B
+B
+F 0 00060502011100000000
+";
+
+const OUTPUT: &str = "\
+0 1 0 00200100000200000000
+0 2 0 00420202000200000000
+0 3 0 00640302000434127856
+0 4 0 00860401200200000000
+0 5 0 008d
+17 4
+17 3
+0 4 0 00860502000434127856
+";
+
+fn shown(input: &str) -> String {
+    String::from_utf8(played(input.as_bytes())).unwrap()
+}
+
+#[test]
+fn the_eight_lines() {
+    assert_eq!(shown(INPUT), OUTPUT);
+    assert_eq!(shown(INPUT.trim_end()), OUTPUT);
+}
+
+#[test]
+fn empty_input_and_empty_lines() {
+    assert_eq!(shown(""), "");
+    assert_eq!(shown("\n"), "10 0\n");
+    assert_eq!(shown("U\n\n"), "17 1\n10 1\n");
+    assert_eq!(shown("U\n\nU"), "17 1\n10 1\n17 2\n");
+}
+
+#[test]
+fn unreadable_lines() {
+    for line in [
+        "f 0 002f",
+        "F",
+        "F ",
+        "F 0",
+        "F 0 ",
+        "F 0 0",
+        "F 0 002",
+        "F 0 00 2f",
+        "F  0 002f",
+        " F 0 002f",
+        "F 0 002f ",
+        "F 00 002f",
+        "F a 002f",
+        "F 0 00zz",
+        "F 0 002f\r",
+        "F\t0 002f",
+        "F -1 002f",
+        "U ",
+        "u",
+        "U 1",
+        "b",
+        "B ",
+        "S",
+        "S 00",
+        "P 00000000",
+        "P 00000000 ",
+        "P 0000000 0",
+        "P 000000000 0",
+        "P 0000000000 0",
+        "P 00000000 00",
+        "P 00000000 a",
+        "p 00000000 0",
+        "X",
+        "\r",
+        "F 0 +100",
+    ] {
+        assert_eq!(shown(line), "10 0\n", "{:?}", line);
+    }
+    assert_eq!(shown(&format!("S {}", "0".repeat(30))), "10 0\n");
+    assert_eq!(shown(&format!("S {}", "0".repeat(34))), "10 0\n");
+    assert_eq!(played(b"\xFF\nU\n"), b"10 0\n17 1\n");
+    assert_eq!(played(b"U\0\n"), b"10 0\n");
+}
+
+#[test]
+fn readable_lines_that_the_call_refuses() {
+    assert_eq!(shown("F 2 002f"), "3 0\n");
+    assert_eq!(shown("F 9 00"), "3 0\n");
+    assert_eq!(shown("F 0 00"), "2 0\n");
+    assert_eq!(shown(&format!("F 0 {}", "00".repeat(17))), "2 0\n");
+    assert_eq!(shown(&format!("F 0 {}", "00".repeat(38))), "2 0\n");
+    assert_eq!(shown(&format!("F 0 {}", "00".repeat(39))), "10 0\n");
+    assert_eq!(shown("P 00000000 3"), "3 0\n");
+    assert_eq!(shown("B"), "5 0\n");
+}
+
+#[test]
+fn each_kind_of_line() {
+    assert_eq!(shown("F 1 002F\nF 0 003f\n"), "0 1 1 0063\n0 2 0 0073\n");
+    assert_eq!(shown("U\nP 00000000 0\n"), "17 1\n16 2\n");
+    assert_eq!(shown("S 000102030405060708090a0B0c0D0e0F\n"), "15 1\n");
+    assert_eq!(
+        shown("U\nU\nF 0 008f\nB\n"),
+        "17 1\n17 2\n0 0 0 0063\n5 0\n"
+    );
+}
+
+#[test]
+fn the_chip_id_is_ten() {
+    let input = "F 0 00000100040600100000\nF 0 0002021404d100000000\n";
+    let output = "0 1 0 00200100000200000000\n0 2 0 00420214000400000a00\n";
+    assert_eq!(shown(input), output);
+}
+
+#[test]
+fn completion_and_sample_orders() {
+    let input = "\
+F 0 00000100040200060000
+F 0 00020201027200000000
+S 0123456789abcdef0011223344556677
+F 0 00040301021100000000
+F 0 00060402046000000100
+F 0 000805020430ffffffff
+P 80000001 0
+";
+    let output = "\
+0 1 0 00200100000200000000
+17 2
+0 3 0 00420201000645670123
+0 4 0 006403010006cdef89ab
+0 5 0 00860402000200000000
+0 6 0 00a80502000200000000
+0 7 0 00aaff02000400800100
+";
+    assert_eq!(shown(input), output);
+}
+
+#[test]
+fn kept_stops_at_sixty_four() {
+    let text = shown(&"U\n".repeat(66));
+    let last: Vec<&str> = text.lines().skip(62).collect();
+    assert_eq!(last, ["17 63", "17 64", "17 64", "17 64"]);
+}
+
+/// A small generator of repeatable numbers (xorshift).
+struct Chance(u64);
+
+impl Chance {
+    fn below(&mut self, bound: usize) -> usize {
+        self.0 ^= self.0 << 13;
+        self.0 ^= self.0 >> 7;
+        self.0 ^= self.0 << 17;
+        ((self.0 >> 16) % bound as u64) as usize
+    }
+}
+
+/// Whether a printed line has the form of one, with a kept number up to 64.
+fn well_formed(line: &str) -> bool {
+    let fields: Vec<&str> = line.split(' ').collect();
+    let kept: u8 = fields[1].parse().unwrap();
+    let known = matches!(fields[0].parse().unwrap(), 0 | 2 | 3 | 5 | 10..=17);
+    known && kept <= 64 && fields.len() == if fields[0] == "0" { 4 } else { 2 }
+}
+
+#[test]
+fn any_input_gives_one_line_for_each_of_its_lines() {
+    let mut chance = Chance(31);
+    let seeds = [
+        INPUT,
+        "P 80000001 0\nU\nB\nS 0123456789abcdef0011223344556677\n",
+    ];
+    for _ in 0..5_000 {
+        let mut text = seeds.concat().repeat(1 + chance.below(3)).into_bytes();
+        for _ in 0..chance.below(30) {
+            let place = chance.below(text.len());
+            match chance.below(4) {
+                0 => text[place] = chance.below(256) as u8,
+                1 => text.insert(place, b"0 F\nBU"[chance.below(6)]),
+                2 => drop(text.remove(place)),
+                _ => text[place] = b"0123456789abcdefABCDEF"[chance.below(22)],
+            }
+        }
+        let ends = text.iter().filter(|byte| **byte == b'\n').count();
+        let open = usize::from(text.last().map_or(false, |byte| *byte != b'\n'));
+        let shown = String::from_utf8(played(&text)).unwrap();
+        assert_eq!(shown.lines().count(), ends + open);
+        assert!(shown.lines().all(well_formed));
+    }
+}
