@@ -1,23 +1,23 @@
 -- A bit taken into the content: the control's step and the store in the bytes are the machine's step.
-use mathlib.Core.Path.{_≡_, refl, sym, ap, _∙_}
+use mathlib.Core.Path.{_≡_, refl, sym, ap, ap₂, _∙_}
 use mathlib.Core.Logic.{_⊎_, ⊎-elim, inl, inr}
 use mathlib.Core.List.{List, [], _∷_, _++_}
 use mathlib.Core.Bool.{Bool, true, false, cond, _&&_}
 use Prim.Native.Nat.{ℕ, zero, suc, _+_, _*_, _-_, _/_, _%_, _^_, _≤_, _<_, min}
-use native.Mathlib.Nat.{mul-assoc, mul-suc, mul-one, zero-mul, add-zero, mul-le-mul-right, one-mul, not-suc-le-zero, le-of-suc-le-suc, lt-of-mul-lt-mul-right, pow-suc}
+use native.Mathlib.Nat.{mul-assoc, mul-suc, mul-one, zero-mul, add-zero, mul-le-mul-right, one-mul, not-suc-le-zero, le-of-suc-le-suc, lt-of-mul-lt-mul-right, pow-suc, div-one}
 use native.Mathlib.Numerals.{add-one}
 use native.Mathlib.Decide.{decLt}
 use native.Mathlib.Omega.{arith}
 use borrow.Author.Tests.{eq-eqb, ne-eqb, lt-ltb, le-ltb, le-leb, lt-leb}
 use lib.Dec.{ltb, eqb, lit<}
 use lib.Pow.{pow-add, pow-mono}
-use lib.ListN.{length, getD, set, length-set, replicate}
+use lib.ListN.{length, take, drop, getD, set, length-set, replicate}
 use lib.Seq.{set-getD, getD-set-same, getD-set-other}
-use Rattle.link.specs.Bits.{low}
-use Rattle.link.specs.Receiver.{State, next, push, decides}
-use Rattle.link.specs.Inner.{value, Good, Stepped, stateOf}
+use Rattle.link.specs.Bits.{low, wire}
+use Rattle.link.specs.Receiver.{State, next, push, decides, runs}
+use Rattle.link.specs.Inner.{value, Good, Stepped, stateOf, Idle, Same}
 use Rattle.link.specs.declared.scanning.Control.{Control}
-use Rattle.link.proofs.Bits.{AreBytes, bit-of, length-low, low-snoc, shl-byte}
+use Rattle.link.proofs.Bits.{AreBytes, bit-of, length-low, low-snoc, low-cut, take-low, shl-byte, wire-cons, wire-at}
 
 -- ---- the number that bytes spell, with a bit more
 
@@ -348,3 +348,71 @@ module _ (c : Control) (l : List ℕ) (b : ℕ) (hb : b < 2) where
 pub small : (x b v : ℕ) → b < 2 → (x ≡ 0 → v ≡ 0) → (0 < x → v ≡ b) → v < 2
 small zero b v hb h k = omega (arith, h refl)
 small (suc x) b v hb h k = omega (arith, k (omega arith))
+
+-- ---- bytes that leave the receiver as it was
+
+pub control-eq : (a b : Control) → a .mode ≡ b .mode → a .ones ≡ b .ones → a .lead ≡ b .lead → a .count ≡ b .count → a ≡ b
+control-eq a b p q r s =
+    ap₂ (λ (x y : ℕ). record { mode = x; ones = y; lead = a .lead; count = a .count }) p q
+    ∙ ap₂ (λ (x y : ℕ). record { mode = b .mode; ones = b .ones; lead = x; count = y }) r s
+
+-- up to 8 bits of content stand in the first byte
+low-first : (l : List ℕ) (n : ℕ) → n ≤ 8 → low n (value l) ≡ low n (getD l 0 0)
+unfolding value
+low-first [] n h = refl
+low-first (x ∷ l) n h =
+    let e : x + 256 * value l ≡ value l * 2 ^ 8 + x = omega arith in
+    sym (take-low n 8 (x + 256 * value l) h) ∙ ap (take n) (ap (low 8) e ∙ low-cut 8 (value l) x) ∙ take-low n 8 x h
+
+-- the state is the same again
+pub idle-state : {whole : Bool} {before : Control} {first : ℕ} {after : Control} {held : ℕ} (l m : List ℕ)
+    → first ≡ getD l 0 0 → held ≡ getD m 0 0 → Idle whole before first after held → stateOf before l ≡ stateOf after m
+idle-state {before = b} {after = a} l m e f i =
+    rw (i .control)
+    (ap (λ (x : List ℕ). record { mode = a .mode; ones = a .ones; lead = a .lead; content = x })
+    (low-first l (a .count) (i .short) ∙ ap (low (a .count)) (sym e ∙ i .content ∙ f) ∙ sym (low-first m (a .count) (i .short))))
+
+-- a byte that leaves a state as it was is passed over as often as it comes
+pub passed-over : (s : List ℕ) (q : State) (x : ℕ) → ((n : ℕ) (r : List ℕ) → runs q n (low 8 x ++ r) ≡ runs q (n + 8) r)
+    → (d i n : ℕ) → i + d ≤ length s → ((k : ℕ) → k < i + d → i ≤ k → getD s k 0 ≡ x)
+    → runs q n (wire (drop i s)) ≡ runs q (n + 8 * d) (wire (drop (i + d) s))
+passed-over s q x fix zero i n h same =
+    ap₂ (λ (a b : ℕ). runs q a (wire (drop b s))) (sym (add-zero n)) (sym (add-zero i))
+passed-over s q x fix (suc d) i n h same =
+    let e : n + 8 + 8 * d ≡ n + 8 * suc d = omega arith in
+    let f : i + 1 + d ≡ i + suc d = omega arith in
+    rw (wire-cons s i (omega arith), same i (omega arith) (omega arith))
+    (fix n (wire (drop (i + 1) s))
+    ∙ passed-over s q x fix d (i + 1) (n + 8) (omega arith) (λ k p r. same k (omega arith) (omega arith))
+    ∙ ap₂ (λ (a b : ℕ). runs q a (wire (drop b s))) e f)
+
+-- a byte's bits taken, and the bytes passed over after it
+module _ (s : List ℕ) (i skip left w : ℕ) (q q′ : State) (hi : i < length s) (hs : skip < 8) (z : left ≡ 0)
+    (inner : (n : ℕ) (r : List ℕ) → runs q n (low (8 - skip) (getD s i 0 / 2 ^ skip) ++ r) ≡ runs q′ (n + (8 - skip - left)) (low left w ++ r)) where
+  taken-whole : (n : ℕ) (r : List ℕ) → runs q n (low (8 - skip) (getD s i 0 / 2 ^ skip) ++ r) ≡ runs q′ (n + (8 - skip)) r
+  unfolding low
+  taken-whole n r =
+      let e : n + (8 - skip - left) ≡ n + (8 - skip) = omega arith in
+      inner n r ∙ ap₂ (λ (k m : ℕ). runs q′ k (low m w ++ r)) e z
+
+  byte-done : (n : ℕ) → runs q n (drop skip (wire (drop i s))) ≡ runs q′ (n + (8 - skip)) (wire (drop (i + 1) s))
+  byte-done n = rw (wire-at s i skip hi hs) (taken-whole n (wire (drop (i + 1) s)))
+
+  idle-fix : skip ≡ 0 → q ≡ q′ → (n : ℕ) (r : List ℕ) → runs q′ n (low 8 (getD s i 0) ++ r) ≡ runs q′ (n + 8) r
+  idle-fix k e n r =
+      let d : getD s i 0 ≡ getD s i 0 / 2 ^ 0 = sym (div-one (getD s i 0)) in
+      ap₂ (λ (a : State) (x : ℕ). runs a n (low 8 x ++ r)) (sym e) d
+      ∙ (rw k at (taken-whole n r))
+
+  pub bytes-done : (passed : Bool) (e : ℕ) → Same s (i + 1) (getD s i 0) passed e → (passed ≡ true → (skip ≡ 0) × (q ≡ q′))
+      → (n : ℕ) → runs q n (drop skip (wire (drop i s))) ≡ runs q′ (n + (8 - skip) + 8 * (e - (i + 1))) (wire (drop e s))
+  bytes-done true e a f n =
+      let d : i + 1 + (e - (i + 1)) ≡ e = omega (arith, a .least) in
+      byte-done n
+      ∙ passed-over s q′ (getD s i 0) (idle-fix (f refl .0) (f refl .1)) (e - (i + 1)) (i + 1) (n + (8 - skip)) (omega (arith, a .most))
+      (λ k x y. a .bytes k (omega arith) y)
+      ∙ ap (λ (x : ℕ). runs q′ (n + (8 - skip) + 8 * (e - (i + 1))) (wire (drop x s))) d
+  bytes-done false e a f n =
+      let d : e ≡ i + 1 = a .none refl in
+      let m : n + (8 - skip) ≡ n + (8 - skip) + 8 * (e - (i + 1)) = omega arith in
+      byte-done n ∙ ap₂ (λ (x y : ℕ). runs q′ x (wire (drop y s))) m (sym d)

@@ -1,5 +1,5 @@
 -- What the inner functions of the link promise each other. Nobody needs to believe it: the two calls' contracts do not cite it.
-use mathlib.Core.Bool.{cond}
+use mathlib.Core.Bool.{Bool, true, false, cond}
 use mathlib.Core.Path.{_≡_}
 use mathlib.Core.List.{List, [], _∷_, _++_}
 use Prim.Native.Nat.{ℕ, _+_, _*_, _/_, _^_, _≤_, _<_, min}
@@ -83,6 +83,20 @@ pub record Scan (c : Control) (bytes bits : List ℕ) (p : Scanned) : Type 0 whe
   pub good : Good (p .control) (p .bytes)
   pub stops : stopOf p ≡ runs (stateOf c bytes) 0 bits
   pub ends : p .hit ≡ 1 → 37 + p .control .lead ≤ p .control .count
+
+-- a whole byte left the control as it was, and the one byte of content
+pub record Idle (whole : Bool) (before : Control) (first : ℕ) (after : Control) (held : ℕ) : Type 0 where
+  pub all : whole ≡ true
+  pub control : before ≡ after
+  pub content : first ≡ held
+  pub short : after .count ≤ 8
+
+-- from place i to place r of s every byte is x; r is i where none is to be passed over
+pub record Same (s : List ℕ) (i x : ℕ) (passed : Bool) (r : ℕ) : Type 0 where
+  pub least : i ≤ r
+  pub most : r ≤ length s
+  pub bytes : (k : ℕ) → k < r → i ≤ k → getD s k 0 ≡ x
+  pub none : passed ≡ false → r ≡ i
 
 -- the control after a bit that ends no flag and is no seventh one
 pub record Stepped (c : Control) (b : ℕ) (r : Control) : Type 0 where

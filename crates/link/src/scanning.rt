@@ -1,9 +1,10 @@
 // The receiving side: cable bits are taken up to the deciding bit of a flag or an abort.
 ghost use mathlib.Core.Path.{_≡_};
+ghost use mathlib.Core.Bool.{true};
 ghost use Prim.Native.Nat.{_*_, _<_, _≤_};
 ghost use lib.ListN.{length, drop};
 ghost use Rattle.link.specs.Bits.{wire};
-ghost use Rattle.link.specs.Inner.{Good, Stepped, Scan};
+ghost use Rattle.link.specs.Inner.{Good, Stepped, Scan, Idle, Same};
 
 // A receiver without its bytes: small enough to go by value with every bit.
 pub struct Control {
@@ -57,7 +58,51 @@ fn step(c: Control, b: u8) -> Control
     }
 }
 
-// The bits of a slice from one of its first byte's on, up to the deciding one.
+// Whether a whole byte left a receiver as it was, its content in one byte: then the same byte does so again.
+fn is_idle(whole: bool, before: Control, first: u8, after: Control, held: u8) -> bool
+    ensures { λ r. ⌜ (r ≡ true → Idle whole before first after held) ⌝ }
+{
+    if whole {
+        if before.mode != after.mode {
+            return false;
+        }
+        if before.ones != after.ones {
+            return false;
+        }
+        if before.lead != after.lead {
+            return false;
+        }
+        if before.count != after.count {
+            return false;
+        }
+        if first != held {
+            return false;
+        }
+        return after.count <= 8;
+    }
+    false
+}
+
+// Where the bytes end that are x, from place i on; i itself where they are not to be passed over.
+fn same_until(s: &[u8], i: usize, x: u8, passed: bool) -> usize
+    requires { ⌜ i ≤ length (now s) ⌝ }
+    ensures { λ r. ⌜ Same (now (s .entry)) i x passed r ⌝ }
+{
+    if passed {
+        let mut j = i;
+        while j < s.len() {
+            if s[j] != x {
+                return j;
+            }
+            j += 1;
+        }
+        return j;
+    }
+    i
+}
+
+// The bits of a slice from one of its first byte's on, up to the deciding one. Bytes that go on as the one before them did, as the
+// fill between frames, are passed over.
 fn scan(start: Control, kept: [u8; 20], s: &[u8], from: usize) -> Scanned
     requires { ⌜ Good start kept ⌝ }
     requires { ⌜ from < 8 ⌝ }
@@ -71,7 +116,11 @@ fn scan(start: Control, kept: [u8; 20], s: &[u8], from: usize) -> Scanned
     let mut skip = from;
     let mut i: usize = 0;
     'bytes: while i < s.len() {
-        let mut w = s[i] >> skip;
+        let byte = s[i];
+        let whole = skip == 0;
+        let before = c;
+        let first = bytes[0];
+        let mut w = byte >> skip;
         let mut left = 8 - skip;
         while 0 < left {
             let b = w % 2;
@@ -99,8 +148,12 @@ fn scan(start: Control, kept: [u8; 20], s: &[u8], from: usize) -> Scanned
                 c = d;
             }
         }
+        let idle = is_idle(whole, before, first, c, bytes[0]);
+        let next = i + 1;
+        let end = same_until(s, next, byte, idle);
+        used += 8 * (end - next);
         skip = 0;
-        i += 1;
+        i = end;
     }
     Scanned {
         control: c,
