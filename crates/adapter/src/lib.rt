@@ -92,7 +92,7 @@ pub fn kept(journal: &[u8]) -> KeptNumber
     if journal::is_well_formed(journal) {
         return KeptNumber {
             number: DONE,
-            kept: journal[6],
+            kept: journal[journal::KEPT],
         };
     }
     KeptNumber {
@@ -253,7 +253,7 @@ pub fn step_back(a: Adapter, journal: &mut [u8]) -> Answer
 {
     if chip::state::in_range(a) {
         if journal::is_well_formed(journal) {
-            if journal[6] == 0 {
+            if journal[journal::KEPT] == 0 {
                 return refused(a, NONE_KEPT);
             }
             let back = journal::restore(a, journal);
