@@ -4,7 +4,7 @@ use mathlib.Core.Bool.{Bool, not, _&&_, _||_, cond}
 use mathlib.Core.List.{List, [], _∷_}
 use lib.Dec.{eqb}
 use lib.ListN.{length, getD, drop}
-use Rattle.chip.specs.Numbers.{otherAddress, otherPort, otherControl, wrongLength}
+use Rattle.chip.specs.Numbers.{address, otherAddress, otherPort, otherControl, wrongLength}
 use Rattle.bits.specs.Bits.{bitOf}
 use Rattle.chip.specs.Answer.{sends, gives}
 use Rattle.chip.specs.Link.{receiveNumber, receiveUp, numberIn, rejectControl, acknowledgeControl, connected, reset, looped, inLoopback}
@@ -33,18 +33,18 @@ isTest control = eqb control 0xE3 || eqb control 0xF3
 
 -- A RESET that every state accepts: the chip's address, RESET's control, no information.
 unfoldable pub isResetFrame : List ℕ → Bool
-isResetFrame body = eqb (addressOf body) 0x00 && isReset (controlOf body) && eqb (length (informationOf body)) 0
+isResetFrame body = eqb (addressOf body) address && isReset (controlOf body) && eqb (length (informationOf body)) 0
 
 -- A command's information is empty, or 14; its acknowledgement leaves on the same port.
 unfoldable pub commanded : Adapter → Adapter → ℕ → List ℕ → Reaction
 commanded a b port body =
-    cond (eqb (length (informationOf body)) 0) (sends b port (0x00 ∷ acknowledgeControl (controlOf body) ∷ []))
+    cond (eqb (length (informationOf body)) 0) (sends b port (address ∷ acknowledgeControl (controlOf body) ∷ []))
     (gives a wrongLength)
 
 -- Checks 7 and 8, of information that has 8 bytes.
 unfoldable pub numbered : Adapter → ℕ → ℕ → List ℕ → Reaction
 numbered a port control info =
-    cond (not (eqb (numberIn control) (receiveNumber a))) (sends a port (0x00 ∷ rejectControl a ∷ []))
+    cond (not (eqb (numberIn control) (receiveNumber a))) (sends a port (address ∷ rejectControl a ∷ []))
     (requested (receiveUp a) info)
 
 -- Checks 4 to 8.
@@ -58,7 +58,7 @@ carried a port body =
 -- Checks 1 to 8.
 unfoldable pub onFrame : Adapter → ℕ → List ℕ → Reaction
 onFrame a port body =
-    cond (not (eqb (addressOf body) 0x00)) (gives a otherAddress)
+    cond (not (eqb (addressOf body) address)) (gives a otherAddress)
     (cond (isConnect (controlOf body)) (commanded a (connected a port) port body)
     (cond (isReset (controlOf body)) (commanded a (reset a port) port body)
     (cond (isTest (controlOf body)) (commanded a (looped a port) port body)

@@ -1,7 +1,7 @@
 // The link: its numbers, its active port, the ports in loopback, its control field and commands.
 ghost use mathlib.Core.Path.{_≡_};
 ghost use Rattle.chip.specs.State.{freshLink};
-ghost use Rattle.chip.specs.Link.{sendUp, receiveUp, sendNumber, receiveNumber, numberIn, packed, replyControl, rejectControl, acknowledgeControl, connected, looped, inLoopback};
+ghost use Rattle.chip.specs.Link.{sendUp, receiveUp, receiveNumber, numberIn, packed, replyControl, rejectControl, acknowledgeControl, connected, looped, inLoopback};
 use crate::Adapter;
 
 // Two types, so that a reply's control cannot take one number for the other.
