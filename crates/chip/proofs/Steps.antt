@@ -126,7 +126,8 @@ pub record Cases (a : Adapter) (e : Event) (P : Reaction → Type 0) : Type 0 wh
 module _ (a : Adapter) (P : Reaction → Type 0) (port : ℕ) (body : List ℕ) (c : Cases a (frame port body) P) where
   command-cases : (b : Adapter) → P (sends b port (address ∷ acknowledgeControl (controlOf body) ∷ [])) → P (commanded a b port body)
   unfolding commanded
-  command-cases b p = cond-cases P (eqb (length (drop 2 body)) 0) (λ _. p) (λ _. c .drops wrongLength (lit≤ tt) (lit≤ tt))
+  command-cases b p =
+      cond-cases P (not (eqb (length (drop 2 body)) 0)) (λ _. c .drops wrongLength (lit≤ tt) (lit≤ tt)) (λ _. p)
 
   finished-cases : (b : Adapter) (r : Reply) → Touched (receiveUp a) (requestOf (informationOf body)) b r
       → P (finished b (requestOf (informationOf body) .trn) (requestOf (informationOf body) .ch) r)

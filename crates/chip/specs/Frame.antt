@@ -22,6 +22,7 @@ controlOf body = getD body 1 0
 abbrev pub informationOf : List ℕ → List ℕ
 informationOf body = drop 2 body
 
+-- The commands, without and with bit 4.
 abbrev pub isConnect : ℕ → Bool
 isConnect control = eqb control 0x2F || eqb control 0x3F
 
@@ -35,19 +36,22 @@ isTest control = eqb control 0xE3 || eqb control 0xF3
 unfoldable pub isResetFrame : List ℕ → Bool
 isResetFrame body = eqb (addressOf body) address && isReset (controlOf body) && eqb (length (informationOf body)) 0
 
--- A command's information is empty, or 14; its acknowledgement leaves on the same port.
+-- 2. Information not empty is 14; else the command is done, b being the state after it, and acknowledged on the same port.
 unfoldable pub commanded : Adapter → Adapter → ℕ → List ℕ → Reaction
 commanded a b port body =
-    cond (eqb (length (informationOf body)) 0) (sends b port (address ∷ acknowledgeControl (controlOf body) ∷ []))
-    (gives a wrongLength)
+    cond (not (eqb (length (informationOf body)) 0)) (gives a wrongLength)
+    (sends b port (address ∷ acknowledgeControl (controlOf body) ∷ []))
 
--- Checks 7 and 8, of information that has 8 bytes.
+-- 7. Bits 3 to 1 of control unlike the receive number: the frame is dropped and SREJ goes out.
+-- 8. Else the receive number goes up by one modulo 8 and the request is answered.
 unfoldable pub numbered : Adapter → ℕ → ℕ → List ℕ → Reaction
 numbered a port control info =
     cond (not (eqb (numberIn control) (receiveNumber a))) (sends a port (address ∷ rejectControl a ∷ []))
     (requested (receiveUp a) info)
 
--- Checks 4 to 8.
+-- 4. A port in loopback sends the body back unchanged; numbers stay.
+-- 5. Port not active: 12.
+-- 6. Information not 8 bytes: 14.
 unfoldable pub carried : Adapter → ℕ → List ℕ → Reaction
 carried a port body =
     cond (inLoopback a port) (sends a port body)
@@ -55,7 +59,9 @@ carried a port body =
     (cond (not (eqb (length (informationOf body)) 8)) (gives a wrongLength)
     (numbered a port (controlOf body) (informationOf body))))
 
--- Checks 1 to 8.
+-- 1. Address not 0x00: 11.
+-- 2. CONNECT, RESET or TEST, on either port.
+-- 3. Any other control with bit 0 set: 13.
 unfoldable pub onFrame : Adapter → ℕ → List ℕ → Reaction
 onFrame a port body =
     cond (not (eqb (addressOf body) address)) (gives a otherAddress)

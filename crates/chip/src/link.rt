@@ -19,17 +19,21 @@ pub struct Link {
 
 // The chip's address.
 pub(crate) const ADDRESS: u8 = 0x00;
-// The numbers count modulo 8.
+
+// The numbers count modulo 8, in three bits.
 const NUMBERS: u8 = 8;
 
 const NUMBER_MASK: u8 = 7;
-// The numbers stand from bit 1 and from bit 5 of a control field.
+
+// They stand from bit 1 and from bit 5 of a control field.
 const SEND_SHIFT: u8 = 1;
 
 const RECEIVE_SHIFT: u8 = 5;
 
+// SREJ with receive number 0.
 const REJECT: u8 = 0x0D;
 
+// An acknowledgement, and the one of a command with bit 4 set.
 const ACKNOWLEDGE: u8 = 0x63;
 
 const ACKNOWLEDGE_FINAL: u8 = 0x73;

@@ -1,6 +1,7 @@
 // Every command once, and every other event: one line for each, document 01's number and the body that is sent.
-// Each line of `stdout` is explained beside the call that prints it. A reply is 00, control, TRN, CH, ERR, LEN, D[23:16], D[31:24],
+// Each line of `stdout` is explained beside the call that prints it. A reply is 00, control, TRN 01, CH, ERR, LEN, D[23:16], D[31:24],
 // D[7:0], D[15:8]; control is twice the replies and interrupts before it plus 32 times the requests so far, each modulo 8.
+// Where nothing else is said, ERR is 0, a write gives no data and a read gives what was written.
 mod print;
 mod requests;
 
