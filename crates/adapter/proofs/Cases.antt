@@ -1,13 +1,13 @@
 -- What each call gives and leaves, case by case: a law for every case of the definitions. Assumes nothing.
 use Prim.Native.Nat.{ℕ, _+_, _≤_, _<_}
 use mathlib.Core.Path.{_≡_, refl, sym, ap, _∙_}
-use mathlib.Core.Bool.{Bool, true, false, not, cond, _||_, true≢false}
+use mathlib.Core.Bool.{Bool, true, false, not, _||_, true≢false}
 use mathlib.Core.List.{List}
 use native.Mathlib.Omega.{arith}
 use lib.ListN.{length, take}
 use lib.Seq.{length-take-le}
 use borrow.Author.Needs.{length-unmapped}
-use lib.Dec.{eqb, ltb, lit≤}
+use lib.Dec.{ltb, lit≤}
 use borrow.Author.Tests.{eq-eqb, ne-eqb, lt-ltb, le-ltb, ltb-false, eqb-true, not-false}
 use Rattle.chip.specs.declared.Adapter.{Adapter}
 use Rattle.chip.specs.declared.Reaction.{Reaction}
@@ -17,16 +17,16 @@ use Rattle.chip.specs.State.{powerOn, inRange}
 use Rattle.chip.specs.Request.{replies}
 use Rattle.chip.proofs.Steps.{step-cases}
 use Rattle.parts.specs.Parts.{put}
-use Rattle.journal.specs.Layout.{version1, sizeOf, keptOf, wellFormed, past, emptied, pushed, lowered}
+use Rattle.journal.specs.Layout.{version1, keptOf, wellFormed, past, emptied, pushed, lowered}
 use Rattle.journal.specs.declared.Restored.{Restored}
-use Rattle.journal.specs.Record.{before, restored, sound, restoredBy}
+use Rattle.journal.specs.Record.{before, sound, restoredBy}
 use Rattle.adapter.specs.declared.Answer.{Answer}
 use Rattle.adapter.specs.declared.Created.{Created}
 use Rattle.adapter.specs.declared.KeptNumber.{KeptNumber}
 use Rattle.adapter.specs.declared.Verdict.{Verdict}
 use Rattle.adapter.specs.declared.Verdict.the-variants.{Refused, Passed}
 use Rattle.adapter.specs.Refusals.{wrongArgument, wrongBody, inOrder, verdict}
-use Rattle.adapter.specs.Calls.{created, cleared, madeEmpty, keptIn, Outcome, outcome, plain, recorded, done, called, stepped, steppedBack}
+use Rattle.adapter.specs.Calls.{created, keptIn, Outcome, outcome, plain, recorded, done, called, stepped, steppedBack}
 
 -- ---- creation
 

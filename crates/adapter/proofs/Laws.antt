@@ -1,27 +1,24 @@
 -- The laws of the public calls, for what stands above them: what an event that is not refused leaves to be taken back, and what a step
 -- back makes of it. A journal that is well formed stays so. Assumes nothing.
-use Prim.Native.Nat.{ℕ, suc, _+_, _-_, min, _≤_, _<_}
-use mathlib.Core.Path.{_≡_, refl, sym, ap, _∙_}
+use Prim.Native.Nat.{ℕ, suc, _+_, _-_, min, _<_}
+use mathlib.Core.Path.{_≡_, refl}
 use mathlib.Core.Bool.{Bool, true, false, not, cond}
 use mathlib.Core.List.{List, _++_}
-use mathlib.Core.Logic.{_⊎_, inl, inr}
-use native.Mathlib.Omega.{arith}
 use lib.ListN.{length}
-use lib.Dec.{eqb, ltb, lit<}
+use lib.Dec.{ltb, lit<}
 use borrow.Author.Tests.{eq-eqb, ne-eqb}
 use Rattle.chip.specs.declared.Adapter.{Adapter}
 use Rattle.chip.specs.Event.{Event}
-use Rattle.chip.specs.Chip.{reaction, acceptedReset}
+use Rattle.chip.specs.Chip.{acceptedReset}
 use Rattle.chip.specs.State.{poweredOn, powerOn, inRange}
 use Rattle.chip.proofs.Fits.{Fits}
-use Rattle.journal.specs.Layout.{version1, sizeOf, keptOf, wellFormed, past, emptied, pushed, lowered}
+use Rattle.journal.specs.Layout.{version1, sizeOf, keptOf, past, emptied, pushed, lowered}
 use Rattle.journal.specs.Record.{before, restored, sound}
 use Rattle.journal.proofs.Record.{length-before, restored-before, sound-before}
-use Rattle.journal.proofs.Ring.{Well, well-of, of-well, emptied-well, emptied-kept, behind, pushed-well, pushed-kept, pushed-newest, pushed-older, lowered-well, lowered-kept, lowered-past}
-use Rattle.adapter.specs.declared.Verdict.{Verdict}
+use Rattle.journal.proofs.Ring.{Well, well-of, emptied-well, emptied-kept, behind, pushed-well, pushed-kept, pushed-newest, pushed-older}
 use Rattle.adapter.specs.declared.Verdict.the-variants.{Refused, Passed}
 use Rattle.adapter.specs.Refusals.{wrongArgument, wrongBody, inOrder, verdict}
-use Rattle.adapter.specs.Calls.{outcome, plain, recorded, done, called, Stepped, stepped, steppedBack, cleared, madeEmpty, created}
+use Rattle.adapter.specs.Calls.{outcome, plain, recorded, done, called, stepped, steppedBack, cleared, madeEmpty}
 
 -- ---- creation
 

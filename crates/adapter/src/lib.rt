@@ -92,7 +92,7 @@ pub fn kept(journal: &[u8]) -> KeptNumber
     if journal::is_well_formed(journal) {
         return KeptNumber {
             number: DONE,
-            kept: journal[6],
+            kept: journal[journal::KEPT],
         };
     }
     KeptNumber {
@@ -213,8 +213,8 @@ pub fn upset(a: Adapter, journal: &mut [u8], output: &mut [u8]) -> Answer
     match verdict {
         Verdict::Refused(number) => refused(a, number),
         Verdict::Passed => {
-            let r = chip::events::on_upset(a);
-            keep(a, r, false, journal, output)
+            let counted = chip::events::on_upset(a);
+            keep(a, counted, false, journal, output)
         }
     }
 }
@@ -227,8 +227,8 @@ pub fn completion(a: Adapter, journal: &mut [u8], received: &[u8], output: &mut 
     match verdict {
         Verdict::Refused(number) => refused(a, number),
         Verdict::Passed => {
-            let r = chip::events::on_completion(a, received);
-            keep(a, r, false, journal, output)
+            let completed = chip::events::on_completion(a, received);
+            keep(a, completed, false, journal, output)
         }
     }
 }
@@ -241,8 +241,8 @@ pub fn sample(a: Adapter, journal: &mut [u8], levels: u32, kind: u8, output: &mu
     match verdict {
         Verdict::Refused(number) => refused(a, number),
         Verdict::Passed => {
-            let r = chip::events::on_sample(a, levels, kind);
-            keep(a, r, false, journal, output)
+            let sampled = chip::events::on_sample(a, levels, kind);
+            keep(a, sampled, false, journal, output)
         }
     }
 }
@@ -253,7 +253,7 @@ pub fn step_back(a: Adapter, journal: &mut [u8]) -> Answer
 {
     if chip::state::in_range(a) {
         if journal::is_well_formed(journal) {
-            if journal[6] == 0 {
+            if journal[journal::KEPT] == 0 {
                 return refused(a, NONE_KEPT);
             }
             let back = journal::restore(a, journal);

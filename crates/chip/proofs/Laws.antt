@@ -8,6 +8,7 @@ use borrow.Author.Tests.{eqb-true}
 use lib.Dec.{eqb}
 use lib.Pow.{shr-shr}
 use lib.ListN.{length}
+use Rattle.chip.specs.Numbers.{address}
 use Rattle.chip.specs.Event.{Event, frame}
 use Rattle.chip.specs.State.{poweredOn}
 use Rattle.chip.specs.Answer.{sends, gives}
@@ -22,6 +23,7 @@ use Rattle.chip.proofs.Steps.{and-left, and-right, or-second, touched-l
 pub use Rattle.chip.proofs.Steps.{step-cases}
 pub use Rattle.chip.proofs.Bodies.{number-given, silent, sendable, sixteen, body-bytes, spelled}
 pub use Rattle.chip.proofs.Fits.{Fits, power-on-fits, fits-kept}
+pub use Rattle.chip.proofs.Errors.{error-keeps}
 pub use Rattle.chip.proofs.Ranges.{power-on-in-range, range-kept, numbers-below, disabled-spi, disabled-gpio}
 
 -- ---- what stays
@@ -69,7 +71,7 @@ id-stays a e =
 -- how the send number moves: it stays; an acknowledgement goes out and it is 0; or a reply or an interrupt goes out with it
 pub data SendMoves (a : Adapter) : Reaction → Type 0 where
   stays : (r : Reaction) → r .adapter .link .send ≡ a .link .send → SendMoves a r
-  zeroed : (b : Adapter) (port k : ℕ) → b .link .send .0 ≡ 0 → SendMoves a (sends b port (0x00 ∷ k ∷ []))
+  zeroed : (b : Adapter) (port k : ℕ) → b .link .send .0 ≡ 0 → SendMoves a (sends b port (address ∷ k ∷ []))
   raised : (b : Adapter) (trn ch err len d : ℕ) → b .link .send ≡ a .link .send → SendMoves a (replies b trn ch err len d)
 
 -- only replies and interrupts raise the send number; CONNECT and RESET zero it
@@ -107,14 +109,14 @@ not-connect c h = either c 0x8F 0x9F h (λ (n : ℕ). isConnect n ≡ false) ref
 
 -- an accepted RESET acknowledges on its port and leaves power-on with that port active; only the ID stays
 pub accepted-reset : (a : Adapter) (port : ℕ) (body : List ℕ) → acceptedReset (frame port body) ≡ true
-    → reaction a (frame port body) ≡ sends (poweredOn port (a .id)) port (0x00 ∷ acknowledgeControl (controlOf body) ∷ [])
+    → reaction a (frame port body) ≡ sends (poweredOn port (a .id)) port (address ∷ acknowledgeControl (controlOf body) ∷ [])
 unfolding reaction onFrame commanded isResetFrame
 accepted-reset a port body h =
-    let h1 = and-left (eqb (addressOf body) 0x00 && isReset (controlOf body)) (eqb (length (informationOf body)) 0) h in
-    let address = and-left (eqb (addressOf body) 0x00) (isReset (controlOf body)) h1 in
-    let command = and-right (eqb (addressOf body) 0x00) (isReset (controlOf body)) h1 in
-    let empty = and-right (eqb (addressOf body) 0x00 && isReset (controlOf body)) (eqb (length (informationOf body)) 0) h in
-    simp (address, not-connect (controlOf body) command, command, empty)
+    let h1 = and-left (eqb (addressOf body) address && isReset (controlOf body)) (eqb (length (informationOf body)) 0) h in
+    let addressed = and-left (eqb (addressOf body) address) (isReset (controlOf body)) h1 in
+    let command = and-right (eqb (addressOf body) address) (isReset (controlOf body)) h1 in
+    let empty = and-right (eqb (addressOf body) address && isReset (controlOf body)) (eqb (length (informationOf body)) 0) h in
+    simp (addressed, not-connect (controlOf body) command, command, empty)
 
 -- ---- the wire
 

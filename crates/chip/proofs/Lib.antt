@@ -6,6 +6,7 @@ pub mod Replies
 pub mod Bodies
 pub mod Fits
 pub mod Ranges
+pub mod Errors
 pub mod Laws
 pub mod OneOutcome
 pub mod Examples

@@ -1,34 +1,38 @@
--- Any two results that a contract allows coincide, for every public function.
-use Prim.Native.Nat.{ℕ}
-use mathlib.Core.Bool.{Bool}
-use mathlib.Core.List.{List}
-use mathlib.Core.Path.{_≡_, sym, _∙_}
-use Rattle.chip.specs.Event.{frame, completion, sample, upset}
-use Rattle.chip.specs.State.{powerOn, inRange}
-use Rattle.chip.specs.Chip.{reaction, acceptedReset}
-use Rattle.chip.specs.declared.Adapter.{Adapter}
-use Rattle.chip.specs.declared.Reaction.{Reaction}
+-- Any two outcomes that a public function's contract allows coincide.
+use mathlib.Core.Path.{sym, _∙_}
+use Rattle.bits.proofs.Outcome.{OneOutcome}
+use Rattle.chip.proofs.state.power_on.Kinds as power-on-kinds
+use Rattle.chip.proofs.state.power_on.Reads as power-on
+use Rattle.chip.proofs.state.in_range.Kinds as in-range-kinds
+use Rattle.chip.proofs.state.in_range.Reads as in-range
+use Rattle.chip.proofs.events.is_reset.Kinds as is-reset-kinds
+use Rattle.chip.proofs.events.is_reset.Reads as is-reset
+use Rattle.chip.proofs.events.on_frame.Kinds as on-frame-kinds
+use Rattle.chip.proofs.events.on_frame.Reads as on-frame
+use Rattle.chip.proofs.events.on_completion.Kinds as on-completion-kinds
+use Rattle.chip.proofs.events.on_completion.Reads as on-completion
+use Rattle.chip.proofs.events.on_sample.Kinds as on-sample-kinds
+use Rattle.chip.proofs.events.on_sample.Reads as on-sample
+use Rattle.chip.proofs.events.on_upset.Kinds as on-upset-kinds
+use Rattle.chip.proofs.events.on_upset.Reads as on-upset
 
-one : {A : Type 0} {x r r′ : A} → r ≡ x → r′ ≡ x → r ≡ r′
-one p q = p ∙ sym q
+pub power-on-one : OneOutcome 0 power-on-kinds.ps power-on-kinds.r power-on.Post
+power-on-one κs a x y s t e f = e ∙ sym f
 
-pub power-on-one : (n : ℕ) {r r′ : Adapter} → r ≡ powerOn n → r′ ≡ powerOn n → r ≡ r′
-power-on-one n p q = one p q
+pub in-range-one : OneOutcome 0 in-range-kinds.ps in-range-kinds.r in-range.Post
+in-range-one κs a x y s t e f = e ∙ sym f
 
-pub in-range-one : (a : Adapter) {r r′ : Bool} → r ≡ inRange a → r′ ≡ inRange a → r ≡ r′
-in-range-one a p q = one p q
+pub is-reset-one : OneOutcome 1 is-reset-kinds.ps is-reset-kinds.r is-reset.Post
+is-reset-one κs a x y s t e f = e ∙ sym f
 
-pub is-reset-one : (body : List ℕ) {r r′ : Bool} → r ≡ acceptedReset (frame 0 body) → r′ ≡ acceptedReset (frame 0 body) → r ≡ r′
-is-reset-one body p q = one p q
+pub on-frame-one : OneOutcome 1 on-frame-kinds.ps on-frame-kinds.r on-frame.Post
+on-frame-one κs a x y s t e f = e ∙ sym f
 
-pub on-frame-one : (a : Adapter) (port : ℕ) (body : List ℕ) {r r′ : Reaction} → r ≡ reaction a (frame port body) → r′ ≡ reaction a (frame port body) → r ≡ r′
-on-frame-one a port body p q = one p q
+pub on-completion-one : OneOutcome 1 on-completion-kinds.ps on-completion-kinds.r on-completion.Post
+on-completion-one κs a x y s t e f = e ∙ sym f
 
-pub on-completion-one : (a : Adapter) (received : List ℕ) {r r′ : Reaction} → r ≡ reaction a (completion received) → r′ ≡ reaction a (completion received) → r ≡ r′
-on-completion-one a received p q = one p q
+pub on-sample-one : OneOutcome 0 on-sample-kinds.ps on-sample-kinds.r on-sample.Post
+on-sample-one κs a x y s t e f = e ∙ sym f
 
-pub on-sample-one : (a : Adapter) (levels kind : ℕ) {r r′ : Reaction} → r ≡ reaction a (sample levels kind) → r′ ≡ reaction a (sample levels kind) → r ≡ r′
-on-sample-one a levels kind p q = one p q
-
-pub on-upset-one : (a : Adapter) {r r′ : Reaction} → r ≡ reaction a upset → r′ ≡ reaction a upset → r ≡ r′
-on-upset-one a p q = one p q
+pub on-upset-one : OneOutcome 0 on-upset-kinds.ps on-upset-kinds.r on-upset.Post
+on-upset-one κs a x y s t e f = e ∙ sym f

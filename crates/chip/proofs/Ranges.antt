@@ -33,7 +33,7 @@ pub record InRange (a : Adapter) : Type 0 where
   pub spi : spiEnabled (a .control) ≡ false → spiIsZero (a .spi) ≡ true
   pub gpio : gpioEnabled (a .control) ≡ false → gpioIsZero (a .gpio) ≡ true
 
-or-by : (a b : Bool) → (a ≡ false → b ≡ true) → (a || b) ≡ true
+pub or-by : (a b : Bool) → (a ≡ false → b ≡ true) → (a || b) ≡ true
 or-by true b h = refl
 or-by false b h = h refl
 

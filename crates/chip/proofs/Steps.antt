@@ -22,7 +22,7 @@ use Rattle.registers.specs.Seu.{seuAnswer}
 use Rattle.registers.specs.ChipId.{idAnswer}
 use Rattle.registers.specs.Dac.{dacAnswer}
 use Rattle.chip.specs.Event.{Event, frame, completion, sample, upset}
-use Rattle.chip.specs.Numbers.{otherAddress, otherPort, otherControl, wrongLength, noFrame, notBusy, linesDisabled, spiChannel, gpioChannel, noTransaction, interruptTransaction, interruptLength}
+use Rattle.chip.specs.Numbers.{address, otherAddress, otherPort, otherControl, wrongLength, noFrame, notBusy, linesDisabled, spiChannel, gpioChannel, noTransaction, interruptTransaction, interruptLength}
 use Rattle.chip.specs.State.{withControl, withSpi, withGpio, withDac, withSeu}
 use Rattle.chip.specs.Answer.{sends, gives}
 use Rattle.chip.specs.Link.{rejectControl, acknowledgeControl, receiveNumber, receiveUp, numberIn, connected, reset, looped, inLoopback}
@@ -70,7 +70,7 @@ on-channel a q Id = by-id
 on-channel a q Dac = by-dac
 on-channel a q Unknown = refused chUnknown (lit< tt)
 
-touched : (a : Adapter) (q : Request) → Touched a q (answered a q .adapter) (answered a q .reply)
+pub touched : (a : Adapter) (q : Request) → Touched a q (answered a q .adapter) (answered a q .reply)
 unfolding answered
 touched a q =
     cond-cases (λ (x : Answered). Touched a q (x .adapter) (x .reply)) (eqb (q .trn) noTransaction || eqb (q .trn) interruptTransaction)
@@ -100,12 +100,12 @@ pub record Cases (a : Adapter) (e : Event) (P : Reaction → Type 0) : Type 0 wh
   -- 11 to 16
   pub drops : (n : ℕ) → 11 ≤ n → n ≤ 16 → P (gives a n)
   -- CONNECT, RESET and TEST
-  pub connects : (port : ℕ) (body : List ℕ) → e ≡ frame port body → P (sends (connected a port) port (0x00 ∷ acknowledgeControl (controlOf body) ∷ []))
-  pub resets : (port : ℕ) (body : List ℕ) → e ≡ frame port body → P (sends (reset a port) port (0x00 ∷ acknowledgeControl (controlOf body) ∷ []))
-  pub tests : (port : ℕ) (body : List ℕ) → e ≡ frame port body → P (sends (looped a port) port (0x00 ∷ acknowledgeControl (controlOf body) ∷ []))
+  pub connects : (port : ℕ) (body : List ℕ) → e ≡ frame port body → P (sends (connected a port) port (address ∷ acknowledgeControl (controlOf body) ∷ []))
+  pub resets : (port : ℕ) (body : List ℕ) → e ≡ frame port body → P (sends (reset a port) port (address ∷ acknowledgeControl (controlOf body) ∷ []))
+  pub tests : (port : ℕ) (body : List ℕ) → e ≡ frame port body → P (sends (looped a port) port (address ∷ acknowledgeControl (controlOf body) ∷ []))
   -- a loopback echo, and SREJ
   pub echoes : (port : ℕ) (body : List ℕ) → e ≡ frame port body → P (sends a port body)
-  pub rejects : (port : ℕ) (body : List ℕ) → e ≡ frame port body → P (sends a port (0x00 ∷ rejectControl a ∷ []))
+  pub rejects : (port : ℕ) (body : List ℕ) → e ≡ frame port body → P (sends a port (address ∷ rejectControl a ∷ []))
   -- a request with its reply, and a GO, whose reply comes later
   pub answers : (port : ℕ) (body : List ℕ) → e ≡ frame port body → (b : Adapter) (err len d : ℕ)
       → Touched (receiveUp a) (requestOf (informationOf body)) b (Sent err len d)
@@ -124,9 +124,10 @@ pub record Cases (a : Adapter) (e : Event) (P : Reaction → Type 0) : Type 0 wh
   pub upsets : P (gives (withSeu a ((a .seu + 1) % 2 ^ 32)) noFrame)
 
 module _ (a : Adapter) (P : Reaction → Type 0) (port : ℕ) (body : List ℕ) (c : Cases a (frame port body) P) where
-  command-cases : (b : Adapter) → P (sends b port (0x00 ∷ acknowledgeControl (controlOf body) ∷ [])) → P (commanded a b port body)
+  command-cases : (b : Adapter) → P (sends b port (address ∷ acknowledgeControl (controlOf body) ∷ [])) → P (commanded a b port body)
   unfolding commanded
-  command-cases b p = cond-cases P (eqb (length (drop 2 body)) 0) (λ _. p) (λ _. c .drops wrongLength (lit≤ tt) (lit≤ tt))
+  command-cases b p =
+      cond-cases P (not (eqb (length (drop 2 body)) 0)) (λ _. c .drops wrongLength (lit≤ tt) (lit≤ tt)) (λ _. p)
 
   finished-cases : (b : Adapter) (r : Reply) → Touched (receiveUp a) (requestOf (informationOf body)) b r
       → P (finished b (requestOf (informationOf body) .trn) (requestOf (informationOf body) .ch) r)

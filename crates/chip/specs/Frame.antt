@@ -4,7 +4,7 @@ use mathlib.Core.Bool.{Bool, not, _&&_, _||_, cond}
 use mathlib.Core.List.{List, [], _∷_}
 use lib.Dec.{eqb}
 use lib.ListN.{length, getD, drop}
-use Rattle.chip.specs.Numbers.{otherAddress, otherPort, otherControl, wrongLength}
+use Rattle.chip.specs.Numbers.{address, otherAddress, otherPort, otherControl, wrongLength}
 use Rattle.bits.specs.Bits.{bitOf}
 use Rattle.chip.specs.Answer.{sends, gives}
 use Rattle.chip.specs.Link.{receiveNumber, receiveUp, numberIn, rejectControl, acknowledgeControl, connected, reset, looped, inLoopback}
@@ -22,6 +22,7 @@ controlOf body = getD body 1 0
 abbrev pub informationOf : List ℕ → List ℕ
 informationOf body = drop 2 body
 
+-- The commands, without and with bit 4.
 abbrev pub isConnect : ℕ → Bool
 isConnect control = eqb control 0x2F || eqb control 0x3F
 
@@ -33,21 +34,24 @@ isTest control = eqb control 0xE3 || eqb control 0xF3
 
 -- A RESET that every state accepts: the chip's address, RESET's control, no information.
 unfoldable pub isResetFrame : List ℕ → Bool
-isResetFrame body = eqb (addressOf body) 0x00 && isReset (controlOf body) && eqb (length (informationOf body)) 0
+isResetFrame body = eqb (addressOf body) address && isReset (controlOf body) && eqb (length (informationOf body)) 0
 
--- A command's information is empty, or 14; its acknowledgement leaves on the same port.
+-- 2. Information not empty is 14; else the command is done, b being the state after it, and acknowledged on the same port.
 unfoldable pub commanded : Adapter → Adapter → ℕ → List ℕ → Reaction
 commanded a b port body =
-    cond (eqb (length (informationOf body)) 0) (sends b port (0x00 ∷ acknowledgeControl (controlOf body) ∷ []))
-    (gives a wrongLength)
+    cond (not (eqb (length (informationOf body)) 0)) (gives a wrongLength)
+    (sends b port (address ∷ acknowledgeControl (controlOf body) ∷ []))
 
--- Checks 7 and 8, of information that has 8 bytes.
+-- 7. Bits 3 to 1 of control unlike the receive number: the frame is dropped and SREJ goes out.
+-- 8. Else the receive number goes up by one modulo 8 and the request is answered.
 unfoldable pub numbered : Adapter → ℕ → ℕ → List ℕ → Reaction
 numbered a port control info =
-    cond (not (eqb (numberIn control) (receiveNumber a))) (sends a port (0x00 ∷ rejectControl a ∷ []))
+    cond (not (eqb (numberIn control) (receiveNumber a))) (sends a port (address ∷ rejectControl a ∷ []))
     (requested (receiveUp a) info)
 
--- Checks 4 to 8.
+-- 4. A port in loopback sends the body back unchanged; numbers stay.
+-- 5. Port not active: 12.
+-- 6. Information not 8 bytes: 14.
 unfoldable pub carried : Adapter → ℕ → List ℕ → Reaction
 carried a port body =
     cond (inLoopback a port) (sends a port body)
@@ -55,10 +59,12 @@ carried a port body =
     (cond (not (eqb (length (informationOf body)) 8)) (gives a wrongLength)
     (numbered a port (controlOf body) (informationOf body))))
 
--- Checks 1 to 8.
+-- 1. Address not 0x00: 11.
+-- 2. CONNECT, RESET or TEST, on either port.
+-- 3. Any other control with bit 0 set: 13.
 unfoldable pub onFrame : Adapter → ℕ → List ℕ → Reaction
 onFrame a port body =
-    cond (not (eqb (addressOf body) 0x00)) (gives a otherAddress)
+    cond (not (eqb (addressOf body) address)) (gives a otherAddress)
     (cond (isConnect (controlOf body)) (commanded a (connected a port) port body)
     (cond (isReset (controlOf body)) (commanded a (reset a port) port body)
     (cond (isTest (controlOf body)) (commanded a (looped a port) port body)

@@ -1,4 +1,4 @@
--- Document 01's numbers that an event gives back, and the bytes that frames are made of: each named once.
+-- Document 01's numbers that stand in more than one place: what an event gives back, and bytes of frames.
 use Prim.Native.Nat.{ℕ}
 
 -- ---- numbers given back
@@ -35,7 +35,11 @@ linesDisabled = 16
 abbrev pub noFrame : ℕ
 noFrame = 17
 
--- ---- TRN and CH
+-- ---- bytes of frames
+
+-- the chip's address
+abbrev pub address : ℕ
+address = 0x00
 
 -- a request's TRN is neither of these; an interrupt's is the second
 abbrev pub noTransaction : ℕ

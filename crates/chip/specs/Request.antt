@@ -17,7 +17,7 @@ use Rattle.registers.specs.Gpio.{gpioAnswer}
 use Rattle.registers.specs.Seu.{seuAnswer}
 use Rattle.registers.specs.ChipId.{idAnswer}
 use Rattle.registers.specs.Dac.{dacAnswer}
-use Rattle.chip.specs.Numbers.{noFrame, noTransaction, interruptTransaction}
+use Rattle.chip.specs.Numbers.{address, noFrame, noTransaction, interruptTransaction}
 use Rattle.chip.specs.State.{withControl, withSpi, withGpio, withDac, withSeu}
 use Rattle.chip.specs.Answer.{sends, gives}
 use Rattle.chip.specs.Link.{replyControl, sendUp}
@@ -49,7 +49,7 @@ byteOf d k = d / 2 ^ (8 * k) % 256
 -- A reply's or an interrupt's body: address, control, TRN, CH, ERR, LEN, D[23:16], D[31:24], D[7:0], D[15:8].
 abbrev pub replyBody : ℕ → ℕ → ℕ → ℕ → ℕ → ℕ → List ℕ
 replyBody control trn ch err len d =
-    0x00 ∷ control ∷ trn ∷ ch ∷ err ∷ len ∷ byteOf d 2 ∷ byteOf d 3 ∷ byteOf d 0 ∷ byteOf d 1 ∷ []
+    address ∷ control ∷ trn ∷ ch ∷ err ∷ len ∷ byteOf d 2 ∷ byteOf d 3 ∷ byteOf d 0 ∷ byteOf d 1 ∷ []
 
 -- ---- the answer
 

@@ -22,9 +22,11 @@ const RESET_POLL: u8 = 0x9F;
 const TEST: u8 = 0xE3;
 
 const TEST_POLL: u8 = 0xF3;
-// Bit 0 is set in a control that carries no request.
+
+// Bit 0 of a control that carries no request.
 const UNNUMBERED: u8 = 0x01;
 
+// Bytes of a request's information.
 const INFORMATION: usize = 8;
 
 fn is_connect(control: u8) -> bool

@@ -1,7 +1,7 @@
 // The link: its numbers, its active port, the ports in loopback, its control field and commands.
 ghost use mathlib.Core.Path.{_≡_};
 ghost use Rattle.chip.specs.State.{freshLink};
-ghost use Rattle.chip.specs.Link.{sendUp, receiveUp, sendNumber, receiveNumber, numberIn, packed, replyControl, rejectControl, acknowledgeControl, connected, looped, inLoopback};
+ghost use Rattle.chip.specs.Link.{sendUp, receiveUp, receiveNumber, numberIn, packed, replyControl, rejectControl, acknowledgeControl, connected, looped, inLoopback};
 use crate::Adapter;
 
 // Two types, so that a reply's control cannot take one number for the other.
@@ -19,17 +19,21 @@ pub struct Link {
 
 // The chip's address.
 pub(crate) const ADDRESS: u8 = 0x00;
-// The numbers count modulo 8.
+
+// The numbers count modulo 8, in three bits.
 const NUMBERS: u8 = 8;
 
 const NUMBER_MASK: u8 = 7;
-// The numbers stand from bit 1 and from bit 5 of a control field.
+
+// They stand from bit 1 and from bit 5 of a control field.
 const SEND_SHIFT: u8 = 1;
 
 const RECEIVE_SHIFT: u8 = 5;
 
+// SREJ with receive number 0.
 const REJECT: u8 = 0x0D;
 
+// An acknowledgement, and the one of a command with bit 4 set.
 const ACKNOWLEDGE: u8 = 0x63;
 
 const ACKNOWLEDGE_FINAL: u8 = 0x73;

@@ -1,7 +1,7 @@
 // A request's information, what answers it, and the reply's body.
 ghost use mathlib.Core.Path.{_≡_};
-ghost use Prim.Native.Nat.{_+_, _*_, _^_, _<_};
-ghost use lib.ListN.{length, getD};
+ghost use Prim.Native.Nat.{_+_, _*_, _<_};
+ghost use lib.ListN.{length};
 ghost use Rattle.chip.specs.State.{withControl};
 ghost use Rattle.chip.specs.Request.{fourBytes, requestOf, byteOf, onChannel, answered, replies, finished, requested};
 use crate::Adapter;

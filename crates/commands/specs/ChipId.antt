@@ -2,7 +2,6 @@
 use Prim.Native.Nat.{ℕ}
 use mathlib.Core.List.{List, [], _∷_}
 use Rattle.bits.specs.Table.{Row, row, look}
-use Rattle.commands.specs.declared.request.Lengths.{Lengths}
 use Rattle.commands.specs.declared.chip_id.Command.{Command}
 use Rattle.commands.specs.declared.chip_id.Command.the-variants.{Read, Unknown}
 use Rattle.commands.specs.Request.{lengths}

@@ -5,9 +5,7 @@ use Rattle.bits.specs.Table.{Row, row, look}
 use Rattle.commands.specs.declared.request.Lengths.{Lengths}
 use Rattle.commands.specs.declared.controller.Command.{Command}
 use Rattle.commands.specs.declared.controller.Command.the-variants.{Known, Unknown}
-use Rattle.commands.specs.declared.controller.Does.{Does}
 use Rattle.commands.specs.declared.controller.Does.the-variants.{Write, Read}
-use Rattle.commands.specs.declared.controller.Register.{Register}
 use Rattle.commands.specs.declared.controller.Register.the-variants.{Crb, Crc, Crd}
 use Rattle.commands.specs.Request.{lengths}
 

@@ -5,9 +5,7 @@ use Rattle.bits.specs.Table.{Row, row, look}
 use Rattle.commands.specs.declared.request.Lengths.{Lengths}
 use Rattle.commands.specs.declared.dac.Command.{Command}
 use Rattle.commands.specs.declared.dac.Command.the-variants.{Known, Unknown}
-use Rattle.commands.specs.declared.dac.Does.{Does}
 use Rattle.commands.specs.declared.dac.Does.the-variants.{Write, Read}
-use Rattle.commands.specs.declared.dac.Register.{Register}
 use Rattle.commands.specs.declared.dac.Register.the-variants.{A, B, C, D}
 use Rattle.commands.specs.Request.{lengths}
 

@@ -5,9 +5,7 @@ use Rattle.bits.specs.Table.{Row, row, look}
 use Rattle.commands.specs.declared.request.Lengths.{Lengths}
 use Rattle.commands.specs.declared.gpio.Command.{Command}
 use Rattle.commands.specs.declared.gpio.Command.the-variants.{Known, Unknown}
-use Rattle.commands.specs.declared.gpio.Does.{Does}
 use Rattle.commands.specs.declared.gpio.Does.the-variants.{Write, Read, ReadDatain}
-use Rattle.commands.specs.declared.gpio.Register.{Register}
 use Rattle.commands.specs.declared.gpio.Register.the-variants.{Dataout, Direction, Intsel, Inttrig, Ints, Clksel, Edgesel, Intenable}
 use Rattle.commands.specs.Request.{lengths}
 

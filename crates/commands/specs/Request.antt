@@ -2,7 +2,7 @@
 use Prim.Native.Nat.{ℕ}
 use Rattle.commands.specs.declared.request.Lengths.{Lengths}
 use Rattle.commands.specs.declared.request.Reply.{Reply}
-use Rattle.commands.specs.declared.request.Reply.the-variants.{Sent, Later}
+use Rattle.commands.specs.declared.request.Reply.the-variants.{Sent}
 
 -- Table 4.2. One error bit is set, the first that applies, in this order.
 abbrev pub trnWrong : ℕ

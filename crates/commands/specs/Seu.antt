@@ -5,7 +5,6 @@ use Rattle.bits.specs.Table.{Row, row, look}
 use Rattle.commands.specs.declared.request.Lengths.{Lengths}
 use Rattle.commands.specs.declared.seu.Command.{Command}
 use Rattle.commands.specs.declared.seu.Command.the-variants.{Known, Unknown}
-use Rattle.commands.specs.declared.seu.Does.{Does}
 use Rattle.commands.specs.declared.seu.Does.the-variants.{Read, Clear}
 use Rattle.commands.specs.Request.{lengths}
 

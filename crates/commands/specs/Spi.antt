@@ -5,9 +5,7 @@ use Rattle.bits.specs.Table.{Row, row, look}
 use Rattle.commands.specs.declared.request.Lengths.{Lengths}
 use Rattle.commands.specs.declared.spi.Command.{Command}
 use Rattle.commands.specs.declared.spi.Command.the-variants.{Known, Unknown}
-use Rattle.commands.specs.declared.spi.Does.{Does}
 use Rattle.commands.specs.declared.spi.Does.the-variants.{Write, Read, Go}
-use Rattle.commands.specs.declared.spi.Register.{Register}
 use Rattle.commands.specs.declared.spi.Register.the-variants.{Control, Freq, Ss, Data0, Data1, Data2, Data3}
 use Rattle.commands.specs.Request.{lengths}
 

@@ -2,8 +2,8 @@
 -- that happened to a, is a; and the record is sound and fits its slot. What stands behind a record in its slot is not read.
 -- Assumes nothing.
 use Prim.Native.Nat.{ℕ, _≤_}
-use mathlib.Core.Path.{_≡_, refl, sym, ap, _∙_}
-use mathlib.Core.Bool.{Bool, true}
+use mathlib.Core.Path.{_≡_, ap, _∙_}
+use mathlib.Core.Bool.{true}
 use mathlib.Core.List.{List, _++_}
 use native.Mathlib.Omega.{arith}
 use lib.ListN.{length}
@@ -13,9 +13,9 @@ use Rattle.chip.specs.Chip.{reaction}
 use Rattle.chip.specs.State.{inRange}
 use Rattle.chip.proofs.Fits.{Fits}
 use Rattle.chip.proofs.Laws.{id-stays}
-use Rattle.parts.specs.Words.{bytesOf, wordsOf}
+use Rattle.parts.specs.Words.{wordsOf}
 use Rattle.parts.proofs.Laws.{length-bytes, words-bytes}
-use Rattle.journal.specs.Image.{imageWords, stateOf, spelled}
+use Rattle.journal.specs.Image.{imageWords, stateOf}
 use Rattle.journal.specs.Record.{before, restored, sound}
 use Rattle.journal.proofs.Spelling.{image-words, state-image, image-spelled}
 

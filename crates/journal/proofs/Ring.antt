@@ -1,8 +1,8 @@
 -- The laws of the ring, over every format: a record pushed is the newest, the others are each one older; one given up, each is one newer.
 -- Assumes nothing.
-use Prim.Native.Nat.{ℕ, zero, suc, _+_, _*_, _-_, _/_, _%_, min, _≤_, _<_}
-use mathlib.Core.Path.{_≡_, refl, sym, ap, _∙_}
-use mathlib.Core.List.{List, [], _∷_, _++_}
+use Prim.Native.Nat.{ℕ, suc, _+_, _*_, _-_, _/_, _%_, min, _≤_, _<_}
+use mathlib.Core.Path.{_≡_, refl, ap, _∙_}
+use mathlib.Core.List.{List, _++_}
 use mathlib.Core.Bool.{Bool, true, false, cond, _&&_, false≢true}
 use mathlib.Core.Logic.{_⊎_, inl, inr, ⊎-elim}
 use native.Mathlib.Decide.{decLt}
@@ -10,12 +10,12 @@ use native.Mathlib.Nat.{eq-or-lt-of-le, mod-lt, mod-eq-of-lt, mod-eq-sub-mod, mo
 use native.Mathlib.Omega.{arith}
 use lib.ListN.{length, take, drop, getD, set, length-set}
 use lib.Seq.{getD-set-same, getD-set-other}
-use lib.Dec.{eqb, leb, ltb, lit<}
-use borrow.Author.Tests.{eq-eqb, ne-eqb, eqb-true, eqb-false, le-leb, leb-true, lt-ltb, ltb-true}
+use lib.Dec.{eqb, lit<}
+use borrow.Author.Tests.{eq-eqb, ne-eqb, eqb-true, le-leb, leb-true, lt-ltb, ltb-true}
 use Rattle.parts.specs.Parts.{part, put}
 use Rattle.parts.specs.Words.{wordsOf}
 use Rattle.parts.proofs.Laws.{length-put, part-put-front, part-put-before, part-put-after, getD-put-before, part-set}
-use Rattle.journal.specs.Layout.{Format, version1, headerBytes, slotBytes, sizeOf, header, firstOf, keptOf, wellFormed, placeOf, past, emptied, firstAfter, pushed, lowered}
+use Rattle.journal.specs.Layout.{Format, version1, sizeOf, header, firstOf, keptOf, wellFormed, placeOf, past, emptied, firstAfter, pushed, lowered}
 
 -- ---- a well-formed journal, as facts
 

@@ -1,7 +1,7 @@
 -- The laws of the image: a state is read back from its words, and a state has no other spelling. Assumes nothing.
 use Prim.Native.Nat.{ℕ, zero, suc, _+_, _*_, _/_, _%_, _≤_, _<_}
-use mathlib.Core.Path.{_≡_, refl, sym, ap, _∙_}
-use mathlib.Core.Bool.{Bool, true, false, _&&_}
+use mathlib.Core.Path.{_≡_, refl, ap, _∙_}
+use mathlib.Core.Bool.{Bool, true, false}
 use mathlib.Core.List.{List, [], _∷_}
 use native.Mathlib.Nat.{div-div-eq-div-mul}
 use native.Mathlib.Omega.{arith}
@@ -12,10 +12,9 @@ use borrow.Author.Tests.{eqb-true, eqb-false, lt-ltb, ltb-true}
 use Rattle.bits.specs.Bits.{bitOf, digit}
 use Rattle.chip.specs.declared.Adapter.{Adapter}
 use Rattle.chip.proofs.Fits.{Fits}
-use Rattle.registers.specs.declared.spi.Spi.{Spi}
 use Rattle.parts.specs.Words.{word}
 use Rattle.parts.proofs.Laws.{Words, none, more, word-digits, word-small, byte0, byte1, byte2, byte3, over3}
-use Rattle.journal.specs.Image.{flags, halves, imageWords, linkOf, controlOf, spiOf, gpioOf, dacOf, stateOf, spelled}
+use Rattle.journal.specs.Image.{flags, halves, imageWords, linkOf, controlOf, spiOf, dacOf, stateOf, spelled}
 use Rattle.journal.proofs.Ring.{both-true}
 
 -- the n elements of a list from place i

@@ -8,9 +8,7 @@ use registers::dac::Dac;
 use registers::gpio::Gpio;
 use registers::spi::Spi;
 ghost use mathlib.Core.Path.{_≡_};
-ghost use mathlib.Core.Bool.{Bool, _&&_};
 ghost use Prim.Native.Nat.{_/_, _%_, _*_};
-ghost use lib.ListN.{getD};
 ghost use Rattle.journal.specs.Image.{flags, imageWords, stateOf, spelled, linkOf, controlOf, spiOf, gpioOf, dacOf};
 
 fn flags_of(loop0: bool, loop1: bool, intenable: bool) -> u8

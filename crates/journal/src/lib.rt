@@ -8,7 +8,7 @@ ghost use Prim.Native.Nat.{_+_, _*_, _%_, _<_, _≤_, min};
 ghost use lib.ListN.{length};
 ghost use Rattle.chip.specs.Event.{Event};
 ghost use Rattle.parts.specs.Words.{wordsOf};
-ghost use Rattle.journal.specs.Layout.{version1, sizeOf, firstOf, keptOf, wellFormed, past, emptied, firstAfter, pushed, lowered};
+ghost use Rattle.journal.specs.Layout.{version1, sizeOf, keptOf, wellFormed, past, emptied, pushed, lowered};
 ghost use Rattle.journal.specs.Record.{before, restoredBy};
 
 pub struct Restored {
@@ -20,6 +20,26 @@ pub const SIZE: usize = 17408;
 
 const SLOTS: u8 = 64;
 
+const HEADER_BYTES: usize = 1024;
+
+const SLOT_BYTES: usize = 256;
+
+// The header's mark and its version, low byte first.
+const MARK0: u8 = 0x53;
+
+const MARK1: u8 = 0x43;
+
+const MARK2: u8 = 0x4A;
+
+const VERSION0: u8 = 1;
+
+const VERSION1: u8 = 0;
+
+// Where the header has the slot of the oldest record, and the kept number.
+const FIRST: usize = 5;
+
+pub const KEPT: usize = 6;
+
 // Length and header are those of a journal.
 pub fn is_well_formed(j: &[u8]) -> bool
     ensures { λ r. ⌜ r ≡ wellFormed version1 (now (j .entry)) ⌝ }
@@ -27,13 +47,13 @@ pub fn is_well_formed(j: &[u8]) -> bool
     if j.len() != SIZE {
         return false;
     }
-    let m0 = j[0] == 0x53;
-    let m1 = j[1] == 0x43;
-    let m2 = j[2] == 0x4A;
-    let v0 = j[3] == 1;
-    let v1 = j[4] == 0;
-    let first = j[5] < SLOTS;
-    let kept = j[6] <= SLOTS;
+    let m0 = j[0] == MARK0;
+    let m1 = j[1] == MARK1;
+    let m2 = j[2] == MARK2;
+    let v0 = j[3] == VERSION0;
+    let v1 = j[4] == VERSION1;
+    let first = j[FIRST] < SLOTS;
+    let kept = j[KEPT] <= SLOTS;
     m0 & m1 & m2 & v0 & v1 & first & kept
 }
 
@@ -42,7 +62,7 @@ pub fn empty(j: &mut [u8])
     requires { ⌜ length (now j) ≡ sizeOf version1 ⌝ }
     ensures { λ _. ⌜ now (j .exit) ≡ emptied version1 (now (j .entry)) ⌝ }
 {
-    let header = [0x53, 0x43, 0x4A, 1, 0, 0, 0];
+    let header = [MARK0, MARK1, MARK2, VERSION0, VERSION1, 0, 0];
     parts::store(j, 0, &header);
 }
 
@@ -50,7 +70,7 @@ pub fn empty(j: &mut [u8])
 fn place(first: u8, k: u8) -> usize
     ensures { λ r. ⌜ r ≡ 1024 + 256 * ((first + k) % 64) ⌝ }
 {
-    1024 + 256 * (((first as usize) + (k as usize)) % 64)
+    HEADER_BYTES + SLOT_BYTES * (((first as usize) + (k as usize)) % (SLOTS as usize))
 }
 
 fn first_after(first: u8, kept: u8) -> u8
@@ -76,15 +96,15 @@ pub fn push(j: &mut [u8], a: Adapter)
     requires { ⌜ wellFormed version1 (now j) ≡ true ⌝ }
     ensures { λ _. ⌜ ((e : Event) → now (j .exit) ≡ pushed version1 (before a e) (now (j .entry))) ⌝ }
 {
-    let first = j[5];
-    let kept = j[6];
+    let first = j[FIRST];
+    let kept = j[KEPT];
     let at = place(first, kept);
     let f = first_after(first, kept);
     let k = kept_after(kept);
     let words = image::words_of(a);
     parts::store_words(j, at, &words);
-    j[5] = f;
-    j[6] = k;
+    j[FIRST] = f;
+    j[KEPT] = k;
 }
 
 // The words of the newest record.
@@ -93,10 +113,10 @@ fn newest(j: &[u8]) -> [u32; 18]
     requires { ⌜ 0 < keptOf (now j) ⌝ }
     ensures { λ r. ⌜ r ≡ wordsOf 18 (past version1 (now (j .entry)) 0) ⌝ }
 {
-    let first = j[5];
-    let kept = j[6];
+    let first = j[FIRST];
+    let kept = j[KEPT];
     let at = place(first, kept - 1);
-    let end = at + 256;
+    let end = at + SLOT_BYTES;
     let mut words = [0u32; 18];
     parts::load_words(&j[at..end], &mut words);
     words
@@ -108,8 +128,8 @@ pub fn lower(j: &mut [u8])
     requires { ⌜ 0 < keptOf (now j) ⌝ }
     ensures { λ _. ⌜ now (j .exit) ≡ lowered (now (j .entry)) ⌝ }
 {
-    let kept = j[6];
-    j[6] = kept - 1;
+    let kept = j[KEPT];
+    j[KEPT] = kept - 1;
 }
 
 // What a step back makes of the state a: whether the newest record is sound, and the state that it restores.

@@ -6,7 +6,7 @@ use native.Mathlib.Numerals.{add-one}
 use native.Mathlib.Nat.{add-zero, div-div-eq-div-mul}
 use native.Mathlib.Omega.{arith}
 use lib.ListN.{length, take, drop, getD, set, length-append, length-take, length-drop, take-append-drop, List·getD-append}
-use lib.Seq.{take-suc, take-suc-set, take-all, take-at, drop-at, length-take-le, ext-getD, getD-take, getD-drop, getD-append-add, take-append-add, take-append-le, drop-append-le, drop-append-add, drop-drop, drop-set-lt}
+use lib.Seq.{take-suc, take-suc-set, take-all, take-at, drop-at, length-take-le, getD-take, take-append-add, take-append-le, drop-append-le, drop-append-add, drop-drop, drop-set-lt}
 use borrow.Rule.Slice.PartMut.{putMid}
 use Rattle.parts.specs.Parts.{part, put}
 use Rattle.parts.specs.Words.{word, wordBytes, bytesOf, frontWord, wordsOf}

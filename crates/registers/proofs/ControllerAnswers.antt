@@ -1,11 +1,9 @@
 -- What each command of the channel comes to, from facts that `search` finds in what a need knows.
-use Prim.Native.Nat.{ℕ, _%_}
-use mathlib.Core.Bool.{Bool, true, false}
+use Prim.Native.Nat.{ℕ}
 use mathlib.Core.Path.{_≡_, refl}
 use borrow.Author.Tests.{eq-eqb, ne-eqb}
 use Rattle.commands.specs.declared.request.Lengths.{Lengths}
 use Rattle.commands.specs.declared.request.Reply.{Reply}
-use Rattle.commands.specs.declared.request.Reply.the-variants.{Later}
 use Rattle.commands.specs.declared.request.Request.{Request}
 use Rattle.registers.specs.declared.controller.Answered.{Answered}
 use Rattle.commands.specs.declared.controller.Command.{Command}
@@ -14,7 +12,7 @@ use Rattle.registers.specs.declared.controller.Control.{Control}
 use Rattle.commands.specs.declared.controller.Does.{Does}
 use Rattle.commands.specs.declared.controller.Does.the-variants.{Write, Read}
 use Rattle.commands.specs.declared.controller.Register.{Register}
-use Rattle.commands.specs.Request.{granted, refusal, notEnabled, busy, cmdUnknown, lenWrong}
+use Rattle.commands.specs.Request.{granted, refusal, cmdUnknown, lenWrong}
 use Rattle.commands.specs.Controller.{controllerCommand}
 use Rattle.registers.specs.Controller.{actControl, controllerAnswer, writeControl, readControl, top, atTop}
 

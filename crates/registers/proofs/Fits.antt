@@ -1,12 +1,12 @@
 -- Every register fits its width, at power-on and after every answer, completion and sample; so does the value of every reply.
-use Prim.Native.Nat.{ℕ, zero, suc, _+_, _*_, _/_, _%_, _^_, _<_}
-use mathlib.Core.Bool.{Bool, true, false, not, _&&_, cond}
+use Prim.Native.Nat.{ℕ, zero, suc, _%_, _^_, _<_}
+use mathlib.Core.Bool.{Bool, true, false, not, _&&_}
 use mathlib.Core.List.{List, [], _∷_}
-use mathlib.Core.Path.{_≡_, refl, sym, ap, _∙_}
+use mathlib.Core.Path.{_≡_, refl, _∙_}
 use native.Mathlib.Omega.{arith}
 use lib.Dec.{eqb}
 use lib.ListN.{getD, set, length, length-set}
-use Rattle.bits.specs.Bits.{bitOf, digit, word}
+use Rattle.bits.specs.Bits.{digit}
 use Rattle.bits.proofs.Bits.{word-lt}
 use Rattle.bits.proofs.Tests.{either}
 use Rattle.commands.specs.declared.controller.Does.{Does as ControllerDoes}

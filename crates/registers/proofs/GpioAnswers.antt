@@ -1,11 +1,10 @@
 -- What each command of the channel comes to, from facts that `search` finds in what a need knows.
-use Prim.Native.Nat.{ℕ, _%_}
+use Prim.Native.Nat.{ℕ}
 use mathlib.Core.Bool.{Bool, true, false}
 use mathlib.Core.Path.{_≡_, refl}
 use borrow.Author.Tests.{eq-eqb, ne-eqb}
 use Rattle.commands.specs.declared.request.Lengths.{Lengths}
 use Rattle.commands.specs.declared.request.Reply.{Reply}
-use Rattle.commands.specs.declared.request.Reply.the-variants.{Later}
 use Rattle.commands.specs.declared.request.Request.{Request}
 use Rattle.registers.specs.declared.gpio.Answered.{Answered}
 use Rattle.commands.specs.declared.gpio.Command.{Command}
@@ -14,7 +13,7 @@ use Rattle.registers.specs.declared.gpio.Gpio.{Gpio}
 use Rattle.commands.specs.declared.gpio.Does.{Does}
 use Rattle.commands.specs.declared.gpio.Does.the-variants.{Write, Read, ReadDatain}
 use Rattle.commands.specs.declared.gpio.Register.{Register}
-use Rattle.commands.specs.Request.{granted, refusal, notEnabled, busy, cmdUnknown, lenWrong}
+use Rattle.commands.specs.Request.{granted, refusal, notEnabled, cmdUnknown, lenWrong}
 use Rattle.commands.specs.Gpio.{gpioCommand}
 use Rattle.registers.specs.Gpio.{actGpio, gpioAnswer, writeGpio, readGpio}
 

@@ -1,8 +1,8 @@
 -- What holds of the registers whatever is asked: the ranges of number 6 are kept, and a channel that is all 0 is the zero channel.
-use Prim.Native.Nat.{ℕ, zero, suc, _+_, _*_, _/_, _%_, _<_}
-use mathlib.Core.Bool.{Bool, true, false, not, _&&_, _||_, cond}
+use Prim.Native.Nat.{ℕ, zero, suc}
+use mathlib.Core.Bool.{Bool, true, false, _&&_, _||_, cond}
 use mathlib.Core.List.{List, [], _∷_}
-use mathlib.Core.Path.{_≡_, refl, sym, ap, ap₂, _∙_}
+use mathlib.Core.Path.{_≡_, refl, sym, ap₂}
 use native.Mathlib.Omega.{arith}
 use borrow.Author.Tests.{eq-eqb, eqb-true}
 use lib.Dec.{eqb}
@@ -18,7 +18,7 @@ use Rattle.registers.specs.declared.controller.Answered.{Answered as Con
 use Rattle.registers.specs.declared.controller.Control.{Control}
 use Rattle.registers.specs.declared.gpio.Gpio.{Gpio}
 use Rattle.registers.specs.declared.spi.Spi.{Spi}
-use Rattle.registers.specs.Controller.{kept, controlZero, readControl, writeControl, doControl, controllerAnswer, controlInRange}
+use Rattle.registers.specs.Controller.{kept, controlZero, writeControl, doControl, controllerAnswer, controlInRange}
 use Rattle.registers.specs.Gpio.{gpioZero, gpioAnswer, gpioIsZero, refuseGpio}
 use Rattle.registers.specs.Spi.{spiZero, spiAnswer, spiIsZero, refuseSpi}
 use Rattle.registers.proofs.Cases.{controller-cases}

@@ -1,14 +1,13 @@
 -- The mask expressions of a pin sample are the words that the rules spell line by line.
 use Prim.Native.Nat.{ℕ, _-_, _^_, _<_}
-use mathlib.Core.Bool.{Bool, true, false, not, _&&_, _||_, cond}
-use mathlib.Core.Path.{_≡_, refl, sym, ap, _∙_}
+use mathlib.Core.Bool.{Bool, true, false, not, _&&_, _||_}
+use mathlib.Core.Path.{_≡_, refl}
 use native.Mathlib.Omega.{arith}
 use borrow.Author.Tests.{eq-eqb, ne-eqb}
 use lib.Bits.{bitAnd, bitOr, and-lt, or-lt}
-use lib.Dec.{eqb}
 use lib.Pow.{ones-sub-lt}
 use Rattle.bits.specs.Bits.{bitOf, word}
-use Rattle.bits.proofs.Bits.{bit-and, bit-or, bit-not, is-word, word-same}
+use Rattle.bits.proofs.Bits.{bit-and, bit-or, bit-not, is-word}
 use Rattle.bits.proofs.Masks.{bit-none, chosen-by}
 use Rattle.bits.proofs.Taut.{taut3, taut4}
 use Rattle.registers.specs.declared.gpio.Gpio.{Gpio}

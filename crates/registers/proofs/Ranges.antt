@@ -1,8 +1,8 @@
 -- The masks of a register's kept bits, and the tests that all is 0.
-use Prim.Native.Nat.{ℕ, _+_, _-_, _*_, _/_, _%_, _^_, _<_}
-use mathlib.Core.Bool.{Bool, not, _&&_}
-use mathlib.Core.List.{List, [], _∷_, foldl}
-use mathlib.Core.Path.{_≡_, refl, sym, ap, ap₂, _∙_}
+use Prim.Native.Nat.{ℕ, _*_, _/_, _%_, _<_}
+use mathlib.Core.Bool.{not, _&&_}
+use mathlib.Core.List.{[], _∷_, foldl}
+use mathlib.Core.Path.{_≡_, refl, ap, ap₂, _∙_}
 use native.Mathlib.Omega.{arith}
 use lib.Bits.{bitAnd, bitOr, and-mask, and-high}
 use lib.Dec.{eqb}
@@ -13,7 +13,7 @@ use Rattle.bits.proofs.Masks.{or-none, none-set}
 use Rattle.bits.proofs.Tests.{eqb-same}
 use Rattle.registers.specs.declared.controller.Control.{Control}
 use Rattle.commands.specs.declared.controller.Register.{Register}
-use Rattle.commands.specs.declared.controller.Register.the-variants.{Crb, Crc, Crd}
+use Rattle.commands.specs.declared.controller.Register.the-variants.{Crb, Crd}
 use Rattle.registers.specs.declared.gpio.Gpio.{Gpio}
 use Rattle.commands.specs.declared.gpio.Register.{Register as GpioRegister}
 use Rattle.commands.specs.declared.gpio.Register.the-variants.{Intenable}

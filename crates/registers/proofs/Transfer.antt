@@ -2,14 +2,14 @@
 use Prim.Native.Nat.{ℕ, _+_, _-_, _*_, _/_, _%_, _^_, _<_, _≤_}
 use mathlib.Core.Bool.{Bool, cond}
 use mathlib.Core.List.{List, [], _∷_}
-use mathlib.Core.Path.{_≡_, refl, sym, ap, _∙_}
+use mathlib.Core.Path.{_≡_, refl, sym, _∙_}
 use native.Mathlib.Nat.{mod-eq-of-lt}
 use native.Mathlib.Omega.{arith}
 use borrow.Author.Tests.{eq-eqb, ne-eqb, le-ltb}
 use lib.Bits.{bitAnd, bitOr, and-mask}
-use lib.Dec.{eqb, ltb}
+use lib.Dec.{ltb}
 use lib.ListN.{getD}
-use lib.Pow.{pow-lt, pow-pos}
+use lib.Pow.{pow-lt}
 use Rattle.bits.specs.Bits.{bitOf, word}
 use Rattle.bits.proofs.Bits.{is-word, word-same}
 use Rattle.bits.proofs.Masks.{bit-none, bit-below, chosen-by}
@@ -18,7 +18,7 @@ use Rattle.commands.specs.declared.request.Reply.{Reply}
 use Rattle.registers.specs.declared.spi.Answered.{Answered}
 use Rattle.registers.specs.declared.spi.Spi.{Spi}
 use Rattle.commands.specs.Request.{granted}
-use Rattle.registers.specs.Spi.{transferLength, dataBit, completedBit, completedWord, spiCompleted}
+use Rattle.registers.specs.Spi.{transferLength, completedBit, completedWord, spiCompleted}
 
 module _ (control : ℕ) where
   pub length-bits : bitAnd control 127 ≡ control % 128

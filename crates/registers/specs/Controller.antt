@@ -1,7 +1,6 @@
 -- Channel 0x00, the controller.
 use Prim.Native.Nat.{ℕ, _*_, _/_, _%_}
-use mathlib.Core.Bool.{Bool, not, _&&_, cond}
-use mathlib.Core.List.{List, [], _∷_}
+use mathlib.Core.Bool.{Bool, _&&_, cond}
 use lib.Dec.{eqb}
 use Rattle.bits.specs.Bits.{bitOf}
 use Rattle.commands.specs.declared.request.Request.{Request}

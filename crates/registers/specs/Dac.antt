@@ -1,7 +1,6 @@
 -- Channel 0x15, the four DAC outputs.
 use Prim.Native.Nat.{ℕ, _%_}
-use mathlib.Core.Bool.{Bool, cond}
-use mathlib.Core.List.{List, [], _∷_}
+use mathlib.Core.Bool.{cond}
 use lib.Dec.{eqb}
 use Rattle.commands.specs.declared.request.Request.{Request}
 use Rattle.registers.specs.declared.dac.Answered.{Answered}

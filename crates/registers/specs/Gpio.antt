@@ -1,7 +1,7 @@
 -- Channel 0x02, the 32 parallel lines.
 use Prim.Native.Nat.{ℕ}
-use mathlib.Core.Bool.{Bool, true, false, not, cond}
-use mathlib.Core.List.{List, [], _∷_}
+use mathlib.Core.Bool.{Bool, false, not, cond}
+use mathlib.Core.List.{[], _∷_}
 use lib.Dec.{eqb}
 use Rattle.bits.specs.Bits.{allZero, bitOf, digit}
 use Rattle.commands.specs.declared.request.Request.{Request}

@@ -1,6 +1,6 @@
 -- A pin sample, line by line: levels of the 32 lines, and an edge kind, 0 the system clock, 1 the strobe rising, 2 the strobe falling.
 use Prim.Native.Nat.{ℕ}
-use mathlib.Core.Bool.{Bool, true, false, not, _&&_, _||_, cond}
+use mathlib.Core.Bool.{Bool, not, _&&_, _||_, cond}
 use lib.Dec.{eqb}
 use Rattle.bits.specs.Bits.{bitOf, word}
 use Rattle.registers.specs.declared.gpio.Gpio.{Gpio}

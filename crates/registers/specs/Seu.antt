@@ -1,7 +1,6 @@
 -- Channel 0x13, the counter of single event upsets.
 use Prim.Native.Nat.{ℕ}
 use mathlib.Core.Bool.{Bool, not, cond}
-use mathlib.Core.List.{List, [], _∷_}
 use lib.Dec.{eqb}
 use Rattle.commands.specs.declared.request.Request.{Request}
 use Rattle.registers.specs.declared.seu.Answered.{Answered}

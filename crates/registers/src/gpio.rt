@@ -136,10 +136,10 @@ pub fn zero() -> Gpio
 }
 
 // A disabled channel holds zeros.
-pub fn if_enabled(enabled: bool, g: Gpio) -> Gpio
-    ensures { λ r. ⌜ r ≡ cond enabled g gpioZero ⌝ }
+pub fn if_enabled(on: bool, g: Gpio) -> Gpio
+    ensures { λ r. ⌜ r ≡ cond on g gpioZero ⌝ }
 {
-    if enabled { g } else { zero() }
+    if on { g } else { zero() }
 }
 
 pub fn is_zero(g: Gpio) -> bool

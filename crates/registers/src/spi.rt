@@ -137,10 +137,10 @@ pub fn zero() -> Spi
 }
 
 // A disabled channel holds zeros, and its open GO is dropped.
-pub fn if_enabled(enabled: bool, s: Spi) -> Spi
-    ensures { λ r. ⌜ r ≡ cond enabled s spiZero ⌝ }
+pub fn if_enabled(on: bool, s: Spi) -> Spi
+    ensures { λ r. ⌜ r ≡ cond on s spiZero ⌝ }
 {
-    if enabled { s } else { zero() }
+    if on { s } else { zero() }
 }
 
 pub fn is_zero(s: Spi) -> bool

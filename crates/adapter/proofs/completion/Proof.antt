@@ -1,5 +1,5 @@
 -- `adapter::completion` meets its contract. Assumes nothing.
-use mathlib.Core.Path.{_≡_, refl}
+use mathlib.Core.Path.{refl}
 use borrow.Author.Needs.{needs}
 use Rattle.chip.specs.Event.{Event, completion}
 use Rattle.adapter.proofs.Cases.{refuses, passes, passing, Passing, keepable, received-long}

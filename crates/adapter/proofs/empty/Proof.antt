@@ -1,10 +1,7 @@
 -- `adapter::empty` meets its contract. Assumes nothing.
-use mathlib.Core.Path.{_≡_, ap}
-use mathlib.Core.List.{List}
-use Prim.Native.Nat.{ℕ}
 use borrow.Author.Tests.{eq-eqb, ne-eqb}
 use borrow.Author.Needs.{needs}
-use Rattle.adapter.specs.Calls.{cleared, madeEmpty}
+use Rattle.adapter.specs.Calls.{madeEmpty}
 use Rattle.adapter.proofs.empty.Statement.{statement}
 use Rattle.adapter.proofs.empty.Tie as tie
 

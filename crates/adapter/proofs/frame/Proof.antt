@@ -1,5 +1,4 @@
 -- `adapter::frame` meets its contract. Assumes nothing.
-use mathlib.Core.Path.{_≡_, refl}
 use borrow.Author.Needs.{needs}
 use Rattle.chip.specs.Event.{Event, frame}
 use Rattle.adapter.proofs.Cases.{refuses, passes, passing, Passing, keepable, body-long}

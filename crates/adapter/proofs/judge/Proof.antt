@@ -1,5 +1,4 @@
 -- `adapter::judge` meets its contract. Assumes nothing.
-use mathlib.Core.Path.{_≡_}
 use borrow.Author.Needs.{needs}
 use Rattle.adapter.proofs.judge.Statement.{statement}
 use Rattle.adapter.proofs.judge.Tie as tie

@@ -1,5 +1,4 @@
 -- `adapter::record_event` meets its contract. Assumes nothing.
-use mathlib.Core.Path.{_≡_, ap}
 use borrow.Author.Needs.{needs}
 use Rattle.journal.proofs.Ring.{size-in}
 use Rattle.adapter.proofs.Cases.{empties, pushes}

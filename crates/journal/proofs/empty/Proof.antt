@@ -1,5 +1,4 @@
 -- `journal::empty` meets its contract. Assumes nothing.
-use mathlib.Core.Path.{_≡_}
 use borrow.Author.Needs.{needs}
 use Rattle.journal.specs.Layout.{emptied}
 use Rattle.journal.proofs.empty.Statement.{statement}

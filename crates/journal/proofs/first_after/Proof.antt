@@ -1,5 +1,4 @@
 -- `journal::first_after` meets its contract. Assumes nothing.
-use mathlib.Core.Path.{_≡_}
 use borrow.Author.Tests.{eq-eqb, ne-eqb}
 use borrow.Author.Needs.{needs}
 use Rattle.journal.proofs.first_after.Statement.{statement}

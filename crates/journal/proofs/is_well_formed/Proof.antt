@@ -1,5 +1,4 @@
 -- `journal::is_well_formed` meets its contract. Assumes nothing.
-use mathlib.Core.Path.{_≡_}
 use borrow.Author.Tests.{eq-eqb, ne-eqb}
 use borrow.Author.Needs.{needs}
 use Rattle.journal.specs.Layout.{wellFormed}

@@ -1,5 +1,5 @@
 -- `journal::lower` meets its contract. Assumes nothing.
-use mathlib.Core.Path.{_≡_, refl}
+use mathlib.Core.Path.{refl}
 use borrow.Author.Needs.{needs}
 use Rattle.journal.specs.Layout.{lowered}
 use Rattle.journal.proofs.Ring.{journal-needs}

@@ -1,7 +1,5 @@
 -- `journal::newest` meets its contract: the words are read from the newest record's slot. Assumes nothing.
-use Prim.Native.Nat.{ℕ, _+_, _-_, _*_, _%_}
-use mathlib.Core.Path.{_≡_, refl, sym, ap, _∙_}
-use native.Mathlib.Omega.{arith}
+use Prim.Native.Nat.{_-_}
 use borrow.Author.Needs.{needs}
 use Rattle.journal.proofs.Ring.{journal-needs, newest-read}
 use Rattle.journal.proofs.newest.Statement.{statement}

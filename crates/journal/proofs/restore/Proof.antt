@@ -1,5 +1,4 @@
 -- `journal::restore` meets its contract. Assumes nothing.
-use mathlib.Core.Path.{_≡_}
 use borrow.Author.Needs.{needs}
 use Rattle.journal.specs.Record.{restored, sound}
 use Rattle.journal.proofs.restore.Statement.{statement}

@@ -1,5 +1,4 @@
 -- `journal::image::state_of` meets its contract: each part is the part that its words spell. Assumes nothing.
-use mathlib.Core.Path.{_≡_}
 use borrow.Author.Needs.{needs}
 use Rattle.journal.specs.Image.{stateOf}
 use Rattle.journal.proofs.image.state_of.Statement.{statement}

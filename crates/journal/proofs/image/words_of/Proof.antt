@@ -1,5 +1,4 @@
 -- `journal::image::words_of` meets its contract: each word is the one of its fields. Assumes nothing.
-use mathlib.Core.Path.{_≡_}
 use borrow.Author.Needs.{needs}
 use Rattle.journal.specs.Image.{imageWords}
 use Rattle.journal.proofs.image.words_of.Statement.{statement}

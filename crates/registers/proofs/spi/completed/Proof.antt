@@ -1,5 +1,4 @@
 use borrow.Author.Needs.{needs}
-use mathlib.Core.Path.{refl}
 use Rattle.registers.proofs.Transfer.{merged-word, completed-words}
 use Rattle.registers.proofs.spi.completed.Statement.{statement}
 use Rattle.registers.proofs.spi.completed.Tie as tie

@@ -14,5 +14,5 @@ filled-spec =
     (λ c. search needs)
     (λ c. search needs)
     (λ c. search (shifted, pow-pos, needs))
-    (λ c. filled-low _ _ (c .before .if1 .left) (c .if2 .taken))
-    (λ c. filled-all _ _ (c .before .if1 .left) (c .if2 .left)))
+    (λ c. filled-low _ _ (c .before .if1 .left) (omega arith))
+    (λ c. filled-all _ _ (c .before .if1 .left) (omega arith)))

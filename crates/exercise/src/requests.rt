@@ -1,0 +1,28 @@
+// A request handed to the chip on port 0, and its answer printed.
+use crate::print;
+use chip::Adapter;
+use chip::Reaction;
+use chip::events;
+
+pub fn show(r: Reaction) -> Adapter {
+    print::line(r);
+    let after = r.adapter;
+    after
+}
+
+// TRN 0x01, with the frame number that the chip expects.
+pub fn ask(a: Adapter, ch: u8, len: u8, cmd: u8, value: u32) -> Adapter {
+    let body = [
+        0x00,
+        a.link.receive.0 % 8 * 2,
+        0x01,
+        ch,
+        len,
+        cmd,
+        (value / 0x10000 % 0x100) as u8,
+        (value / 0x1000000) as u8,
+        (value % 0x100) as u8,
+        (value / 0x100 % 0x100) as u8,
+    ];
+    show(events::on_frame(a, 0, &body))
+}

@@ -1,0 +1,26 @@
+-- `steps::upsets` is safe and ends. Assumes nothing.
+use Prim.Native.Nat.{_≤_, _-_}
+use borrow.Author.Needs.{needs}
+use Rattle.steps.proofs.upsets.Statement.{statement}
+use Rattle.steps.proofs.upsets.Tie as tie
+
+abbrev Inv-loop : tie.InvT-loop
+Inv-loop journal₀ count b₀ number₀ i₀ journal b number i = i ≤ count
+
+abbrev μ-loop : tie.MeasureT-loop
+μ-loop journal₀ count b₀ number₀ i₀ journal b number i = count - i
+
+pub upsets-spec : {M : Type 1} → statement M
+upsets-spec =
+    tie.close
+    (tie.spec
+    Inv-loop
+    μ-loop
+    (λ c. search needs)
+    (λ c. search needs)
+    (λ c κs. search needs)
+    (λ c. search needs)
+    (λ c. search needs)
+    (λ c. search needs)
+    (λ c κs. search needs)
+    (λ c. search needs))
