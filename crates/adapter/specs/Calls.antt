@@ -7,7 +7,7 @@ use lib.Dec.{eqb, ltb}
 use Rattle.chip.specs.declared.Adapter.{Adapter}
 use Rattle.chip.specs.declared.Reaction.{Reaction}
 use Rattle.chip.specs.Event.{Event}
-use Rattle.chip.specs.Numbers.{noFrame}
+use Rattle.numbers.specs.Numbers.{noFrame, badJournal, noneKept, badState, badId}
 use Rattle.chip.specs.Chip.{reaction, acceptedReset}
 use Rattle.chip.specs.State.{powerOn, inRange}
 use Rattle.parts.specs.Parts.{put}
@@ -18,7 +18,6 @@ use Rattle.adapter.specs.declared.Created.{Created}
 use Rattle.adapter.specs.declared.KeptNumber.{KeptNumber}
 use Rattle.adapter.specs.declared.Verdict.{Verdict}
 use Rattle.adapter.specs.declared.Verdict.the-variants.{Refused, Passed}
-use Rattle.adapter.specs.Numbers.{badJournal, noneKept, badState, badId}
 use Rattle.adapter.specs.Refusals.{verdict}
 
 -- ---- creation

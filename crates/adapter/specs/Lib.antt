@@ -1,4 +1,3 @@
 -- The public calls: document 01's numbers, what refuses a call, and what each call gives and leaves.
-pub mod Numbers
 pub mod Refusals
 pub mod Calls

@@ -10,7 +10,7 @@ use Rattle.chip.specs.State.{inRange}
 use Rattle.journal.specs.Layout.{version1, wellFormed}
 use Rattle.adapter.specs.declared.Verdict.{Verdict}
 use Rattle.adapter.specs.declared.Verdict.the-variants.{Refused, Passed}
-use Rattle.adapter.specs.Numbers.{shortOutput, badBody, badArgument, badJournal, badState}
+use Rattle.numbers.specs.Numbers.{shortOutput, badBody, badArgument, badJournal, badState}
 
 -- port not 0 or 1, edge kind over 2, or completion not 16 bytes
 abbrev pub wrongArgument : Event → Bool

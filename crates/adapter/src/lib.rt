@@ -1,6 +1,14 @@
 // The adapter as its users call it: every refusal in document 01's order, every event kept in the journal, steps back.
 use chip::Adapter;
 use chip::Reaction;
+use numbers::BAD_ARGUMENT;
+use numbers::BAD_BODY;
+use numbers::BAD_ID;
+use numbers::BAD_JOURNAL;
+use numbers::BAD_STATE;
+use numbers::NO_FRAME;
+use numbers::NONE_KEPT;
+use numbers::SHORT_OUTPUT;
 ghost use mathlib.Core.Path.{_≡_};
 ghost use mathlib.Core.Bool.{true, not};
 ghost use lib.Dec.{ltb};
@@ -40,22 +48,6 @@ pub enum Verdict {
     Passed,
 }
 
-const SHORT_OUTPUT: u8 = 1;
-
-const BAD_BODY: u8 = 2;
-
-const BAD_ARGUMENT: u8 = 3;
-
-const BAD_JOURNAL: u8 = 4;
-
-const NONE_KEPT: u8 = 5;
-
-const BAD_STATE: u8 = 6;
-
-const BAD_ID: u8 = 7;
-
-const DONE: u8 = 17;
-
 // A new adapter for a chip of this ID.
 pub fn create(id: u32) -> Created
     ensures { λ r. ⌜ r ≡ created id ⌝ }
@@ -69,7 +61,7 @@ pub fn create(id: u32) -> Created
     }
     let adapter = chip::state::power_on(id);
     Created {
-        number: DONE,
+        number: NO_FRAME,
         adapter: adapter,
     }
 }
@@ -82,7 +74,7 @@ pub fn empty(journal: &mut [u8]) -> u8
         return BAD_JOURNAL;
     }
     journal::empty(journal);
-    DONE
+    NO_FRAME
 }
 
 // How many events a journal can take back.
@@ -91,7 +83,7 @@ pub fn kept(journal: &[u8]) -> KeptNumber
 {
     if journal::is_well_formed(journal) {
         return KeptNumber {
-            number: DONE,
+            number: NO_FRAME,
             kept: journal[journal::KEPT],
         };
     }
@@ -262,7 +254,7 @@ pub fn step_back(a: Adapter, journal: &mut [u8]) -> Answer
                 let before = back.adapter;
                 return Answer {
                     adapter: before,
-                    number: DONE,
+                    number: NO_FRAME,
                     port: 0,
                     length: 0,
                 };

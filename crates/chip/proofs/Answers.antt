@@ -22,7 +22,7 @@ use Rattle.registers.specs.Gpio.{gpioAnswer}
 use Rattle.registers.specs.Seu.{seuAnswer}
 use Rattle.registers.specs.ChipId.{idAnswer}
 use Rattle.registers.specs.Dac.{dacAnswer}
-use Rattle.chip.specs.Numbers.{noFrame}
+use Rattle.numbers.specs.Numbers.{noFrame}
 use Rattle.chip.specs.State.{withControl, withSpi, withGpio, withDac, withSeu}
 use Rattle.chip.specs.Answer.{gives}
 use Rattle.chip.specs.Request.{requestOf, onChannel, answered, replies, finished, requested}

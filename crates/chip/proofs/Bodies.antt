@@ -10,7 +10,7 @@ use Rattle.bits.specs.Bits.{bitOf}
 use Rattle.commands.specs.declared.request.Request.{Request}
 use Rattle.commands.specs.declared.request.Reply.{Reply}
 use Rattle.registers.specs.Controller.{spiEnabled, gpioEnabled, seuEnabled, idEnabled}
-use Rattle.chip.specs.Numbers.{noFrame}
+use Rattle.numbers.specs.Numbers.{noFrame}
 use Rattle.chip.specs.Event.{Event, EventFits}
 use Rattle.chip.specs.Answer.{padded, sends, gives}
 use Rattle.chip.specs.Link.{acknowledgeControl, rejectControl, replyControl}

@@ -12,7 +12,7 @@ use lib.ListN.{length, getD, take, drop, length-drop}
 use lib.Seq.{take-all}
 use Rattle.bits.specs.Bits.{bitOf}
 use Rattle.bits.proofs.Bits.{bit-test}
-use Rattle.chip.specs.Numbers.{otherAddress, otherPort, otherControl, wrongLength}
+use Rattle.numbers.specs.Numbers.{otherAddress, otherPort, otherControl, wrongLength}
 use Rattle.chip.specs.Answer.{sends, gives}
 use Rattle.chip.specs.Link.{acknowledgeControl, rejectControl, replyControl, receiveNumber, receiveUp, sendUp, numberIn, connected, reset, looped, inLoopback}
 use Rattle.chip.specs.Request.{byteOf, replies, requested}

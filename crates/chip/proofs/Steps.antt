@@ -22,7 +22,8 @@ use Rattle.registers.specs.Seu.{seuAnswer}
 use Rattle.registers.specs.ChipId.{idAnswer}
 use Rattle.registers.specs.Dac.{dacAnswer}
 use Rattle.chip.specs.Event.{Event, frame, completion, sample, upset}
-use Rattle.chip.specs.Numbers.{address, otherAddress, otherPort, otherControl, wrongLength, noFrame, notBusy, linesDisabled, spiChannel, gpioChannel, noTransaction, interruptTransaction, interruptLength}
+use Rattle.numbers.specs.Numbers.{otherAddress, otherPort, otherControl, wrongLength, noFrame, notBusy, linesDisabled}
+use Rattle.chip.specs.Numbers.{address, spiChannel, gpioChannel, noTransaction, interruptTransaction, interruptLength}
 use Rattle.chip.specs.State.{withControl, withSpi, withGpio, withDac, withSeu}
 use Rattle.chip.specs.Answer.{sends, gives}
 use Rattle.chip.specs.Link.{rejectControl, acknowledgeControl, receiveNumber, receiveUp, numberIn, connected, reset, looped, inLoopback}

@@ -7,7 +7,8 @@ use Rattle.registers.specs.Controller.{gpioEnabled}
 use Rattle.registers.specs.Spi.{spiBusy, spiCompleted}
 use Rattle.registers.specs.Pins.{gpioSampled}
 use Rattle.chip.specs.Event.{Event, frame, completion, sample, upset}
-use Rattle.chip.specs.Numbers.{notBusy, linesDisabled, noFrame, spiChannel, gpioChannel, interruptTransaction, interruptLength}
+use Rattle.numbers.specs.Numbers.{notBusy, linesDisabled, noFrame}
+use Rattle.chip.specs.Numbers.{spiChannel, gpioChannel, interruptTransaction, interruptLength}
 use Rattle.chip.specs.State.{withSpi, withGpio, withSeu}
 use Rattle.chip.specs.Answer.{gives}
 use Rattle.chip.specs.Request.{fourBytes, replies, finished}

@@ -4,7 +4,8 @@ use mathlib.Core.Bool.{Bool, not, _&&_, _||_, cond}
 use mathlib.Core.List.{List, [], _∷_}
 use lib.Dec.{eqb}
 use lib.ListN.{length, getD, drop}
-use Rattle.chip.specs.Numbers.{address, otherAddress, otherPort, otherControl, wrongLength}
+use Rattle.numbers.specs.Numbers.{otherAddress, otherPort, otherControl, wrongLength}
+use Rattle.chip.specs.Numbers.{address}
 use Rattle.bits.specs.Bits.{bitOf}
 use Rattle.chip.specs.Answer.{sends, gives}
 use Rattle.chip.specs.Link.{receiveNumber, receiveUp, numberIn, rejectControl, acknowledgeControl, connected, reset, looped, inLoopback}

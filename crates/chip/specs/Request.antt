@@ -17,7 +17,8 @@ use Rattle.registers.specs.Gpio.{gpioAnswer}
 use Rattle.registers.specs.Seu.{seuAnswer}
 use Rattle.registers.specs.ChipId.{idAnswer}
 use Rattle.registers.specs.Dac.{dacAnswer}
-use Rattle.chip.specs.Numbers.{address, noFrame, noTransaction, interruptTransaction}
+use Rattle.numbers.specs.Numbers.{noFrame}
+use Rattle.chip.specs.Numbers.{address, noTransaction, interruptTransaction}
 use Rattle.chip.specs.State.{withControl, withSpi, withGpio, withDac, withSeu}
 use Rattle.chip.specs.Answer.{sends, gives}
 use Rattle.chip.specs.Link.{replyControl, sendUp}

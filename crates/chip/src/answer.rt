@@ -6,22 +6,6 @@ ghost use Rattle.chip.specs.Answer.{padded, sends, gives};
 use crate::Adapter;
 use crate::Reaction;
 
-pub(crate) const SENT: u8 = 0;
-
-pub(crate) const OTHER_ADDRESS: u8 = 11;
-
-pub(crate) const OTHER_PORT: u8 = 12;
-
-pub(crate) const OTHER_CONTROL: u8 = 13;
-
-pub(crate) const WRONG_LENGTH: u8 = 14;
-
-pub(crate) const NOT_BUSY: u8 = 15;
-
-pub(crate) const LINES_DISABLED: u8 = 16;
-
-pub(crate) const NO_FRAME: u8 = 17;
-
 // A body at the front of 16 bytes, the rest 0.
 fn padded_body(body: &[u8]) -> [u8; 16]
     requires { ⌜ length (now body) ≤ 16 ⌝ }
@@ -44,7 +28,7 @@ pub(crate) fn send(a: Adapter, port: u8, body: &[u8]) -> Reaction
     let bytes = padded_body(body);
     Reaction {
         adapter: a,
-        number: SENT,
+        number: numbers::SENT,
         port: port,
         length: body.len() as u8,
         body: bytes,

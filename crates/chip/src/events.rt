@@ -70,7 +70,7 @@ pub fn on_completion(a: Adapter, received: &[u8]) -> Reaction
     let s = a.spi;
     let go = s.go;
     if go == 0 {
-        return answer::give(a, answer::NOT_BUSY);
+        return answer::give(a, numbers::NOT_BUSY);
     }
     let x = spi::completed(s, received_words(received));
     let mut b = a;
@@ -101,10 +101,10 @@ pub fn on_sample(a: Adapter, levels: u32, kind: u8) -> Reaction
                 after.ints,
             )
         } else {
-            answer::give(b, answer::NO_FRAME)
+            answer::give(b, numbers::NO_FRAME)
         }
     } else {
-        answer::give(a, answer::LINES_DISABLED)
+        answer::give(a, numbers::LINES_DISABLED)
     }
 }
 
@@ -114,5 +114,5 @@ pub fn on_upset(a: Adapter) -> Reaction
 {
     let mut b = a;
     b.seu = std::num::wrapping_add_u32(a.seu, 1);
-    answer::give(b, answer::NO_FRAME)
+    answer::give(b, numbers::NO_FRAME)
 }

@@ -83,7 +83,7 @@ fn command(a: Adapter, b: Adapter, port: u8, body: &[u8]) -> Reaction
         let acknowledgement = [link::ADDRESS, link::acknowledge_control(body[1])];
         answer::send(b, port, &acknowledgement)
     } else {
-        answer::give(a, answer::WRONG_LENGTH)
+        answer::give(a, numbers::WRONG_LENGTH)
     }
 }
 
@@ -109,10 +109,10 @@ fn carry(a: Adapter, port: u8, body: &[u8]) -> Reaction
         return answer::send(a, port, body);
     }
     if port != a.link.port {
-        return answer::give(a, answer::OTHER_PORT);
+        return answer::give(a, numbers::OTHER_PORT);
     }
     if body.len() - 2 != INFORMATION {
-        return answer::give(a, answer::WRONG_LENGTH);
+        return answer::give(a, numbers::WRONG_LENGTH);
     }
     in_order(a, port, body[1], &body[2..])
 }
@@ -123,7 +123,7 @@ pub(crate) fn check(a: Adapter, port: u8, body: &[u8]) -> Reaction
     ensures { λ r. ⌜ r ≡ onFrame a port (now (body .entry)) ⌝ }
 {
     if body[0] != link::ADDRESS {
-        return answer::give(a, answer::OTHER_ADDRESS);
+        return answer::give(a, numbers::OTHER_ADDRESS);
     }
     let control = body[1];
     if is_connect(control) {
@@ -136,7 +136,7 @@ pub(crate) fn check(a: Adapter, port: u8, body: &[u8]) -> Reaction
         return command(a, link::loop_back(a, port), port, body);
     }
     if control & UNNUMBERED != 0 {
-        return answer::give(a, answer::OTHER_CONTROL);
+        return answer::give(a, numbers::OTHER_CONTROL);
     }
     carry(a, port, body)
 }

@@ -203,7 +203,7 @@ pub(crate) fn finish(a: Adapter, trn: u8, ch: u8, told: Reply) -> Reaction
             length,
             value,
         } => reply(a, trn, ch, error, length, value),
-        Reply::Later => answer::give(a, answer::NO_FRAME),
+        Reply::Later => answer::give(a, numbers::NO_FRAME),
     }
 }
 
