@@ -1,24 +1,27 @@
 -- The laws of the public calls, for what stands above them: what an event that is not refused leaves to be taken back, and what a step
 -- back makes of it. A journal that is well formed stays so. Assumes nothing.
 use Prim.Native.Nat.{ℕ, suc, _+_, _-_, min, _<_}
-use mathlib.Core.Path.{_≡_, refl}
+use mathlib.Core.Path.{_≡_, refl, ap}
 use mathlib.Core.Bool.{Bool, true, false, not, cond}
 use mathlib.Core.List.{List, _++_}
 use lib.ListN.{length}
 use lib.Dec.{ltb, lit<}
 use borrow.Author.Tests.{eq-eqb, ne-eqb}
 use Rattle.chip.specs.declared.Adapter.{Adapter}
+use Rattle.chip.specs.declared.Reaction.{Reaction}
 use Rattle.chip.specs.Event.{Event}
-use Rattle.chip.specs.Chip.{acceptedReset}
+use Rattle.chip.specs.Chip.{reaction, acceptedReset}
 use Rattle.chip.specs.State.{poweredOn, powerOn, inRange}
 use Rattle.chip.proofs.Fits.{Fits}
+use Rattle.chip.proofs.Bodies.{silent}
+use Rattle.parts.specs.Parts.{put}
 use Rattle.journal.specs.Layout.{version1, sizeOf, keptOf, past, emptied, pushed, lowered}
 use Rattle.journal.specs.Record.{before, restored, sound}
 use Rattle.journal.proofs.Record.{length-before, restored-before, sound-before}
 use Rattle.journal.proofs.Ring.{Well, well-of, emptied-well, emptied-kept, behind, pushed-well, pushed-kept, pushed-newest, pushed-older}
 use Rattle.adapter.specs.declared.Verdict.the-variants.{Refused, Passed}
 use Rattle.adapter.specs.Refusals.{wrongArgument, wrongBody, inOrder, verdict}
-use Rattle.adapter.specs.Calls.{outcome, plain, recorded, done, called, stepped, steppedBack, cleared, madeEmpty}
+use Rattle.adapter.specs.Calls.{outcome, plain, recorded, sentIn, done, called, stepped, steppedBack, cleared, madeEmpty}
 
 -- ---- creation
 
@@ -42,6 +45,11 @@ module _ (a : Adapter) (j : List ℕ) (e : Event) (o : List ℕ) where
   pub own-refusals : inRange a ≡ true → Well version1 j → verdict a j e o ≡ inOrder false false (ltb (length o) 16) (wrongArgument e) (wrongBody e)
   unfolding verdict
   own-refusals h w = rw (h, well-of w) refl
+
+-- with any other number than 0 the output is unchanged
+pub unsent : (a : Adapter) (e : Event) (o : List ℕ) → (reaction a e .number ≡ 0 → ⊥) → sentIn (reaction a e) o ≡ o
+unfolding put
+unsent a e o h = ap (λ (r : Reaction). sentIn r o) (silent a e h)
 
 -- what an event leaves in the journal
 module _ (a : Adapter) (e : Event) (j : List ℕ) (w : Well version1 j) where
