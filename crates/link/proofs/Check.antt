@@ -1,17 +1,46 @@
 -- Laws of the check register; RFC 1662: a good frame leaves 0xF0B8.
-use mathlib.Core.Path.{_≡_, refl, sym, ap, ap₂, _∙_}
+use mathlib.Core.Path.{_≡_, refl, sym, ap, ap₂, subst, _∙_}
+use mathlib.Core.Bool.{Bool, true, false, _&&_}
+use mathlib.Core.Logic.{_⊎_, inl, inr}
 use mathlib.Core.List.{List, [], _∷_, _++_, foldl-append, append-nil}
 use Prim.Native.Nat.{ℕ, zero, suc, _+_, _*_, _-_, _/_, _%_, _^_, _≤_, _<_}
 use native.Mathlib.Omega.{arith}
 use lib.Arith.{bin-ind, lt-one}
 use lib.ListN.{replicate}
-use native.Mathlib.Nat.{pow-suc}
+use native.Mathlib.Nat.{pow-suc, not-suc-le-zero, le-of-suc-le-suc, eq-or-lt-of-le}
 use lib.Bits.{bitXor, differ, xor-step, xor-lt, xor-zero-r}
-use lib.Dec.{lit<}
+use lib.Dec.{T, lit<}
 use Rattle.link.specs.Bits.{low, wire}
 use Rattle.link.specs.Fcs.{polynomial, preset, residue, registerBit, register, checkOf, fcs}
 use Rattle.link.specs.Frame.{contentOf}
-use Rattle.link.proofs.Bits.{low-pos, low-bytes, wire-append}
+use Rattle.link.proofs.Bits.{low-pos, low-mod, low-add, low-bytes, wire-append}
+
+-- ---- a test that is computed at each number below another
+
+abbrev pub below : (ℕ → Bool) → ℕ → Bool
+below f zero = true
+below f (suc n) = f n && below f n
+
+pub and-left : (a b : Bool) → T (a && b) → T a
+and-left true b t = tt
+and-left false b t = t
+
+pub and-right : (a b : Bool) → T (a && b) → T b
+and-right true b t = t
+and-right false b t = absurd t
+
+pub at-each : (f : ℕ → Bool) (n : ℕ) → T (below f n) → (k : ℕ) → k < n → T (f k)
+at-each f zero t k h = absurd (not-suc-le-zero h)
+at-each f (suc n) t k h = by (and-left (f n) (below f n) t) (at-each f n (and-right (f n) (below f n) t) k) (eq-or-lt-of-le (le-of-suc-le-suc h))
+  where
+    by : T (f n) → (k < n → T (f k)) → (k ≡ n) ⊎ (k < n) → T (f k)
+    by now before (inl e) = subst (λ (x : ℕ). T (f x)) (sym e) now
+    by now before (inr l) = before l
+
+-- ---- bits after bits
+
+pub low-nibbles : (x : ℕ) → low 8 x ≡ low 4 (x % 16) ++ low 4 (x / 16)
+low-nibbles x = low-add 4 4 x ∙ ap (λ (l : List ℕ). l ++ low 4 (x / 16)) (sym (low-mod 4 x))
 
 pub register-bit-lt : (c b : ℕ) → c < 65536 → bitXor (c / 2) (polynomial * ((c % 2 + b) % 2)) < 65536
 register-bit-lt c b h = xor-lt 16 (c / 2) (polynomial * ((c % 2 + b) % 2)) (omega arith) (omega arith)
