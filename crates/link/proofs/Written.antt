@@ -73,9 +73,9 @@ module _ (o : List ℕ) (n h v c : ℕ) (hn : n + c ≤ 8 * length o) (hh : h < 
       record {
         count = rw (length-low c v) refl;
         bits =
-          bits-now ((n % 8 + c) / 8) refl
-          ∙ ap (λ (x : List ℕ). wire (take (n / 8) o) ++ x) (ap (low (n % 8 + c)) joined-is ∙ low-join (n % 8) c h v hh)
-          ∙ sym (append-assoc (wire (take (n / 8) o)) (low (n % 8) h) (low c v));
+            bits-now ((n % 8 + c) / 8) refl
+            ∙ ap (λ (x : List ℕ). wire (take (n / 8) o) ++ x) (ap (low (n % 8 + c)) joined-is ∙ low-join (n % 8) c h v hh)
+            ∙ sym (append-assoc (wire (take (n / 8) o)) (low (n % 8) h) (low c v));
         held = held-now ((n % 8 + c) / 8) refl;
         rest = drop-set-lt ((n + c + 7) / 8) o (n / 8) _ (omega arith);
         size = length-set o (n / 8) _;
