@@ -1,17 +1,47 @@
 -- Laws of the check register; RFC 1662: a good frame leaves 0xF0B8.
-use mathlib.Core.Path.{_≡_, refl, sym, ap, ap₂, _∙_}
+use mathlib.Core.Path.{_≡_, refl, sym, ap, ap₂, subst, _∙_}
+use mathlib.Core.Bool.{Bool, true, false, _&&_}
+use mathlib.Core.Logic.{_⊎_, inl, inr}
 use mathlib.Core.List.{List, [], _∷_, _++_, foldl-append, append-nil}
 use Prim.Native.Nat.{ℕ, zero, suc, _+_, _*_, _-_, _/_, _%_, _^_, _≤_, _<_}
 use native.Mathlib.Omega.{arith}
 use lib.Arith.{bin-ind, lt-one}
 use lib.ListN.{replicate}
-use native.Mathlib.Nat.{pow-suc}
-use lib.Bits.{bitXor, differ, xor-step, xor-lt, xor-zero-r}
-use lib.Dec.{lit<}
+use native.Mathlib.Nat.{pow-suc, mul-one, mul-assoc, not-suc-le-zero, le-of-suc-le-suc, eq-or-lt-of-le}
+use lib.Bits.{bitXor, differ, xor-step, xor-lt, xor-zero-r, xor-comm, xor-shifted, xor-shr}
+use lib.Pow.{split}
+use lib.Dec.{T, eqb, eqb→eq, lit<}
 use Rattle.link.specs.Bits.{low, wire}
 use Rattle.link.specs.Fcs.{polynomial, preset, residue, registerBit, register, checkOf, fcs}
 use Rattle.link.specs.Frame.{contentOf}
-use Rattle.link.proofs.Bits.{low-pos, low-bytes, wire-append}
+use Rattle.link.proofs.Bits.{low-mod, low-add, low-bytes, wire-append}
+
+-- ---- a test that is computed at each number below another
+
+abbrev pub below : (ℕ → Bool) → ℕ → Bool
+below f zero = true
+below f (suc n) = f n && below f n
+
+pub and-left : (a b : Bool) → T (a && b) → T a
+and-left true b t = tt
+and-left false b t = t
+
+pub and-right : (a b : Bool) → T (a && b) → T b
+and-right true b t = t
+and-right false b t = absurd t
+
+pub at-each : (f : ℕ → Bool) (n : ℕ) → T (below f n) → (k : ℕ) → k < n → T (f k)
+at-each f zero t k h = absurd (not-suc-le-zero h)
+at-each f (suc n) t k h = by (and-left (f n) (below f n) t) (at-each f n (and-right (f n) (below f n) t) k) (eq-or-lt-of-le (le-of-suc-le-suc h))
+  where
+    by : T (f n) → (k < n → T (f k)) → (k ≡ n) ⊎ (k < n) → T (f k)
+    by now before (inl e) = subst (λ (x : ℕ). T (f x)) (sym e) now
+    by now before (inr l) = before l
+
+-- ---- bits after bits
+
+pub low-nibbles : (x : ℕ) → low 8 x ≡ low 4 (x % 16) ++ low 4 (x / 16)
+low-nibbles x = low-add 4 4 x ∙ ap (λ (l : List ℕ). l ++ low 4 (x / 16)) (sym (low-mod 4 x))
 
 pub register-bit-lt : (c b : ℕ) → c < 65536 → bitXor (c / 2) (polynomial * ((c % 2 + b) % 2)) < 65536
 register-bit-lt c b h = xor-lt 16 (c / 2) (polynomial * ((c % 2 + b) % 2)) (omega arith) (omega arith)
@@ -24,12 +54,6 @@ pub register-lt : (l : List ℕ) (c : ℕ) → c < 65536 → register c l < 6553
 unfolding register registerBit
 register-lt [] c h = h
 register-lt (b ∷ l) c h = register-lt l (registerBit c b) (register-bit-lt c b h)
-
--- a turn of the loop over a byte's bits
-pub register-turn : (c n w : ℕ) → 0 < n
-    → register c (low n w) ≡ register (bitXor (c / 2) (polynomial * ((c % 2 + w % 2) % 2))) (low (n - 1) (w / 2))
-unfolding register registerBit
-register-turn c n w h = rw (low-pos n w h) refl
 
 -- ---- the residue
 
@@ -105,3 +129,58 @@ pub good-residue : (body : List ℕ) → register preset (contentOf body) ≡ re
 good-residue body =
     rw (content-bits body (checkOf body) refl, register-append preset (wire body) (low 16 (checkOf body)))
     (own (register preset (wire body)) (register-lt (wire body) preset (omega arith)))
+
+-- ---- four bits at once
+
+parity : (a b : ℕ) → a < 2 → b < 2 → (differ a b + 0) % 2 ≡ (a + b) % 2
+parity zero b ha hb = omega arith
+parity (suc zero) zero ha hb = refl
+parity (suc zero) (suc zero) ha hb = refl
+parity (suc zero) (suc (suc b)) ha hb = absurd (omega arith)
+parity (suc (suc a)) b ha hb = absurd (omega arith)
+
+xor-swap : (a b c : ℕ) → bitXor (bitXor a b) c ≡ bitXor (bitXor a c) b
+xor-swap a b c = xor-assoc a b c ∙ ap (bitXor a) (xor-comm b c) ∙ sym (xor-assoc a c b)
+
+-- bits that come are bits added to the register, and zeros that come
+come-step : (c x : ℕ) → bitXor (registerBit c (x % 2)) (x / 2) ≡ registerBit (bitXor c x) 0
+unfolding registerBit
+come-step c x =
+    rw (xor-half c x, xor-odd c x, parity (c % 2) (x % 2) (omega arith) (omega arith)) (xor-swap (c / 2) (polynomial * ((c % 2 + x % 2) % 2)) (x / 2))
+
+come : (n c x : ℕ) → x < 2 ^ n → register c (low n x) ≡ register (bitXor c x) (low n 0)
+unfolding register low
+come zero c x h = rw (lt-one h) (sym (xor-zero-r c))
+come (suc n) c x h =
+    come n (registerBit c (x % 2)) (x / 2) (omega (arith, pow-suc 2 n)) ∙ ap (λ (y : ℕ). register y (low n 0)) (come-step c x)
+
+-- what stands above n bits only moves down while n zeros come
+above-step : (a k : ℕ) → registerBit (bitXor (a * 2) k) 0 ≡ bitXor a (registerBit k 0)
+unfolding registerBit
+above-step a k =
+    let e : a * 2 / 2 ≡ a = omega arith in
+    let d : a * 2 % 2 ≡ 0 = omega arith in
+    rw (xor-half (a * 2) k, xor-odd (a * 2) k, e, d) (xor-assoc a (k / 2) (polynomial * ((k % 2 + 0) % 2)))
+
+above : (n a k : ℕ) → register (bitXor (a * 2 ^ n) k) (low n 0) ≡ bitXor a (register k (low n 0))
+unfolding register low
+above zero a k = ap (λ (x : ℕ). bitXor x k) (mul-one a)
+above (suc n) a k =
+    let e : a * 2 ^ suc n ≡ a * 2 ^ n * 2 = ap (λ (x : ℕ). a * x) (pow-suc 2 n) ∙ sym (mul-assoc a (2 ^ n) 2) in
+    ap (λ (x : ℕ). register (registerBit (bitXor x k) 0) (low n 0)) e ∙ ap (λ (y : ℕ). register y (low n 0)) (above-step (a * 2 ^ n) k) ∙ above n a (registerBit k 0)
+
+-- four zeros after four bits: a product, as a computed test of all sixteen says
+four-test : ℕ → Bool
+four-test k = eqb (register k (low 4 0)) (0x1081 * k)
+
+four-zeros : (k : ℕ) → k < 16 → register k (low 4 0) ≡ 0x1081 * k
+unfolding four-test register registerBit low
+four-zeros k h = eqb→eq (register k (low 4 0)) (0x1081 * k) (at-each four-test 16 tt k h)
+
+pub register-four : (c x : ℕ) → x < 16 → register c (low 4 x) ≡ bitXor (c / 16) (0x1081 * (bitXor c x % 16))
+register-four c x h =
+    let y = bitXor c x in
+    let e : y ≡ bitXor (y / 16 * 2 ^ 4) (y % 16) = sym (xor-shifted (y / 16) 4 (y % 16) (omega arith) ∙ split y 4) in
+    let z : x / 16 ≡ 0 = omega arith in
+    let d : y / 16 ≡ c / 16 = xor-shr c x 4 ∙ ap (bitXor (c / 16)) z ∙ xor-zero-r (c / 16) in
+    come 4 c x h ∙ ap (λ (v : ℕ). register v (low 4 0)) e ∙ above 4 (y / 16) (y % 16) ∙ ap₂ bitXor d (four-zeros (y % 16) (omega arith))

@@ -2,7 +2,7 @@
 use mathlib.Core.Bool.{Bool, true, false, cond}
 use mathlib.Core.Path.{_≡_}
 use mathlib.Core.List.{List, [], _∷_, _++_}
-use Prim.Native.Nat.{ℕ, _+_, _*_, _/_, _^_, _≤_, _<_, min}
+use Prim.Native.Nat.{ℕ, _+_, _*_, _/_, _%_, _^_, _≤_, _<_, min}
 use lib.Dec.{eqb}
 use lib.ListN.{length, take, drop, getD}
 use Rattle.link.specs.Bits.{low, wire}
@@ -20,10 +20,16 @@ unfoldable pub tail : ℕ → List ℕ → ℕ
 tail k [] = k
 tail k (b ∷ bs) = cond (eqb b 0) (tail 0 bs) (cond (eqb k 4) (tail 0 bs) (tail (k + 1) bs))
 
--- bit n of the output is b: the bits before it stand, and so do the bytes after its own
-pub record Put (o : List ℕ) (n b : ℕ) (r : List ℕ) : Type 0 where
-  pub bits : take (n + 1) (wire r) ≡ take n (wire o) ++ (b ∷ [])
-  pub rest : drop (n / 8 + 1) r ≡ drop (n / 8 + 1) o
+-- the bits written so far: those of the whole bytes, then those still held for the byte that n ends in
+abbrev pub inked : List ℕ → ℕ → ℕ → List ℕ
+inked o n h = wire (take (n / 8) o) ++ low (n % 8) h
+
+-- bits written as they are, after n bits of which h is held: n′ bits and h′ now; the bytes after them stand
+pub record Inked (o : List ℕ) (n h : ℕ) (bs r : List ℕ) (n′ h′ : ℕ) : Type 0 where
+  pub count : n′ ≡ n + length bs
+  pub bits : inked r n′ h′ ≡ inked o n h ++ bs
+  pub held : h′ < 2 ^ (n′ % 8)
+  pub rest : drop ((n′ + 7) / 8) r ≡ drop ((n′ + 7) / 8) o
   pub size : length r ≡ length o
 
 -- bits written as they are, after n bits: n′ bits now
@@ -34,8 +40,8 @@ pub record Raw (o : List ℕ) (n : ℕ) (bs r : List ℕ) (n′ : ℕ) : Type 0 
   pub size : length r ≡ length o
 
 -- stuffed bits written after n bits and a run of k ones: n′ bits and a run of k′ now
-pub record Written (o : List ℕ) (n k : ℕ) (bs r : List ℕ) (n′ k′ : ℕ) : Type 0 where
-  pub raw : Raw o n (stuff k bs) r n′
+pub record Written (o : List ℕ) (n h k : ℕ) (bs r : List ℕ) (n′ h′ k′ : ℕ) : Type 0 where
+  pub raw : Inked o n h (stuff k bs) r n′ h′
   pub run : k′ ≡ tail k bs
   pub short : k′ ≤ 4
   pub most : 5 * n′ + k′ ≤ 5 * n + k + 6 * length bs

@@ -1,5 +1,6 @@
-// The check register of the FCS, a byte at a time.
+// The check register of the FCS, four bits at a time.
 ghost use mathlib.Core.Path.{_≡_};
+ghost use Prim.Native.Nat.{_<_};
 ghost use Rattle.link.specs.Bits.{low, wire};
 ghost use Rattle.link.specs.Fcs as fcs;
 
@@ -7,28 +8,23 @@ pub const PRESET: u16 = 0xFFFF;
 
 pub const RESIDUE: u16 = 0xF0B8;
 
-const POLYNOMIAL: u16 = 0x8408;
+// What the polynomial leaves of the lowest bit after four steps; its multiples below 16 are what it leaves of four bits.
+const FOUR_STEPS: u16 = 0x1081;
 
-fn wide(x: u8) -> u16
-    ensures { λ r. ⌜ r ≡ x ⌝ }
+// The register after four bits.
+fn register_four(c: u16, x: u16) -> u16
+    requires { ⌜ x < 16 ⌝ }
+    ensures { λ r. ⌜ r ≡ fcs.register c (low 4 x) ⌝ }
 {
-    x as u16
+    (c / 16) ^ (FOUR_STEPS * ((c ^ x) % 16))
 }
 
 // The register after the eight bits of a byte.
 fn register_byte(start: u16, x: u8) -> u16
     ensures { λ r. ⌜ r ≡ fcs.register start (low 8 x) ⌝ }
 {
-    let mut c = start;
-    let mut w = x;
-    let mut left: u8 = 8;
-    while 0 < left {
-        let differ = (c % 2 + wide(w % 2)) % 2;
-        c = (c / 2) ^ (POLYNOMIAL * differ);
-        w = w / 2;
-        left -= 1;
-    }
-    c
+    let c = register_four(start, (x % 16) as u16);
+    register_four(c, (x / 16) as u16)
 }
 
 // The register after the bytes of a slice.
