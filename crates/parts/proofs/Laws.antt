@@ -23,10 +23,6 @@ pub length-put : (a : ℕ) (s d : List ℕ) → a + length s ≤ length d → le
 unfolding put
 length-put a s d h = simp (length-append, length-take, length-drop) (omega arith)
 
-pub length-part : (a n : ℕ) (d : List ℕ) → a + n ≤ length d → length (part a n d) ≡ n
-unfolding part
-length-part a n d h = simp (length-take, length-drop) (omega arith)
-
 -- what was written is read
 pub part-put : (a : ℕ) (s d : List ℕ) (n : ℕ) → a + length s ≤ length d → length s ≡ n → part a n (put a s d) ≡ s
 unfolding part put
@@ -157,11 +153,6 @@ read-more ws s i v l e h = rw (add-one, take-suc-set ws i v l, words-snoc i s, e
 
 pub read-all : (ws s : List ℕ) (i n : ℕ) → length ws ≡ n → i ≡ n → take i ws ≡ wordsOf i s → ws ≡ wordsOf n s
 read-all ws s i n l e h = sym (take-all n ws (omega arith)) ∙ (rw e at h)
-
-pub length-words : (n : ℕ) (s : List ℕ) → length (wordsOf n s) ≡ n
-unfolding wordsOf
-length-words zero s = refl
-length-words (suc n) s = ap suc (length-words n (drop 4 s))
 
 -- what was written as words is read as these words
 pub data Words : List ℕ → Type 0 where
