@@ -1,3 +1,4 @@
+pub mod Runs
 pub mod Wire
 pub mod AllCases
 pub mod InParts
