@@ -1,3 +1,4 @@
+pub mod ShutOut
 pub mod Runs
 pub mod Wire
 pub mod AllCases
