@@ -1,3 +1,5 @@
+pub mod Examples
+pub mod Lines
 pub mod ShutOut
 pub mod Runs
 pub mod Wire

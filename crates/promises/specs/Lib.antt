@@ -3,3 +3,4 @@ pub mod Calls
 pub mod Outcome
 pub mod Runs
 pub mod Ours
+pub mod Table
