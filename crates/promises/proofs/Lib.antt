@@ -2,6 +2,7 @@ pub mod Examples
 pub mod Lines
 pub mod ShutOut
 pub mod Runs
+pub mod Refused
 pub mod Wire
 pub mod AllCases
 pub mod InParts

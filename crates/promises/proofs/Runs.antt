@@ -78,6 +78,15 @@ module _ (a : Adapter) (j : List ℕ) (ranged : inRange a ≡ true) (w : Well ve
   is-done : refused e o ≡ false → called a j e o ≡ done a j e o
   is-done h = called-done a j e o (own ∙ rw h refl)
 
+-- the numbers that the chip gives are no refusals
+pub not-one-to-ten : (n : ℕ) → (n ≡ 0) ⊎ ((11 ≤ n) × (n ≤ 17)) → (leb 1 n && leb n 10) ≡ true → ⊥
+not-one-to-ten n (inl z) h = false≢true (rw z at h)
+not-one-to-ten n (inr l) h = go (leb 1 n) refl
+  where
+    go : (b : Bool) → leb 1 n ≡ b → ⊥
+    go true e = let u = leb-true n 10 (rw e at h) in omega arith
+    go false e = false≢true (rw e at h)
+
 -- ---- the states of runs of only the standing events
 
 AllFit : List Event → Type 0
@@ -230,14 +239,6 @@ module _ (id : ℕ) (small : id ≤ 0xFFFFFF) where
 
   stepsTo : (s : Standing) (j : List ℕ) (k : Call) (s′ : Standing) (j′ : List ℕ) → keeps s k ≡ s′ → leavesOurs (pair s j) k ≡ pair s′ j′ → Inv s′ j′ → Step s j k
   stepsTo s j k s′ j′ e h i = record { next = j′; leaves-eq = rw e h; inv = rw e i }
-
-  not-one-to-ten : (n : ℕ) → (n ≡ 0) ⊎ ((11 ≤ n) × (n ≤ 17)) → (leb 1 n && leb n 10) ≡ true → ⊥
-  not-one-to-ten n (inl z) h = false≢true (rw z at h)
-  not-one-to-ten n (inr l) h = go (leb 1 n) refl
-    where
-      go : (b : Bool) → leb 1 n ≡ b → ⊥
-      go true e = let u = leb-true n 10 (rw e at h) in omega arith
-      go false e = false≢true (rw e at h)
 
   module _ (s : Standing) (j : List ℕ) (i : Inv s j) where
     ranged : inRange (stateAfter id (s .events)) ≡ true
@@ -451,7 +452,7 @@ module _ (r : Run) where
       go : (b : Bool) → refuses (cond b (bare (refusal e o) o) (answered (reaction (dueState r) e) o)) ≡ true
           → cond b (bare (refusal e o) o) (answered (reaction (dueState r) e) o) .output ≡ o
       go true h = refl
-      go false h = absurd (not-one-to-ten (r .id) (r .id-fits) _ (number-given (dueState r) e) h)
+      go false h = absurd (not-one-to-ten _ (number-given (dueState r) e) h)
   output-same back = go (eqb (standing r .number) 0)
     where
       go : (b : Bool) → refuses (cond b (bare 5 []) (bare 17 [])) ≡ true → cond b (bare 5 []) (bare 17 []) .output ≡ []

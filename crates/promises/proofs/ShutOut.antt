@@ -62,25 +62,25 @@ start-of c = c .start 0x00000A (replicate 17408 0)
 module _ (c : Calls) (d : Demand3 c) where
   -- the start, and the state after an upset
   state-at-start : c .state (start-of c) ≡ powerOn 0x00000A
-  unfolding start-of at-start ran
+  unfolding at-start ran
   state-at-start = d .state at-start
 
   state-after-upset : c .state (c .leaves (start-of c) upset-call) .seu ≡ 1
-  unfolding start-of after-upset ran reaction onUpset poweredOn
+  unfolding after-upset ran reaction onUpset poweredOn
   state-after-upset = ap (λ (a : Adapter). a .seu) (d .state after-upset)
 
   -- answers to the first event
   upset-first : c .gives (start-of c) upset-call .number ≡ 17
-  unfolding start-of at-start ran reaction onUpset
+  unfolding at-start ran reaction onUpset
   upset-first = ap (λ (g : Given). g .number) (d .reply at-start upset output)
 
   connect-first : c .gives (start-of c) (event connect output) .number ≡ 0
-  unfolding start-of at-start ran reaction onFrame commanded
+  unfolding at-start ran reaction onFrame commanded
   connect-first = ap (λ (g : Given). g .number) (d .reply at-start connect output)
 
   -- and to the second
   connect-second : c .gives (c .leaves (start-of c) upset-call) (event connect output) .number ≡ 0
-  unfolding start-of after-upset ran reaction onFrame commanded
+  unfolding after-upset ran reaction onFrame commanded
   connect-second = ap (λ (g : Given). g .number) (d .reply after-upset connect output)
 
   -- refuse every event
@@ -114,7 +114,7 @@ module _ (c : Calls) (d : Demand3 c) where
 
   -- step back and leave the state
   pub back-stays : ((p : c .Pair) → c .state (c .leaves p back) ≡ c .state p) → ⊥
-  unfolding start-of after-back ran poweredOn
+  unfolding after-back ran poweredOn
   back-stays h =
       let z : c .state (c .leaves (c .leaves (start-of c) upset-call) back) .seu ≡ 0 = ap (λ (a : Adapter). a .seu) (d .state after-back) in
       let s : c .state (c .leaves (c .leaves (start-of c) upset-call) back) .seu ≡ c .state (c .leaves (start-of c) upset-call) .seu =
@@ -218,7 +218,7 @@ copying =
     }
 
 pub copies-the-first-reply : Demand3 copying → ⊥
-unfolding copying copying-gives copying-leaves firstOr start-of
+unfolding copying copying-gives copying-leaves firstOr
 copies-the-first-reply d = copied-reply copying d (λ e e′ o. refl)
 
 -- A STEP BACK THAT ONLY LOWERS THE NUMBER.

@@ -129,8 +129,11 @@ due a e output = cond (refused e output) (bare (refusal e output) output) (answe
 -- ---- the promise
 
 -- A call is refused when it gives 1 to 10.
+abbrev pub isRefusal : ℕ → Bool
+isRefusal n = leb 1 n && leb n 10
+
 abbrev pub refuses : Given → Bool
-refuses g = leb 1 (g .number) && leb (g .number) 10
+refuses g = isRefusal (g .number)
 
 -- the output lent to a call
 abbrev pub lent : Call → List ℕ
