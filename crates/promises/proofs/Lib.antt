@@ -3,6 +3,7 @@ pub mod Lines
 pub mod ShutOut
 pub mod Runs
 pub mod Refused
+pub mod Standing
 pub mod Wire
 pub mod AllCases
 pub mod InParts

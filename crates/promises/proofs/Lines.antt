@@ -9,6 +9,7 @@ use borrow.Author.Tests.{eqb-true, eqb-false}
 use Rattle.adapter.specs.declared.KeptNumber.{KeptNumber}
 use Rattle.promises.specs.Runs.{Call, event, back, empty, Given, Calls, OfItsTypes, AllOfTheirTypes, Run, left, Standing, atStart, keeps, standing, stateAfter, bare, due, Demand3}
 use Rattle.promises.specs.Table.{line, lines}
+use Rattle.promises.proofs.Standing.{typed-more}
 
 -- what the text says that a call gives
 abbrev pub told : ℕ → Standing → Call → Given
@@ -20,10 +21,6 @@ told id s empty = bare 17 []
 abbrev pub textLines : ℕ → Standing → List Call → List (List ℕ)
 textLines id s [] = []
 textLines id s (k ∷ ks) = line (told id s k) (keeps s k .number) ∷ textLines id (keeps s k) ks
-
-typed-more : (ks : List Call) (k : Call) → AllOfTheirTypes ks → OfItsTypes k → AllOfTheirTypes (ks ++ (k ∷ []))
-typed-more [] k t u = (u, tt)
-typed-more (x ∷ ks) k t u = (t .0, typed-more ks k (t .1) u)
 
 module _ (c : Calls) (d : Demand3 c) (id : ℕ) (id-fits : id ≤ 0xFFFFFF) (bytes : List ℕ) (size : length bytes ≡ 17408) where
   runOf : (ks : List Call) → AllOfTheirTypes ks → Run

@@ -106,14 +106,18 @@ transmit-unchanged body output h = record { bytes = bytes-by fits room h; count 
   where
     fits : Bool
     fits = leb 2 (length body) && leb (length body) 16
+
     room : Bool
     room = leb 24 (length output)
+
     sent-by : Bool → Bool → Sent
     sent-by x y = cond x (cond y (record { number = 0; count = length (framed body) }) (record { number = 1; count = 0 })) (record { number = 2; count = 0 })
+
     bytes-by : (x y : Bool) → isRefusal (sent-by x y .number) ≡ true → cond x (cond y (put 0 (framed body) output) output) output ≡ output
     bytes-by false y q = refl
     bytes-by true false q = refl
     bytes-by true true q = absurd (false≢true q)
+
     count-by : (x y : Bool) → isRefusal (sent-by x y .number) ≡ true → sent-by x y .count ≡ 0
     count-by false y q = refl
     count-by true false q = refl
@@ -142,6 +146,7 @@ read-answer p = go (eqb (p .hit) 0) (eqb (p .hit) 1)
         cond x (record { answer = receive.bare 17; state = p .state; consumed = p .used })
         (cond y (record { answer = atFlag (take (ended (p .state) 0) (p .state .content)); state = receiver.opened; consumed = p .used })
         (record { answer = receive.bare 24; state = receiver.hunting; consumed = p .used }))
+
     go : (x y : Bool) → isRefusal (stop x y .answer .number) ≡ false
     go true y = refl
     go false true = at-flag _

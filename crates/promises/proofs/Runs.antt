@@ -40,7 +40,7 @@ by-order false true body = refl
 by-order false false true = refl
 by-order false false false = refl
 
-both-right : (short argument body : Bool) → not (eqb (cond short 1 (cond argument 3 (cond body 2 0))) 0) ≡ false → (argument ≡ false) × (body ≡ false)
+pub both-right : (short argument body : Bool) → not (eqb (cond short 1 (cond argument 3 (cond body 2 0))) 0) ≡ false → (argument ≡ false) × (body ≡ false)
 both-right true argument body h = absurd (true≢false h)
 both-right false true body h = absurd (true≢false h)
 both-right false false true h = absurd (true≢false h)
