@@ -7,7 +7,7 @@ use lib.ListN.{length}
 use lib.Dec.{eqb}
 use borrow.Author.Tests.{eqb-true, eqb-false}
 use Rattle.adapter.specs.declared.KeptNumber.{KeptNumber}
-use Rattle.promises.specs.Runs.{Call, event, back, empty, Given, Calls, OfItsTypes, AllOfTheirTypes, Run, left, Standing, atStart, keeps, standing, stateAfter, bare, due, Demand3}
+use Rattle.promises.specs.Runs.{Call, event, back, empty, Given, Calls, AllOfTheirTypes, Run, Standing, atStart, keeps, stateAfter, bare, due, Demand3}
 use Rattle.promises.specs.Table.{line, lines}
 use Rattle.promises.proofs.Standing.{typed-more}
 

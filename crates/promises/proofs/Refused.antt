@@ -6,14 +6,13 @@ use mathlib.Core.List.{List}
 use mathlib.Core.Bool.{Bool, true, false, not, cond, _&&_, false≢true}
 use lib.ListN.{length, take, drop}
 use lib.Dec.{eqb, ltb, leb}
-use Rattle.numbers.specs.Numbers as number
 use Rattle.parts.specs.Parts.{put}
 use Rattle.link.specs.Bits.{wire, pack}
 use Rattle.link.specs.Fcs.{register, preset, residue}
 use Rattle.link.specs.Frame.{framed}
 use Rattle.link.specs.Receiver.{State, Stop, runs, ended, view}
 use Rattle.link.specs.Receiver as receiver
-use Rattle.link.specs.Receive.{Answer, atFlag, Reading, reading, concluded, readFrom, receivedAs, received}
+use Rattle.link.specs.Receive.{atFlag, Reading, reading, concluded, readFrom, receivedAs, received}
 use Rattle.link.specs.Receive as receive
 use Rattle.link.specs.Transmit.{transmitted}
 use Rattle.link.specs.Transmit as transmit
@@ -23,7 +22,6 @@ use Rattle.link.specs.declared.Received.{Received}
 use Rattle.chip.specs.declared.Adapter.{Adapter}
 use Rattle.chip.specs.Event.{Event}
 use Rattle.chip.specs.State.{powerOn, inRange}
-use Rattle.chip.specs.Chip.{reaction}
 use Rattle.chip.proofs.Laws.{number-given}
 use Rattle.journal.specs.Layout.{version1, keptOf, wellFormed, past, lowered, emptied}
 use Rattle.journal.specs.Record.{restored, sound}
@@ -31,7 +29,7 @@ use Rattle.adapter.specs.declared.Verdict.{Verdict}
 use Rattle.adapter.specs.declared.Verdict.the-variants.{Refused, Passed}
 use Rattle.adapter.specs.declared.Created.{Created}
 use Rattle.adapter.specs.Refusals.{verdict}
-use Rattle.adapter.specs.Calls.{Outcome, outcome, plain, done, called, Stepped, stepped, steppedBack, Cleared, cleared, madeEmpty, created}
+use Rattle.adapter.specs.Calls.{Outcome, outcome, plain, done, called, Stepped, stepped, steppedBack, cleared, madeEmpty, created}
 use Rattle.adapter.proofs.Laws.{no-adapter, called-refused, called-done}
 use Rattle.promises.specs.Runs.{isRefusal}
 use Rattle.promises.proofs.Runs.{not-one-to-ten}

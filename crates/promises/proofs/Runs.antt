@@ -1,7 +1,7 @@
 -- DEMAND 3 of the delivered calls. The invariant along a run: the state is that of the standing events, the journal is well formed, its
 -- number is the text's, and its i-th newest record restores the state with i + 1 events taken back. Assumes nothing.
-use Prim.Native.Nat.{ℕ, zero, suc, _+_, _-_, min, _≤_, _<_, _^_}
-use mathlib.Core.Path.{_≡_, refl, sym, ap, ap₂, subst, _∙_}
+use Prim.Native.Nat.{ℕ, zero, suc, _+_, _-_, min, _≤_, _<_}
+use mathlib.Core.Path.{_≡_, refl, sym, ap, subst, _∙_}
 use mathlib.Core.List.{List, [], _∷_, foldl}
 use mathlib.Core.Bool.{Bool, true, false, not, cond, _&&_, _||_, false≢true, true≢false}
 use mathlib.Core.Logic.{_⊎_, inl, inr, ⊎-elim}
@@ -9,11 +9,10 @@ use native.Mathlib.Nat.{eq-zero-or-pos}
 use native.Mathlib.Omega.{arith}
 use lib.ListN.{length, drop, length-drop}
 use lib.Seq.{drop-drop}
-use lib.Dec.{eqb, ltb, leb, lit<, lit≤}
+use lib.Dec.{eqb, ltb, leb, lit<}
 use borrow.Author.Tests.{eq-eqb, ne-eqb, eqb-true, eqb-false, ltb-false, le-ltb, leb-true}
 use Rattle.numbers.specs.Numbers as number
 use Rattle.chip.specs.declared.Adapter.{Adapter}
-use Rattle.chip.specs.declared.Reaction.{Reaction}
 use Rattle.chip.specs.Event.{Event, frame, completion, sample, upset, EventFits}
 use Rattle.chip.specs.State.{poweredOn, powerOn, inRange}
 use Rattle.chip.specs.Chip.{reaction, acceptedReset}
@@ -21,11 +20,10 @@ use Rattle.chip.proofs.Laws.{Fits, power-on-fits, fits-kept, power-on-in-range,
 use Rattle.journal.specs.Layout.{version1, keptOf, past, emptied, lowered}
 use Rattle.journal.specs.Record.{restored, sound}
 use Rattle.journal.proofs.Ring.{Well, well-of, emptied-well, emptied-kept, lowered-well, lowered-kept, lowered-past}
-use Rattle.adapter.specs.declared.Verdict.{Verdict}
 use Rattle.adapter.specs.declared.Verdict.the-variants.{Refused, Passed}
 use Rattle.adapter.specs.declared.KeptNumber.{KeptNumber}
 use Rattle.adapter.specs.Refusals.{wrongArgument, wrongBody, inOrder, verdict}
-use Rattle.adapter.specs.Calls.{Outcome, outcome, plain, recorded, done, called, Stepped, stepped, steppedBack, Cleared, madeEmpty, keptIn, created}
+use Rattle.adapter.specs.Calls.{Outcome, outcome, plain, recorded, done, called, Stepped, stepped, steppedBack, Cleared, keptIn, created}
 use Rattle.adapter.proofs.Laws.{called-refused, called-done, own-refusals, recorded-well, recorded-kept, newest-restores, newest-sound, older-stay, back-refused, back-done, empty-done}
 use Rattle.promises.specs.Runs.{Call, event, back, empty, Given, OfItsTypes, AllOfTheirTypes, Run, left, refusal, refused, Standing, atStart, keeps, standing, stateAfter, dueState, bare, answered, due, refuses, lent, Demand3}
 use Rattle.promises.specs.Ours.{Handed, handed, shown, givesOurs, leavesOurs, ours}

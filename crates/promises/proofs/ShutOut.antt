@@ -3,11 +3,10 @@
 use Prim.Native.Nat.{ℕ, zero, suc, _+_, _≤_, _<_}
 use mathlib.Core.Path.{_≡_, refl, sym, ap, _∙_}
 use mathlib.Core.List.{List, [], _∷_}
-use mathlib.Core.Bool.{Bool, true, false, cond, _||_}
+use mathlib.Core.Bool.{Bool, false, cond, _||_}
 use native.Mathlib.Omega.{arith}
-use lib.ListN.{length, getD, replicate, length-replicate}
-use lib.Dec.{eqb, lit<, lit≤}
-use borrow.Author.Tests.{eqb-false}
+use lib.ListN.{getD, replicate, length-replicate}
+use lib.Dec.{lit<, lit≤}
 use Rattle.numbers.specs.Numbers as number
 use Rattle.chip.specs.declared.Adapter.{Adapter}
 use Rattle.chip.specs.Event.{Event, frame, upset}
@@ -15,7 +14,7 @@ use Rattle.chip.specs.State.{poweredOn, powerOn}
 use Rattle.chip.specs.Frame.{isResetFrame, commanded, onFrame}
 use Rattle.chip.specs.Chip.{reaction, onUpset, acceptedReset}
 use Rattle.adapter.specs.declared.KeptNumber.{KeptNumber}
-use Rattle.promises.specs.Runs.{Call, event, back, empty, Given, Calls, AllOfTheirTypes, Run, left, bare, lent, standing, Demand3}
+use Rattle.promises.specs.Runs.{Call, event, back, empty, Given, Calls, AllOfTheirTypes, Run, left, bare, lent, Demand3}
 use Rattle.promises.specs.Ours.{Handed, handed, givesOurs, leavesOurs, ours}
 
 -- ---- short runs

@@ -1,9 +1,9 @@
 -- What follows from demand 3 for any calls that meet it, in words that need no machine: the state is that of a run of only the standing
 -- events, made by the same calls; and what is taken back leaves no trace. Assumes nothing.
-use Prim.Native.Nat.{ℕ, zero, suc, _+_, _-_, min}
+use Prim.Native.Nat.{ℕ, _+_, _-_, min}
 use mathlib.Core.Path.{_≡_, refl, sym, ap, _∙_}
 use mathlib.Core.List.{List, [], _∷_, _++_, foldl, foldl-append}
-use mathlib.Core.Bool.{Bool, true, false, not, cond}
+use mathlib.Core.Bool.{Bool, true, false, cond}
 use native.Mathlib.Omega.{arith}
 use lib.ListN.{length, drop, replicate}
 use lib.Dec.{eqb, ltb}
@@ -11,7 +11,7 @@ use borrow.Author.Tests.{ne-eqb}
 use Rattle.chip.specs.Event.{Event, frame, completion, sample, upset}
 use Rattle.chip.specs.Chip.{acceptedReset}
 use Rattle.adapter.specs.Refusals.{wrongArgument, wrongBody}
-use Rattle.promises.specs.Runs.{Call, event, back, empty, Given, Calls, OfItsTypes, AllOfTheirTypes, Run, left, refused, Standing, atStart, keeps, standing, stateAfter, due, Demand3}
+use Rattle.promises.specs.Runs.{Call, event, back, empty, Calls, OfItsTypes, AllOfTheirTypes, Run, left, refused, Standing, atStart, keeps, standing, stateAfter, due, Demand3}
 use Rattle.promises.proofs.Runs.{both-right}
 
 -- ---- a run of only the standing events
