@@ -1,3 +1,9 @@
+pub mod Examples
+pub mod Lines
+pub mod ShutOut
+pub mod Runs
+pub mod Refused
+pub mod Standing
 pub mod Wire
 pub mod AllCases
 pub mod InParts

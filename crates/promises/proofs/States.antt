@@ -1,13 +1,13 @@
 -- The states that arise, which every bit keeps, and the structs in range that stand for them.
 use mathlib.Core.Path.{_≡_, refl, sym, ap, ap₂, _∙_}
-use mathlib.Core.Bool.{Bool, true, cond, _&&_}
+use mathlib.Core.Bool.{true}
 use mathlib.Core.Logic.{⊎-elim, inl, inr}
 use mathlib.Core.List.{List, [], _∷_, _++_, foldl}
 use Prim.Native.Nat.{ℕ, zero, suc, _+_, _-_, _%_, _≤_, _<_, min}
 use native.Mathlib.Nat.{eq-or-lt-of-le}
 use native.Mathlib.Omega.{arith}
-use borrow.Author.Tests.{eq-eqb, ne-eqb, le-leb, eqb-true, leb-true, ltb-true, ltb-false}
-use lib.Dec.{eqb, ltb, leb, lit≤}
+use borrow.Author.Tests.{le-leb, eqb-true, ltb-true, ltb-false}
+use lib.Dec.{eqb, ltb, lit≤}
 use lib.ListN.{length, take, drop, replicate, length-append, length-take, length-drop, length-replicate, take-append-drop}
 use lib.Seq.{take-at, drop-at}
 use Rattle.link.specs.Bits.{wire, num, pack}
@@ -15,8 +15,9 @@ use Rattle.link.specs.Receiver.{State, push, next, view, image, fieldsFit, inRa
 use Rattle.link.specs.Receive.{reading}
 use Rattle.link.specs.declared.Receiver.{Receiver}
 use Rattle.link.proofs.Bits.{Bit, AreBits, AreBytes, none, more, bits-append, bits-take, bits-drop, bits-wire, bits-zeros, length-wire, length-pack, pack-wire, wire-pack}
+use Rattle.link.proofs.Fields.{both, Fields, fields}
 use Rattle.promises.specs.Wire.{hunter}
-use Rattle.promises.proofs.Steps.{split, and-left, and-right}
+use Rattle.promises.proofs.Steps.{split}
 use Rattle.promises.proofs.Calls.{call-state}
 
 -- the states that arise
@@ -136,59 +137,18 @@ image-size (frames {k} {l} {c} hk hl hc h bits) = size-spelled c hc bits
 
 -- ---- a struct in range
 
--- the ranges one by one
-record Fields (r : Receiver) : Type 0 where
-  mode : r .mode ≤ 1
-  ones : r .ones ≤ 7
-  lead : r .lead ≤ 1
-  count : r .count ≤ 152
-  idle : r .mode ≡ 0 → (r .count ≡ 0) × (r .lead ≡ 0)
-  busy : r .mode ≡ 1 → (r .ones ≤ 6) × (r .lead + min (r .ones) 5 ≤ r .count)
-  rest : num (drop (r .count) (wire (r .bytes))) ≡ 0
+-- its tests as facts: the fields fit, and no bit after the content is set
+module _ (r : Receiver) (h : inRange r ≡ true) where
+  fields-fit : fieldsFit (r .mode) (r .ones) (r .lead) (r .count) ≡ true
+  unfolding inRange
+  fields-fit = both _ _ h .0
 
-one-zero : (n : ℕ) → n ≡ 1 → n ≡ 0 → ⊥
-one-zero n e z = omega arith
+  fitting : Fields (r .mode) (r .ones) (r .lead) (r .count) fields-fit
+  fitting = fields (r .mode) (r .ones) (r .lead) (r .count) fields-fit
 
--- six tests that all hold
-all-hold : (a b c d e f : Bool) → a && b && c && d && e && f ≡ true
-    → (a ≡ true) × (b ≡ true) × (c ≡ true) × (d ≡ true) × (e ≡ true) × (f ≡ true)
-all-hold a b c d e f h =
-    let h₅ : a && b && c && d && e ≡ true = and-left (a && b && c && d && e) f h in
-    let h₄ : a && b && c && d ≡ true = and-left (a && b && c && d) e h₅ in
-    let h₃ : a && b && c ≡ true = and-left (a && b && c) d h₄ in
-    let h₂ : a && b ≡ true = and-left (a && b) c h₃ in (
-      and-left a b h₂,
-      and-right a b h₂,
-      and-right (a && b) c h₃,
-      and-right (a && b && c) d h₄,
-      and-right (a && b && c && d) e h₅,
-      and-right (a && b && c && d && e) f h,
-    )
-
-fields : (r : Receiver) → inRange r ≡ true → Fields r
-unfolding inRange fieldsFit
-fields r h =
-    let idle = eqb (r .count) 0 && eqb (r .lead) 0 in
-    let busy = leb (r .ones) 6 && leb (r .lead + min (r .ones) 5) (r .count) in
-    let t = all-hold (leb (r .mode) 1) (leb (r .ones) 7) (leb (r .lead) 1) (leb (r .count) 152) (cond (eqb (r .mode) 0) idle busy)
-    (eqb (num (drop (r .count) (wire (r .bytes)))) 0) h in
-    record {
-      mode = leb-true (r .mode) 1 (t .0);
-      ones = leb-true (r .ones) 7 (t .1);
-      lead = leb-true (r .lead) 1 (t .2);
-      count = leb-true (r .count) 152 (t .3);
-      idle = λ e.
-          let u : idle ≡ true = rw (eq-eqb (r .mode) 0 e) at (t .4) in (
-            eqb-true (r .count) 0 (and-left (eqb (r .count) 0) (eqb (r .lead) 0) u),
-            eqb-true (r .lead) 0 (and-right (eqb (r .count) 0) (eqb (r .lead) 0) u),
-          );
-      busy = λ e.
-          let u : busy ≡ true = rw (ne-eqb (r .mode) 0 (one-zero (r .mode) e)) at (t .4) in (
-            leb-true (r .ones) 6 (and-left (leb (r .ones) 6) (leb (r .lead + min (r .ones) 5) (r .count)) u),
-            leb-true (r .lead + min (r .ones) 5) (r .count) (and-right (leb (r .ones) 6) (leb (r .lead + min (r .ones) 5) (r .count)) u),
-          );
-      rest = eqb-true (num (drop (r .count) (wire (r .bytes)))) 0 (t .5);
-    }
+  rest-zero : num (drop (r .count) (wire (r .bytes))) ≡ 0
+  unfolding inRange
+  rest-zero = eqb-true (num (drop (r .count) (wire (r .bytes)))) 0 (both (fieldsFit (r .mode) (r .ones) (r .lead) (r .count)) _ h .1)
 
 zeros : {l : List ℕ} → AreBits l → num l ≡ 0 → l ≡ replicate (length l) 0
 unfolding num
@@ -200,25 +160,25 @@ zeros {l = b ∷ bs} (more z hb) e =
 
 module _ (r : Receiver) (h : inRange r ≡ true) (size : length (r .bytes) ≡ 20) where
   kept-length : length (take (r .count) (wire (r .bytes))) ≡ r .count
-  kept-length = let f : r .count ≤ 152 = fields r h .count in rw (length-take, length-wire, size) (omega arith)
+  kept-length = let f : r .count ≤ 152 = fitting r h .count-most in rw (length-take, length-wire, size) (omega arith)
 
   -- A RECEIVER IN RANGE stands for a state that arises.
   pub view-held : Held (view r)
   view-held =
-      let f : Fields r = fields r h in
+      let f = fitting r h in
       ⊎-elim (λ (m : r .mode ≡ 1).
-      let l : r .lead + min (r .ones) 5 ≤ length (take (r .count) (wire (r .bytes))) = rw kept-length (f .busy m .1) in
-      let n : length (take (r .count) (wire (r .bytes))) ≤ 152 = rw kept-length (f .count) in
-      rw m (frames (f .busy m .0) (f .lead) n l (bits-take (r .count) (bits-wire (r .bytes)))))
+      let l : r .lead + min (r .ones) 5 ≤ length (take (r .count) (wire (r .bytes))) = rw kept-length (f .run m) in
+      let n : length (take (r .count) (wire (r .bytes))) ≤ 152 = rw kept-length (f .count-most) in
+      rw m (frames (f .seven m) (f .lead-most) n l (bits-take (r .count) (bits-wire (r .bytes)))))
       (λ (m : r .mode < 1).
       let z : r .mode ≡ 0 = omega arith in
-      rw (z, f .idle z .0, f .idle z .1) (hunts-on (f .ones)))
-      (eq-or-lt-of-le (f .mode))
+      rw (z, f .idle z .0, f .idle z .1) (hunts-on (f .ones-most)))
+      (eq-or-lt-of-le (f .mode-most))
 
   zero-rest : drop (r .count) (wire (r .bytes)) ≡ replicate (160 - r .count) 0
   zero-rest =
       let l : length (drop (r .count) (wire (r .bytes))) ≡ 160 - r .count = rw (length-drop, length-wire, size) refl in
-      zeros (bits-drop (r .count) (bits-wire (r .bytes))) (fields r h .rest) ∙ ap (λ (n : ℕ). replicate n 0) l
+      zeros (bits-drop (r .count) (bits-wire (r .bytes))) (rest-zero r h) ∙ ap (λ (n : ℕ). replicate n 0) l
 
   -- and no other struct in range stands for that state
   pub image-view : AreBytes (r .bytes) → image (view r) ≡ r

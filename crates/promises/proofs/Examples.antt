@@ -1,0 +1,107 @@
+-- THE TABLE of document 01, computed from the definitions; the lines of the delivered calls by the text's (`demand3`).
+use Prim.Native.Nat.{ℕ, zero, suc, _<_, _^_}
+use mathlib.Core.Path.{_≡_, refl, _∙_}
+use mathlib.Core.List.{List, [], _∷_}
+use mathlib.Core.Bool.{Bool, true, _&&_}
+use lib.ListN.{length, getD}
+use lib.Dec.{ltb, lit<, lit≤}
+use borrow.Author.Tests.{ltb-true}
+use Rattle.bits.specs.Bits.{word}
+use Rattle.commands.specs.Channels.{channelOf}
+use Rattle.commands.specs.Controller.{controllerCommand}
+use Rattle.commands.specs.Spi.{spiCommand}
+use Rattle.commands.specs.Gpio.{gpioCommand}
+use Rattle.commands.specs.Dac.{dacCommand}
+use Rattle.registers.specs.Controller.{controllerAnswer, actControl}
+use Rattle.registers.specs.Spi.{spiAnswer, actSpi}
+use Rattle.registers.specs.Gpio.{gpioAnswer, actGpio}
+use Rattle.registers.specs.Pins.{gpioSampled, datainAfter, firingLines}
+use Rattle.registers.specs.Dac.{dacAnswer, actDac}
+use Rattle.parts.specs.Parts.{put}
+use Rattle.link.specs.Bits.{low, wire}
+use Rattle.link.specs.Frame.{stuff}
+use Rattle.chip.specs.Event.{frame, completion, sample, upset}
+use Rattle.chip.specs.State.{poweredOn}
+use Rattle.chip.specs.Answer.{padded}
+use Rattle.chip.specs.Request.{onChannel, answered, replies, requested}
+use Rattle.chip.specs.Frame.{isResetFrame, commanded, numbered, carried, onFrame}
+use Rattle.chip.specs.Chip.{reaction, onSample, onUpset}
+use Rattle.promises.specs.Runs.{Call, event, back, empty, AllOfTheirTypes, atStart}
+use Rattle.promises.specs.Ours.{ours}
+use Rattle.promises.specs.Table.{played, listing, listingOutput, everything, everythingOutput, Table}
+use Rattle.promises.proofs.Steps.{and-left, and-right}
+use Rattle.promises.proofs.Runs.{demand3}
+use Rattle.promises.proofs.Lines.{textLines, lines-told}
+
+-- literal bytes are bytes
+below : List ℕ → Bool
+below [] = true
+below (x ∷ xs) = ltb x 256 && below xs
+
+bytes : (l : List ℕ) → below l ≡ true → (i : ℕ) → getD l i 0 < 256
+unfolding below
+bytes [] h i = lit< tt
+bytes (x ∷ xs) h zero = ltb-true x 256 (and-left (ltb x 256) (below xs) h)
+bytes (x ∷ xs) h (suc i) = bytes xs (and-right (ltb x 256) (below xs) h) i
+
+literal : List Call → Bool
+literal [] = true
+literal (event (frame port body) o ∷ ks) = below body && literal ks
+literal (event (completion received) o ∷ ks) = below received && literal ks
+literal (event (sample levels kind) o ∷ ks) = ltb levels (2 ^ 32) && literal ks
+literal (event upset o ∷ ks) = literal ks
+literal (back ∷ ks) = literal ks
+literal (empty ∷ ks) = literal ks
+
+typed : (ks : List Call) → literal ks ≡ true → AllOfTheirTypes ks
+unfolding literal
+typed [] h = tt
+typed (event (frame port body) o ∷ ks) h = (bytes body (and-left (below body) (literal ks) h), typed ks (and-right (below body) (literal ks) h))
+typed (event (completion received) o ∷ ks) h =
+    (bytes received (and-left (below received) (literal ks) h), typed ks (and-right (below received) (literal ks) h))
+typed (event (sample levels kind) o ∷ ks) h =
+    (ltb-true levels (2 ^ 32) (and-left (ltb levels (2 ^ 32)) (literal ks) h), typed ks (and-right (ltb levels (2 ^ 32)) (literal ks) h))
+typed (event upset o ∷ ks) h = (tt, typed ks h)
+typed (back ∷ ks) h = (tt, typed ks h)
+typed (empty ∷ ks) h = (tt, typed ks h)
+
+listing-text : textLines 0x00000A atStart listing ≡ listingOutput
+unfolding
+    reaction onFrame commanded carried numbered requested answered onChannel replies padded poweredOn isResetFrame put channelOf
+    controllerAnswer actControl controllerCommand spiAnswer actSpi spiCommand gpioAnswer actGpio gpioCommand
+listing-text = refl
+
+everything-text : textLines 0x00000A atStart everything ≡ everythingOutput
+unfolding
+    reaction onFrame commanded carried numbered requested answered onChannel replies onSample onUpset padded poweredOn isResetFrame put
+    channelOf controllerAnswer actControl controllerCommand gpioSampled datainAfter firingLines word
+everything-text = refl
+
+-- THE TABLE HOLDS.
+pub table : Table
+unfolding
+    reaction onFrame commanded carried numbered requested answered onChannel replies padded poweredOn channelOf controllerAnswer actControl
+    controllerCommand dacAnswer actDac dacCommand stuff wire low literal below
+table =
+    record {
+      eight-lines = λ b size.
+          lines-told ours demand3 0x00000A (lit≤ tt) b size listing
+          (typed listing refl)
+          ∙ listing-text;
+      ff-stuffs = refl;
+      7e-stuffs = refl;
+      trn-01 = refl;
+      trn-fe = refl;
+      trn-00 = refl;
+      trn-ff = refl;
+      ch-15 = refl;
+      ch-16 = refl;
+    }
+
+-- A RUN OF EVERYTHING: refusals, a step back, an emptying and a RESET, with the answers due.
+pub every-sentence : (b : List ℕ) → length b ≡ 17408 → played b everything ≡ everythingOutput
+unfolding literal below
+every-sentence b size =
+    lines-told ours demand3 0x00000A (lit≤ tt) b size everything
+    (typed everything refl)
+    ∙ everything-text

@@ -1,0 +1,193 @@
+-- DEMAND 1: "A refused call returns the number that document 01 gives and changes no state, no journal byte and no output byte." Of every
+-- delivered call, for every input. Which number it is stands in the calls' definitions. Assumes nothing.
+use Prim.Native.Nat.{ℕ, _*_, _-_, _/_, _%_}
+use mathlib.Core.Path.{_≡_, refl, sym, ap, _∙_}
+use mathlib.Core.List.{List}
+use mathlib.Core.Bool.{Bool, true, false, not, cond, _&&_, false≢true}
+use lib.ListN.{length, take, drop}
+use lib.Dec.{eqb, ltb, leb}
+use Rattle.parts.specs.Parts.{put}
+use Rattle.link.specs.Bits.{wire, pack}
+use Rattle.link.specs.Fcs.{register, preset, residue}
+use Rattle.link.specs.Frame.{framed}
+use Rattle.link.specs.Receiver.{State, Stop, runs, ended, view}
+use Rattle.link.specs.Receiver as receiver
+use Rattle.link.specs.Receive.{atFlag, Reading, reading, concluded, readFrom, receivedAs, received}
+use Rattle.link.specs.Receive as receive
+use Rattle.link.specs.Transmit.{transmitted}
+use Rattle.link.specs.Transmit as transmit
+use Rattle.link.specs.declared.Sent.{Sent}
+use Rattle.link.specs.declared.Receiver.{Receiver}
+use Rattle.link.specs.declared.Received.{Received}
+use Rattle.chip.specs.declared.Adapter.{Adapter}
+use Rattle.chip.specs.Event.{Event}
+use Rattle.chip.specs.State.{powerOn, inRange}
+use Rattle.chip.proofs.Laws.{number-given}
+use Rattle.journal.specs.Layout.{version1, keptOf, wellFormed, past, lowered, emptied}
+use Rattle.journal.specs.Record.{restored, sound}
+use Rattle.adapter.specs.declared.Verdict.{Verdict}
+use Rattle.adapter.specs.declared.Verdict.the-variants.{Refused, Passed}
+use Rattle.adapter.specs.declared.Created.{Created}
+use Rattle.adapter.specs.Refusals.{verdict}
+use Rattle.adapter.specs.Calls.{Outcome, outcome, plain, done, called, Stepped, stepped, steppedBack, cleared, madeEmpty, created}
+use Rattle.adapter.proofs.Laws.{no-adapter, called-refused, called-done}
+use Rattle.promises.specs.Runs.{isRefusal}
+use Rattle.promises.proofs.Runs.{not-one-to-ten}
+
+-- ---- the adapter
+
+module _ (a : Adapter) (j : List ℕ) (e : Event) (o : List ℕ) where
+  -- an event: the adapter, the journal and the output as they came
+  pub event-unchanged : isRefusal (called a j e o .answer .number) ≡ true → called a j e o ≡ outcome (plain a (called a j e o .answer .number)) j o
+  unfolding done
+  event-unchanged h = go (verdict a j e o) refl
+    where
+      go : (v : Verdict) → verdict a j e o ≡ v → called a j e o ≡ outcome (plain a (called a j e o .answer .number)) j o
+      go (Refused n) q =
+          let x = called-refused a j e o n q in
+          x ∙ ap (λ (m : ℕ). outcome (plain a m) j o) (sym (ap (λ (y : Outcome). y .answer .number) x))
+      go Passed q =
+          let x = called-done a j e o q in
+          absurd (not-one-to-ten _ (number-given a e) (ap (λ (y : Outcome). isRefusal (y .answer .number)) (sym x) ∙ h))
+
+-- a step back
+module _ (a b : Adapter) (j j′ : List ℕ) where
+  stepped-by : (range formed none damaged : Bool) → Stepped
+  stepped-by range formed none damaged =
+      cond range (stepped (plain a 6) j)
+      (cond formed (stepped (plain a 4) j) (cond none (stepped (plain a 5) j) (cond damaged (stepped (plain a 4) j) (stepped (plain b 17) j′))))
+
+  stepped-unchanged : (range formed none damaged : Bool) → isRefusal (stepped-by range formed none damaged .answer .number) ≡ true
+      → stepped-by range formed none damaged ≡ stepped (plain a (stepped-by range formed none damaged .answer .number)) j
+  unfolding stepped-by
+  stepped-unchanged true formed none damaged h = refl
+  stepped-unchanged false true none damaged h = refl
+  stepped-unchanged false false true damaged h = refl
+  stepped-unchanged false false false true h = refl
+  stepped-unchanged false false false false h = absurd (false≢true h)
+
+pub back-unchanged : (a : Adapter) (j : List ℕ) → isRefusal (steppedBack a j .answer .number) ≡ true → steppedBack a j ≡ stepped (plain a (steppedBack a j .answer .number)) j
+unfolding steppedBack stepped-by
+back-unchanged a j h =
+    stepped-unchanged a (restored a (past version1 j 0)) j (lowered j) (not (inRange a)) (not (wellFormed version1 j)) (eqb (keptOf j) 0)
+    (not (sound a (past version1 j 0))) h
+
+-- the emptying call
+cleared-unchanged : (j j′ : List ℕ) (b : Bool) → isRefusal (cond b (cleared 17 j′) (cleared 4 j) .number) ≡ true → cond b (cleared 17 j′) (cleared 4 j) .journal ≡ j
+cleared-unchanged j j′ true h = absurd (false≢true h)
+cleared-unchanged j j′ false h = refl
+
+pub empty-unchanged : (j : List ℕ) → isRefusal (madeEmpty j .number) ≡ true → madeEmpty j .journal ≡ j
+unfolding madeEmpty
+empty-unchanged j h = cleared-unchanged j (emptied version1 j) (eqb (length j) 17408) h
+
+-- creation: no adapter, for every call refuses the one that comes with 7
+created-none : (id : ℕ) (b : Bool) → let r : Created = cond b (record { number = 7; adapter = powerOn 0xFFFFFFFF }) (record { number = 17; adapter = powerOn id }) in
+    isRefusal (r .number) ≡ true → inRange (r .adapter) ≡ false
+created-none id true h = no-adapter
+created-none id false h = absurd (false≢true h)
+
+pub no-adapter-created : (id : ℕ) → isRefusal (created id .number) ≡ true → inRange (created id .adapter) ≡ false
+unfolding created
+no-adapter-created id h = created-none id (ltb 0xFFFFFF id) h
+
+-- ---- the link
+
+-- a transmitter: no byte written
+pub record Untouched (body output : List ℕ) : Type 0 where
+  pub bytes : transmit.outputAfter body output ≡ output
+  pub count : transmitted body output .count ≡ 0
+
+pub transmit-unchanged : (body output : List ℕ) → isRefusal (transmitted body output .number) ≡ true → Untouched body output
+unfolding transmitted transmit.outputAfter
+transmit-unchanged body output h = record { bytes = bytes-by fits room h; count = count-by fits room h }
+  where
+    fits : Bool
+    fits = leb 2 (length body) && leb (length body) 16
+
+    room : Bool
+    room = leb 24 (length output)
+
+    sent-by : Bool → Bool → Sent
+    sent-by x y = cond x (cond y (record { number = 0; count = length (framed body) }) (record { number = 1; count = 0 })) (record { number = 2; count = 0 })
+
+    bytes-by : (x y : Bool) → isRefusal (sent-by x y .number) ≡ true → cond x (cond y (put 0 (framed body) output) output) output ≡ output
+    bytes-by false y q = refl
+    bytes-by true false q = refl
+    bytes-by true true q = absurd (false≢true q)
+
+    count-by : (x y : Bool) → isRefusal (sent-by x y .number) ≡ true → sent-by x y .count ≡ 0
+    count-by false y q = refl
+    count-by true false q = refl
+    count-by true true q = absurd (false≢true q)
+
+-- what a reading answers is no refusal
+flag-answer : (long few whole good : Bool) (body : List ℕ)
+    → isRefusal (cond few (receive.bare 17) (cond long (receive.bare 21) (cond whole (cond good (record { number = 0; body = body }) (receive.bare 23)) (receive.bare 22))) .number) ≡ false
+flag-answer long true whole good body = refl
+flag-answer true false whole good body = refl
+flag-answer false false false good body = refl
+flag-answer false false true true body = refl
+flag-answer false false true false body = refl
+
+at-flag : (content : List ℕ) → isRefusal (atFlag content .number) ≡ false
+unfolding atFlag
+at-flag content =
+    flag-answer (ltb 144 (length content)) (ltb (length content) 32) (eqb (length content % 8) 0) (eqb (register preset content) residue)
+    (take (length content / 8 - 2) (pack content))
+
+read-answer : (p : Stop) → isRefusal (concluded p .answer .number) ≡ false
+read-answer p = go (eqb (p .hit) 0) (eqb (p .hit) 1)
+  where
+    stop : Bool → Bool → Reading
+    stop x y =
+        cond x (record { answer = receive.bare 17; state = p .state; consumed = p .used })
+        (cond y (record { answer = atFlag (take (ended (p .state) 0) (p .state .content)); state = receiver.opened; consumed = p .used })
+        (record { answer = receive.bare 24; state = receiver.hunting; consumed = p .used }))
+
+    go : (x y : Bool) → isRefusal (stop x y .answer .number) ≡ false
+    go true y = refl
+    go false true = at-flag _
+    go false false = refl
+
+reading-answer : (s : State) (bits : List ℕ) → isRefusal (reading s bits .answer .number) ≡ false
+unfolding reading
+reading-answer s bits = read-answer (runs s 0 bits)
+
+-- a receiver: it and the output as they came, no bit consumed
+pub record Unmoved (rx : Receiver) (input : List ℕ) (start : ℕ) (output : List ℕ) : Type 0 where
+  pub receiver-same : received rx input start output .rx ≡ rx
+  pub consumed : received rx input start output .consumed ≡ 0
+  pub body : received rx input start output .length ≡ 0
+  pub bytes : receive.outputAfter rx input start output ≡ output
+
+module _ (rx : Receiver) (input : List ℕ) (start : ℕ) (output : List ℕ) where
+  refused-by : {A : Type 0} → (ℕ → A) → A → Bool → Bool → Bool → Bool → A
+  refused-by refused done range size inside room = cond range (cond size (cond inside (cond room done (refused 1)) (refused 9)) (refused 8)) (refused 6)
+
+  bare-by : ℕ → Received
+  bare-by n = record { rx = rx; number = n; consumed = 0; length = 0 }
+
+  by-tests : {A : Type 0} (P : A → Type 0) (refused : ℕ → A) (done : A) → ((n : ℕ) → P (refused n)) → (range size inside room : Bool)
+      → isRefusal (refused-by bare-by (receivedAs (readFrom rx input start)) range size inside room .number) ≡ true → P (refused-by refused done range size inside room)
+  unfolding refused-by bare-by
+  by-tests P refused done p false size inside room h = p 6
+  by-tests P refused done p true false inside room h = p 8
+  by-tests P refused done p true true false room h = p 9
+  by-tests P refused done p true true true false h = p 1
+  by-tests P refused done p true true true true h = absurd (false≢true (sym (reading-answer (view rx) (drop start (wire input))) ∙ h))
+
+  pub receive-unchanged : isRefusal (received rx input start output .number) ≡ true → Unmoved rx input start output
+  unfolding received receive.outputAfter refused-by bare-by
+  receive-unchanged h =
+      let range = receiver.inRange rx in
+      let size = leb (length input) 65536 in
+      let inside = leb start (8 * length input) in
+      let room = leb 16 (length output) in
+      let done = receivedAs (readFrom rx input start) in
+      record {
+        receiver-same = by-tests (λ (r : Received). r .rx ≡ rx) bare-by done (λ n. refl) range size inside room h;
+        consumed = by-tests (λ (r : Received). r .consumed ≡ 0) bare-by done (λ n. refl) range size inside room h;
+        body = by-tests (λ (r : Received). r .length ≡ 0) bare-by done (λ n. refl) range size inside room h;
+        bytes = by-tests (λ (o : List ℕ). o ≡ output) (λ n. output) (put 0 (readFrom rx input start .answer .body) output) (λ n. refl) range size inside room h;
+      }

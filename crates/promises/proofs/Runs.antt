@@ -1,0 +1,511 @@
+-- DEMAND 3 of the delivered calls. The invariant along a run: the state is that of the standing events, the journal is well formed, its
+-- number is the text's, and its i-th newest record restores the state with i + 1 events taken back. Assumes nothing.
+use Prim.Native.Nat.{ℕ, zero, suc, _+_, _-_, min, _≤_, _<_}
+use mathlib.Core.Path.{_≡_, refl, sym, ap, subst, _∙_}
+use mathlib.Core.List.{List, [], _∷_, foldl}
+use mathlib.Core.Bool.{Bool, true, false, not, cond, _&&_, _||_, false≢true, true≢false}
+use mathlib.Core.Logic.{_⊎_, inl, inr, ⊎-elim}
+use native.Mathlib.Nat.{eq-zero-or-pos}
+use native.Mathlib.Omega.{arith}
+use lib.ListN.{length, drop, length-drop}
+use lib.Seq.{drop-drop}
+use lib.Dec.{eqb, ltb, leb, lit<}
+use borrow.Author.Tests.{eq-eqb, ne-eqb, eqb-true, eqb-false, ltb-false, le-ltb, leb-true}
+use Rattle.numbers.specs.Numbers as number
+use Rattle.chip.specs.declared.Adapter.{Adapter}
+use Rattle.chip.specs.Event.{Event, frame, completion, sample, upset, EventFits}
+use Rattle.chip.specs.State.{poweredOn, powerOn, inRange}
+use Rattle.chip.specs.Chip.{reaction, acceptedReset}
+use Rattle.chip.proofs.Laws.{Fits, power-on-fits, fits-kept, power-on-in-range, range-kept, number-given, id-stays}
+use Rattle.journal.specs.Layout.{version1, keptOf, past, emptied, lowered}
+use Rattle.journal.specs.Record.{restored, sound}
+use Rattle.journal.proofs.Ring.{Well, well-of, emptied-well, emptied-kept, lowered-well, lowered-kept, lowered-past}
+use Rattle.adapter.specs.declared.Verdict.the-variants.{Refused, Passed}
+use Rattle.adapter.specs.declared.KeptNumber.{KeptNumber}
+use Rattle.adapter.specs.Refusals.{wrongArgument, wrongBody, inOrder, verdict}
+use Rattle.adapter.specs.Calls.{Outcome, outcome, plain, recorded, done, called, Stepped, stepped, steppedBack, Cleared, keptIn, created}
+use Rattle.adapter.proofs.Laws.{called-refused, called-done, own-refusals, recorded-well, recorded-kept, newest-restores, newest-sound, older-stay, back-refused, back-done, empty-done}
+use Rattle.promises.specs.Runs.{Call, event, back, empty, Given, OfItsTypes, AllOfTheirTypes, Run, left, refusal, refused, Standing, atStart, keeps, standing, stateAfter, dueState, bare, answered, due, refuses, lent, Demand3}
+use Rattle.promises.specs.Ours.{Handed, handed, shown, givesOurs, leavesOurs, ours}
+
+-- ---- what refuses an event's own arguments
+
+by-order : (short argument body : Bool) → inOrder false false short argument body
+    ≡ (let n = cond short 1 (cond argument 3 (cond body 2 0)) in cond (not (eqb n 0)) (Refused n) Passed)
+unfolding inOrder
+by-order true argument body = refl
+by-order false true body = refl
+by-order false false true = refl
+by-order false false false = refl
+
+pub both-right : (short argument body : Bool) → not (eqb (cond short 1 (cond argument 3 (cond body 2 0))) 0) ≡ false → (argument ≡ false) × (body ≡ false)
+both-right true argument body h = absurd (true≢false h)
+both-right false true body h = absurd (true≢false h)
+both-right false false true h = absurd (true≢false h)
+both-right false false false h = (refl, refl)
+
+neither : (a b : Bool) → (a || b) ≡ false → (a ≡ false) × (b ≡ false)
+neither true b h = absurd (true≢false h)
+neither false b h = (refl, h)
+
+not-false : (b : Bool) → not b ≡ false → b ≡ true
+not-false true h = refl
+not-false false h = absurd (true≢false h)
+
+-- an event of its types that is not refused is one that fits
+fits : (e : Event) (output : List ℕ) → OfItsTypes (event e output) → refused e output ≡ false → EventFits e
+fits (frame port body) output t h =
+    let b = both-right (ltb (length output) 16) (wrongArgument (frame port body)) (wrongBody (frame port body)) h in
+    let l = neither (ltb (length body) 2) (ltb 16 (length body)) (b .1) in
+    record { port = ltb-false 1 port (b .0); short = ltb-false (length body) 2 (l .0); long = ltb-false 16 (length body) (l .1); bytes = t }
+fits (completion received) output t h =
+    let b = both-right (ltb (length output) 16) (wrongArgument (completion received)) false h in
+    record { sixteen = eqb-true (length received) 16 (not-false _ (b .0)); bytes = t }
+fits (sample levels kind) output t h =
+    let b = both-right (ltb (length output) 16) (wrongArgument (sample levels kind)) false h in
+    record { levels = t; kind = ltb-false 2 kind (b .0) }
+fits upset output t h = tt
+
+module _ (a : Adapter) (j : List ℕ) (ranged : inRange a ≡ true) (w : Well version1 j) (e : Event) (o : List ℕ) where
+  own : verdict a j e o ≡ cond (refused e o) (Refused (refusal e o)) Passed
+  own = own-refusals a j e o ranged w ∙ by-order (ltb (length o) 16) (wrongArgument e) (wrongBody e)
+
+  is-refused : refused e o ≡ true → called a j e o ≡ outcome (plain a (refusal e o)) j o
+  is-refused h = called-refused a j e o (refusal e o) (own ∙ rw h refl)
+
+  is-done : refused e o ≡ false → called a j e o ≡ done a j e o
+  is-done h = called-done a j e o (own ∙ rw h refl)
+
+-- the numbers that the chip gives are no refusals
+pub not-one-to-ten : (n : ℕ) → (n ≡ 0) ⊎ ((11 ≤ n) × (n ≤ 17)) → (leb 1 n && leb n 10) ≡ true → ⊥
+not-one-to-ten n (inl z) h = false≢true (rw z at h)
+not-one-to-ten n (inr l) h = go (leb 1 n) refl
+  where
+    go : (b : Bool) → leb 1 n ≡ b → ⊥
+    go true e = let u = leb-true n 10 (rw e at h) in omega arith
+    go false e = false≢true (rw e at h)
+
+-- ---- the states of runs of only the standing events
+
+AllFit : List Event → Type 0
+AllFit [] = Unit
+AllFit (e ∷ es) = EventFits e × AllFit es
+
+drop-fit : (n : ℕ) (es : List Event) → AllFit es → AllFit (drop n es)
+unfolding AllFit
+drop-fit zero es f = f
+drop-fit (suc n) [] f = f
+drop-fit (suc n) (e ∷ es) f = drop-fit n es (f .1)
+
+module _ (id : ℕ) (small : id ≤ 0xFFFFFF) where
+  after-id : (es : List Event) → stateAfter id es .id ≡ id
+  unfolding poweredOn
+  after-id [] = refl
+  after-id (e ∷ es) = id-stays (stateAfter id es) e ∙ after-id es
+
+  after-fits : (es : List Event) → AllFit es → Fits (stateAfter id es)
+  unfolding AllFit
+  after-fits [] f = power-on-fits id (omega arith)
+  after-fits (e ∷ es) f = fits-kept (stateAfter id es) e (after-fits es (f .1)) (f .0)
+
+  after-ranged : (es : List Event) → AllFit es → inRange (stateAfter id es) ≡ true
+  unfolding AllFit
+  after-ranged [] f = power-on-in-range id small
+  after-ranged (e ∷ es) f = range-kept (stateAfter id es) e (after-ranged es (f .1)) (f .0)
+
+  -- ---- the invariant
+
+  -- a record that takes a chip of this ID back to a state
+  record TakesTo (r : List ℕ) (a : Adapter) : Type 0 where
+    restores : (b : Adapter) → b .id ≡ id → restored b r ≡ a
+    is-sound : (b : Adapter) → b .id ≡ id → sound b r ≡ true
+
+  -- the i-th newest record has i + 1 events taken back
+  Past : List ℕ → List Event → Type 0
+  Past j es = (i : ℕ) → i < keptOf j → TakesTo (past version1 j i) (stateAfter id (drop (suc i) es))
+
+  record Inv (s : Standing) (j : List ℕ) : Type 0 where
+    fit : AllFit (s .events)
+    well : Well version1 j
+    number : keptOf j ≡ s .number
+    enough : s .number ≤ length (s .events)
+    records : Past j (s .events)
+
+  pair : Standing → List ℕ → Handed
+  pair s j = handed (stateAfter id (s .events)) j
+
+  -- ---- an event that is kept
+
+  module _ (s : Standing) (j : List ℕ) (i : Inv s j) (e : Event) (f : EventFits e) (other : acceptedReset e ≡ false) where
+    before : Adapter
+    before = stateAfter id (s .events)
+
+    after : List ℕ
+    after = recorded (stateAfter id (s .events)) e j
+
+    more : keptOf after ≡ min 64 (keptOf j + 1)
+    unfolding after
+    more = recorded-kept (stateAfter id (s .events)) e j (i .well) ∙ rw other refl
+
+    kept-records : Past after (e ∷ s .events)
+    unfolding after Past
+    kept-records zero l =
+        record {
+          restores = λ b h. newest-restores (stateAfter id (s .events)) e j (i .well) other b (h ∙ sym (after-id (s .events))) (after-fits (s .events) (i .fit));
+          is-sound = λ b h. newest-sound (stateAfter id (s .events)) e j (i .well) other b (h ∙ sym (after-id (s .events))) (after-fits (s .events) (i .fit)) (after-ranged (s .events) (i .fit));
+        }
+    kept-records (suc k) l =
+        let l′ : suc k < min 64 (keptOf j + 1) = subst (λ (n : ℕ). suc k < n) more l in
+        rw (older-stay (stateAfter id (s .events)) e j (i .well) other k l′) (i .records k (omega arith))
+
+    kept-inv : Inv (record { events = e ∷ s .events; number = min 64 (s .number + 1) }) after
+    unfolding after AllFit
+    kept-inv =
+        record {
+          fit = (f, i .fit);
+          well = recorded-well (stateAfter id (s .events)) e j (i .well);
+          number = more ∙ ap (λ (n : ℕ). min 64 (n + 1)) (i .number);
+          enough = omega (arith, i .enough);
+          records = kept-records;
+        }
+
+  -- ---- a journal made empty
+
+  emptied-inv : (s : Standing) (j : List ℕ) → AllFit (s .events) → length j ≡ 17408 → Inv (record { events = s .events; number = 0 }) (emptied version1 j)
+  unfolding Past
+  emptied-inv s j f n =
+      record {
+        fit = f;
+        well = emptied-well version1 j n (lit< tt);
+        number = emptied-kept version1 j;
+        enough = omega arith;
+        records = λ i l. let z = emptied-kept version1 j in absurd (omega arith);
+      }
+
+  -- ---- a step back that is granted
+
+  one-more : (k : ℕ) → 1 + suc k ≡ suc (suc k)
+  one-more k = omega arith
+
+  module _ (s : Standing) (j : List ℕ) (i : Inv s j) (some : keptOf j ≡ 0 → ⊥) where
+    newest : TakesTo (past version1 j 0) (stateAfter id (drop 1 (s .events)))
+    unfolding Past
+    newest = i .records 0 (omega arith)
+
+    back-records : Past (lowered j) (drop 1 (s .events))
+    unfolding Past
+    back-records k l =
+        let l′ : k < keptOf j - 1 = subst (λ (n : ℕ). k < n) (lowered-kept version1 j (i .well)) l in
+        let d : drop (suc k) (drop 1 (s .events)) ≡ drop (suc (suc k)) (s .events) = drop-drop (suc k) 1 (s .events) ∙ ap (λ (n : ℕ). drop n (s .events)) (one-more k) in
+        rw (lowered-past version1 j (i .well) k, d) (i .records (suc k) (omega arith))
+
+    back-inv : Inv (record { events = drop 1 (s .events); number = s .number - 1 }) (lowered j)
+    back-inv =
+        record {
+          fit = drop-fit 1 (s .events) (i .fit);
+          well = lowered-well version1 j (i .well);
+          number = lowered-kept version1 j (i .well) ∙ ap (λ (n : ℕ). n - 1) (i .number);
+          enough = simp length-drop (omega (arith, i .enough));
+          records = back-records;
+        }
+
+    back-granted : steppedBack (stateAfter id (s .events)) j ≡ stepped (plain (stateAfter id (drop 1 (s .events))) 17) (lowered j)
+    back-granted =
+        back-done (stateAfter id (s .events)) j (after-ranged (s .events) (i .fit)) (i .well) some (newest .is-sound (stateAfter id (s .events)) (after-id (s .events)))
+        ∙ ap (λ (b : Adapter). stepped (plain b 17) (lowered j)) (newest .restores (stateAfter id (s .events)) (after-id (s .events)))
+
+  -- ---- one call
+
+  -- what the text says that it gives
+  says : Standing → Call → Given
+  says s (event e o) = due (stateAfter id (s .events)) e o
+  says s back = cond (eqb (s .number) 0) (bare 5 []) (bare 17 [])
+  says s empty = bare 17 []
+
+  record Said (s : Standing) (j : List ℕ) (k : Call) : Type 0 where
+    gives-eq : givesOurs (pair s j) k ≡ says s k
+    same : refuses (says s k) ≡ true → leavesOurs (pair s j) k ≡ pair s j
+
+  said : (s : Standing) (j : List ℕ) (k : Call) (g : Given) → says s k ≡ g → givesOurs (pair s j) k ≡ g
+      → (refuses g ≡ true → leavesOurs (pair s j) k ≡ pair s j) → Said s j k
+  said s j k g e h u = record { gives-eq = h ∙ sym e; same = λ q. u (ap refuses (sym e) ∙ q) }
+
+  record Step (s : Standing) (j : List ℕ) (k : Call) : Type 0 where
+    next : List ℕ
+    leaves-eq : leavesOurs (pair s j) k ≡ pair (keeps s k) next
+    inv : Inv (keeps s k) next
+
+  stepsTo : (s : Standing) (j : List ℕ) (k : Call) (s′ : Standing) (j′ : List ℕ) → keeps s k ≡ s′ → leavesOurs (pair s j) k ≡ pair s′ j′ → Inv s′ j′ → Step s j k
+  stepsTo s j k s′ j′ e h i = record { next = j′; leaves-eq = rw e h; inv = rw e i }
+
+  module _ (s : Standing) (j : List ℕ) (i : Inv s j) where
+    ranged : inRange (stateAfter id (s .events)) ≡ true
+    ranged = after-ranged (s .events) (i .fit)
+
+    module _ (e : Event) (o : List ℕ) where
+      module _ (h : refused e o ≡ true) where
+        refused-leaves : leavesOurs (pair s j) (event e o) ≡ pair s j
+        unfolding pair
+        refused-leaves = ap (λ (x : Outcome). handed (x .answer .adapter) (x .journal)) (is-refused (stateAfter id (s .events)) j ranged (i .well) e o h)
+
+        refused-said : Said s j (event e o)
+        unfolding pair says
+        refused-said =
+            said s j (event e o) (bare (refusal e o) o) (rw h refl)
+            (ap (λ (x : Outcome). shown (x .answer) (x .output)) (is-refused (stateAfter id (s .events)) j ranged (i .well) e o h)) (λ _. refused-leaves)
+
+        refused-step : Step s j (event e o)
+        refused-step = stepsTo s j (event e o) s j (rw h refl) refused-leaves i
+
+      module _ (h : refused e o ≡ false) where
+        done-leaves : leavesOurs (pair s j) (event e o) ≡ handed (reaction (stateAfter id (s .events)) e .adapter) (recorded (stateAfter id (s .events)) e j)
+        unfolding pair done
+        done-leaves = ap (λ (x : Outcome). handed (x .answer .adapter) (x .journal)) (is-done (stateAfter id (s .events)) j ranged (i .well) e o h)
+
+        done-said : Said s j (event e o)
+        unfolding pair says done
+        done-said =
+            said s j (event e o) (answered (reaction (stateAfter id (s .events)) e) o) (rw h refl)
+            (ap (λ (x : Outcome). shown (x .answer) (x .output)) (is-done (stateAfter id (s .events)) j ranged (i .well) e o h))
+            (λ q. absurd (not-one-to-ten _ (number-given (stateAfter id (s .events)) e) q))
+
+        module _ (t : OfItsTypes (event e o)) where
+          reset-step : acceptedReset e ≡ true → Step s j (event e o)
+          unfolding pair AllFit
+          reset-step r =
+              stepsTo s j (event e o) (record { events = e ∷ s .events; number = 0 }) (emptied version1 j) (simp (h, r)) (done-leaves ∙ simp r)
+              (emptied-inv (record { events = e ∷ s .events; number = 0 }) j (fits e o t h, i .fit) (i .well .size))
+
+          kept-step : acceptedReset e ≡ false → Step s j (event e o)
+          unfolding pair after
+          kept-step r =
+              stepsTo s j (event e o) (record { events = e ∷ s .events; number = min 64 (s .number + 1) }) (after s j i e (fits e o t h) r) (simp (h, r)) done-leaves
+              (kept-inv s j i e (fits e o t h) r)
+
+      event-said : Said s j (event e o)
+      event-said = go (refused e o) refl
+        where
+          go : (b : Bool) → refused e o ≡ b → Said s j (event e o)
+          go true h = refused-said h
+          go false h = done-said h
+
+      event-step : OfItsTypes (event e o) → Step s j (event e o)
+      event-step t = go (refused e o) refl (acceptedReset e) refl
+        where
+          go : (b : Bool) → refused e o ≡ b → (r : Bool) → acceptedReset e ≡ r → Step s j (event e o)
+          go true h r q = refused-step h
+          go false h true q = reset-step h t q
+          go false h false q = kept-step h t q
+
+    module _ (z : keptOf j ≡ 0) where
+      zero-number : s .number ≡ 0
+      zero-number = sym (i .number) ∙ z
+
+      zero-leaves : leavesOurs (pair s j) back ≡ pair s j
+      unfolding pair
+      zero-leaves = ap (λ (x : Stepped). handed (x .answer .adapter) (x .journal)) (back-refused (stateAfter id (s .events)) j ranged (i .well) z)
+
+      zero-said : Said s j back
+      unfolding pair says
+      zero-said =
+          said s j back (bare 5 []) (simp (eq-eqb _ _ zero-number))
+          (ap (λ (x : Stepped). shown (x .answer) []) (back-refused (stateAfter id (s .events)) j ranged (i .well) z)) (λ _. zero-leaves)
+
+      zero-step : Step s j back
+      zero-step = stepsTo s j back s j (simp (eq-eqb _ _ zero-number)) zero-leaves i
+
+    module _ (z : keptOf j ≡ 0 → ⊥) where
+      some-number : s .number ≡ 0 → ⊥
+      some-number q = z (i .number ∙ q)
+
+      granted-said : Said s j back
+      unfolding pair says
+      granted-said =
+          said s j back (bare 17 []) (simp (ne-eqb _ _ some-number)) (ap (λ (x : Stepped). shown (x .answer) []) (back-granted s j i z))
+          (λ q. absurd (false≢true q))
+
+      granted-step : Step s j back
+      unfolding pair
+      granted-step =
+          stepsTo s j back (record { events = drop 1 (s .events); number = s .number - 1 }) (lowered j) (simp (ne-eqb _ _ some-number))
+          (ap (λ (x : Stepped). handed (x .answer .adapter) (x .journal)) (back-granted s j i z)) (back-inv s j i z)
+
+    empty-said : Said s j empty
+    unfolding pair says
+    empty-said = said s j empty (bare 17 []) refl (ap (λ (x : Cleared). bare (x .number) []) (empty-done j (i .well .size))) (λ q. absurd (false≢true q))
+
+    empty-step : Step s j empty
+    unfolding pair
+    empty-step =
+        stepsTo s j empty (record { events = s .events; number = 0 }) (emptied version1 j) refl
+        (ap (λ (x : Cleared). handed (stateAfter id (s .events)) (x .journal)) (empty-done j (i .well .size))) (emptied-inv s j (i .fit) (i .well .size))
+
+    say : (k : Call) → Said s j k
+    say (event e o) = event-said e o
+    say back = ⊎-elim zero-said (λ pos. granted-said (λ z. omega arith)) (eq-zero-or-pos (keptOf j))
+    say empty = empty-said
+
+    step : (k : Call) → OfItsTypes k → Step s j k
+    step (event e o) t = event-step e o t
+    step back t = ⊎-elim zero-step (λ pos. granted-step (λ z. omega arith)) (eq-zero-or-pos (keptOf j))
+    step empty t = empty-step
+
+  -- ---- every run
+
+  record Whole (s : Standing) (j : List ℕ) (ks : List Call) : Type 0 where
+    last : List ℕ
+    left-eq : foldl leavesOurs (pair s j) ks ≡ pair (foldl keeps s ks) last
+    inv : Inv (foldl keeps s ks) last
+
+  whole : (ks : List Call) (s : Standing) (j : List ℕ) → Inv s j → AllOfTheirTypes ks → Whole s j ks
+  whole [] s j i t = record { last = j; left-eq = refl; inv = i }
+  whole (k ∷ ks) s j i t =
+      let x = step s j i k (t .0) in
+      let w = whole ks (keeps s k) (x .next) (x .inv) (t .1) in
+      record { last = w .last; left-eq = ap (λ (p : Handed). foldl leavesOurs p ks) (x .leaves-eq) ∙ w .left-eq; inv = w .inv }
+
+-- ---- the start
+
+-- any chip ID that `create` accepts
+pub accepted-id : (id : ℕ) → created id .number ≡ number.noFrame → id ≤ 0xFFFFFF
+unfolding created
+accepted-id id h = go (ltb 0xFFFFFF id) refl
+  where
+    go : (b : Bool) → ltb 0xFFFFFF id ≡ b → id ≤ 0xFFFFFF
+    go true e = absurd (eqb-false 7 17 refl (rw e at h))
+    go false e = ltb-false 0xFFFFFF id e
+
+pub created-new : (id : ℕ) → id ≤ 0xFFFFFF → created id ≡ record { number = number.noFrame; adapter = powerOn id }
+unfolding created
+created-new id h = rw (le-ltb 0xFFFFFF id h) refl
+
+-- after every run, the pair and the invariant
+module _ (r : Run) where
+  start-eq : ours .start (r .id) (r .bytes) ≡ pair (r .id) (r .id-fits) atStart (emptied version1 (r .bytes))
+  unfolding pair
+  start-eq = rw (created-new (r .id) (r .id-fits), empty-done (r .bytes) (r .size)) refl
+
+  run-whole : Whole (r .id) (r .id-fits) atStart (emptied version1 (r .bytes)) (r .calls)
+  unfolding AllFit
+  run-whole =
+      whole (r .id) (r .id-fits) (r .calls) atStart (emptied version1 (r .bytes)) (emptied-inv (r .id) (r .id-fits) atStart (r .bytes) tt (r .size)) (r .typed)
+
+  last : List ℕ
+  last = run-whole .last
+
+  at-end : left ours r ≡ pair (r .id) (r .id-fits) (standing r) last
+  unfolding last
+  at-end = ap (λ (p : Handed). foldl leavesOurs p (r .calls)) start-eq ∙ run-whole .left-eq
+
+  inv-end : Inv (r .id) (r .id-fits) (standing r) last
+  unfolding last
+  inv-end = run-whole .inv
+
+  kept-end : keptIn (left ours r .journal) ≡ record { number = number.noFrame; kept = standing r .number }
+  unfolding keptIn pair
+  kept-end = rw at-end (simp (well-of (inv-end .well), inv-end .number))
+
+  said-end : (k : Call) → Said (r .id) (r .id-fits) (standing r) last k
+  said-end k = say (r .id) (r .id-fits) (standing r) last inv-end k
+
+  gives-end : (k : Call) → givesOurs (left ours r) k ≡ says (r .id) (r .id-fits) (standing r) k
+  gives-end k = ap (λ (p : Handed). givesOurs p k) at-end ∙ said-end k .gives-eq
+
+  -- ---- what the text never says
+
+  fine : (n : ℕ) → (n ≡ 0) ⊎ ((11 ≤ n) × (n ≤ 17)) → (n ≡ 4 → ⊥) × (n ≡ 6 → ⊥)
+  fine n (inl z) = (λ e. omega arith, λ e. omega arith)
+  fine n (inr l) = (λ e. omega arith, λ e. omega arith)
+
+  own-number : Bool → Bool → Bool → ℕ
+  own-number short argument body = cond short 1 (cond argument 3 (cond body 2 0))
+
+  own-fine : (short argument body : Bool) → (own-number short argument body ≡ 4 → ⊥) × (own-number short argument body ≡ 6 → ⊥)
+  unfolding own-number
+  own-fine true argument body = (eqb-false 1 4 refl, eqb-false 1 6 refl)
+  own-fine false true body = (eqb-false 3 4 refl, eqb-false 3 6 refl)
+  own-fine false false true = (eqb-false 2 4 refl, eqb-false 2 6 refl)
+  own-fine false false false = (eqb-false 0 4 refl, eqb-false 0 6 refl)
+
+  never : (k : Call) → (says (r .id) (r .id-fits) (standing r) k .number ≡ 4 → ⊥) × (says (r .id) (r .id-fits) (standing r) k .number ≡ 6 → ⊥)
+  unfolding says own-number
+  never (event e o) = go (refused e o)
+    where
+      go : (b : Bool) → (cond b (bare (refusal e o) o) (answered (reaction (dueState r) e) o) .number ≡ 4 → ⊥)
+          × (cond b (bare (refusal e o) o) (answered (reaction (dueState r) e) o) .number ≡ 6 → ⊥)
+      go true = own-fine (ltb (length o) 16) (wrongArgument e) (wrongBody e)
+      go false = fine _ (number-given (dueState r) e)
+  never back = go (eqb (standing r .number) 0)
+    where
+      go : (b : Bool) → (cond b (bare 5 []) (bare 17 []) .number ≡ 4 → ⊥) × (cond b (bare 5 []) (bare 17 []) .number ≡ 6 → ⊥)
+      go true = (eqb-false 5 4 refl, eqb-false 5 6 refl)
+      go false = (eqb-false 17 4 refl, eqb-false 17 6 refl)
+  never empty = (eqb-false 17 4 refl, eqb-false 17 6 refl)
+
+  -- a refused call's output
+  output-same : (k : Call) → refuses (says (r .id) (r .id-fits) (standing r) k) ≡ true → says (r .id) (r .id-fits) (standing r) k .output ≡ lent k
+  unfolding says
+  output-same (event e o) = go (refused e o)
+    where
+      go : (b : Bool) → refuses (cond b (bare (refusal e o) o) (answered (reaction (dueState r) e) o)) ≡ true
+          → cond b (bare (refusal e o) o) (answered (reaction (dueState r) e) o) .output ≡ o
+      go true h = refl
+      go false h = absurd (not-one-to-ten _ (number-given (dueState r) e) h)
+  output-same back = go (eqb (standing r .number) 0)
+    where
+      go : (b : Bool) → refuses (cond b (bare 5 []) (bare 17 [])) ≡ true → cond b (bare 5 []) (bare 17 []) .output ≡ []
+      go true h = refl
+      go false h = refl
+  output-same empty = λ h. refl
+
+  -- ---- the sentences
+
+  number-end : keptIn (left ours r .journal) .kept ≡ standing r .number
+  number-end = ap (λ (x : KeptNumber). x .kept) kept-end
+
+  zero-back : keptIn (left ours r .journal) .kept ≡ 0 → (givesOurs (left ours r) back ≡ bare 5 []) × (leavesOurs (left ours r) back ≡ left ours r)
+  unfolding says
+  zero-back z =
+      let e : eqb (standing r .number) 0 ≡ true = eq-eqb _ _ (sym number-end ∙ z) in (
+        gives-end back ∙ rw e refl,
+        ap (λ (p : Handed). leavesOurs p back) at-end ∙ said-end back .same (rw e refl) ∙ sym at-end,
+      )
+
+  some-back : (keptIn (left ours r .journal) .kept ≡ 0 → ⊥)
+      → (givesOurs (left ours r) back ≡ bare 17 []) × (leavesOurs (left ours r) back .adapter ≡ stateAfter (r .id) (drop 1 (standing r .events)))
+  unfolding says pair
+  some-back z =
+      let e : eqb (standing r .number) 0 ≡ false = ne-eqb _ _ (λ q. z (number-end ∙ q)) in
+      let x = step (r .id) (r .id-fits) (standing r) last inv-end back tt in (
+        gives-end back ∙ rw e refl,
+        ap (λ (p : Handed). leavesOurs p back .adapter) at-end ∙ ap (λ (p : Handed). p .adapter) (x .leaves-eq) ∙ rw e refl,
+      )
+
+  refused-same : (k : Call) → refuses (givesOurs (left ours r) k) ≡ true → (leavesOurs (left ours r) k ≡ left ours r) × (givesOurs (left ours r) k .output ≡ lent k)
+  refused-same k h =
+      let q : refuses (says (r .id) (r .id-fits) (standing r) k) ≡ true = ap refuses (sym (gives-end k)) ∙ h in (
+        ap (λ (p : Handed). leavesOurs p k) at-end ∙ said-end k .same q ∙ sym at-end,
+        ap (λ (g : Given). g .output) (gives-end k) ∙ output-same k q,
+      )
+
+-- DEMAND 3 HOLDS of the delivered calls: for every chip ID that `create` accepts, every 17,408 bytes made empty, every list of calls.
+pub demand3 : Demand3 ours
+unfolding pair says
+demand3 =
+    record {
+      undamaged = λ r k. rw (gives-end r k) (never r k);
+      state = λ r. ap (λ (p : Handed). p .adapter) (at-end r);
+      reply = λ r e output. gives-end r (event e output);
+      takes-back = λ r. some-back r;
+      refused-at-zero = λ r. zero-back r;
+      kept = λ r. kept-end r;
+      empties = λ r. gives-end r empty;
+      unchanged = λ r k h. refused-same r k h;
+    }
+
+-- The text's own numbers: there is an event to take back where the kept number is not zero, and it is at most 64.
+pub enough-standing : (r : Run) → standing r .number ≤ length (standing r .events)
+enough-standing r = inv-end r .enough
+
+pub at-most-64 : (r : Run) → standing r .number ≤ 64
+at-most-64 r = subst (λ (n : ℕ). n ≤ 64) (inv-end r .number) (inv-end r .well .few)

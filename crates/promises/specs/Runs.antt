@@ -1,0 +1,166 @@
+-- DEMAND 3. A run is any list of calls. On one side stand the calls as they are made, each handed what the last one left (`Calls`); on
+-- the other the demand's own text over the chip of demand 2 alone, which knows no journal (`refusal`, `keeps`, `stateAfter`, `due`).
+-- `Demand3` says of the calls what the demand says of a run, a field for each of its sentences.
+use Prim.Native.Nat.{ℕ, _+_, _-_, _≤_, _<_, _^_, min}
+use mathlib.Core.Path.{_≡_}
+use mathlib.Core.Bool.{Bool, true, not, cond, _&&_}
+use mathlib.Core.List.{List, [], _∷_, foldl}
+use lib.ListN.{length, take, drop, getD}
+use lib.Dec.{eqb, ltb, leb}
+use Rattle.numbers.specs.Numbers as number
+use Rattle.parts.specs.Parts.{put}
+use Rattle.chip.specs.declared.Adapter.{Adapter}
+use Rattle.chip.specs.declared.Reaction.{Reaction}
+use Rattle.chip.specs.Event.{Event, frame, completion, sample, upset}
+use Rattle.chip.specs.State.{powerOn}
+use Rattle.chip.specs.Chip.{reaction, acceptedReset}
+use Rattle.adapter.specs.declared.KeptNumber.{KeptNumber}
+use Rattle.adapter.specs.Refusals.{wrongArgument, wrongBody}
+
+-- ---- the calls
+
+-- an event with its arguments and the bytes of the output that is lent to it; a step back; the emptying call
+pub data Call : Type 0 where
+  event : (e : Event) (output : List ℕ) → Call
+  back : Call
+  empty : Call
+
+-- what a call gives, and the output's bytes afterwards; a step back and an emptying are lent no output
+pub record Given : Type 0 where
+  pub number : ℕ
+  pub port : ℕ
+  pub length : ℕ
+  pub output : List ℕ
+
+-- An adapter as its calls show it.
+pub record Calls : Type 1 where
+  -- an adapter and a journal, which each call is handed and leaves
+  pub Pair : Type 0
+  -- a new adapter of this chip ID, and these bytes made empty
+  pub start : ℕ → List ℕ → Pair
+  pub gives : Pair → Call → Given
+  pub leaves : Pair → Call → Pair
+  -- registers, SEU counter, numbers, port, loopback, any open transfer and the ID
+  pub state : Pair → Adapter
+  -- what the call for the kept number gives
+  pub kept : Pair → KeptNumber
+
+-- What every value of the language has, and the definitions' numbers need not: a byte is below 256, levels are 32 bits.
+abbrev pub OfItsTypes : Call → Type 0
+OfItsTypes (event (frame port body) output) = (i : ℕ) → getD body i 0 < 256
+OfItsTypes (event (completion received) output) = (i : ℕ) → getD received i 0 < 256
+OfItsTypes (event (sample levels kind) output) = levels < 2 ^ 32
+OfItsTypes (event upset output) = Unit
+OfItsTypes back = Unit
+OfItsTypes empty = Unit
+
+abbrev pub AllOfTheirTypes : List Call → Type 0
+AllOfTheirTypes [] = Unit
+AllOfTheirTypes (c ∷ cs) = OfItsTypes c × AllOfTheirTypes cs
+
+-- any chip ID, any 17,408 bytes made empty, any calls
+pub record Run : Type 0 where
+  pub id : ℕ
+  pub id-fits : id ≤ 0xFFFFFF
+  pub bytes : List ℕ
+  pub size : length bytes ≡ 17408
+  pub calls : List Call
+  pub typed : AllOfTheirTypes calls
+
+-- "Start from a new adapter with an empty journal, hand each call the pair that the last one left, and let nobody else write either."
+abbrev pub left : (c : Calls) → Run → c .Pair
+left c r = foldl (c .leaves) (c .start (r .id) (r .bytes)) (r .calls)
+
+-- ---- the demand's text
+
+-- the number that refuses an event because of its arguments, in document 01's order 1, 3, 2; 0 where it is not refused
+abbrev pub refusal : Event → List ℕ → ℕ
+refusal e output =
+    cond (ltb (length output) 16) number.shortOutput
+    (cond (wrongArgument e) number.badArgument
+    (cond (wrongBody e) number.badBody 0))
+
+abbrev pub refused : Event → List ℕ → Bool
+refused e output = not (eqb (refusal e output) 0)
+
+-- the standing events, "not refused, not taken back", the newest first; and the kept number
+pub record Standing : Type 0 where
+  pub events : List Event
+  pub number : ℕ
+
+-- "that number is zero at the start,
+abbrev pub atStart : Standing
+atStart = record { events = []; number = 0 }
+
+-- after the emptying call and after an accepted RESET, goes up by one with each other event not refused, to at most 64, and down by one
+-- with each step granted"; "a step back takes back the newest standing event; it is refused, taking nothing back, exactly when the kept
+-- number is zero"
+abbrev pub keeps : Standing → Call → Standing
+keeps s (event e output) =
+    cond (refused e output) s
+    (record { events = e ∷ s .events; number = cond (acceptedReset e) 0 (min 64 (s .number + 1)) })
+keeps s back = cond (eqb (s .number) 0) s (record { events = drop 1 (s .events); number = s .number - 1 })
+keeps s empty = record { events = s .events; number = 0 }
+
+abbrev pub standing : Run → Standing
+standing r = foldl keeps atStart (r .calls)
+
+-- the state of "a run of only the standing events"
+abbrev pub stateAfter : ℕ → List Event → Adapter
+stateAfter id [] = powerOn id
+stateAfter id (e ∷ es) = reaction (stateAfter id es) e .adapter
+
+abbrev pub dueState : Run → Adapter
+dueState r = stateAfter (r .id) (standing r .events)
+
+-- a number alone, the output as it came
+abbrev pub bare : ℕ → List ℕ → Given
+bare n output = record { number = n; port = 0; length = 0; output = output }
+
+-- the chip's answer, its frame at the front of the output
+abbrev pub answered : Reaction → List ℕ → Given
+answered r output =
+    record { number = r .number; port = r .port; length = r .length; output = put 0 (take (r .length) (r .body)) output }
+
+-- "the one due" to an event that happens to a state
+abbrev pub due : Adapter → Event → List ℕ → Given
+due a e output = cond (refused e output) (bare (refusal e output) output) (answered (reaction a e) output)
+
+-- ---- the promise
+
+-- A call is refused when it gives 1 to 10.
+abbrev pub isRefusal : ℕ → Bool
+isRefusal n = leb 1 n && leb n 10
+
+abbrev pub refuses : Given → Bool
+refuses g = isRefusal (g .number)
+
+-- the output lent to a call
+abbrev pub lent : Call → List ℕ
+lent (event e output) = output
+lent back = []
+lent empty = []
+
+pub record Demand3 (c : Calls) : Type 0 where
+  -- "Then no event and no step back gives 4 or 6: what our own calls left is never refused as damaged."
+  pub undamaged : (r : Run) (k : Call)
+      → (c .gives (left c r) k .number ≡ number.badJournal → ⊥) × (c .gives (left c r) k .number ≡ number.badState → ⊥)
+  -- "After any run of events and steps back, registers, SEU counter, numbers, port, loopback and any open transfer are those of a run of
+  -- only the standing events: not refused, not taken back."
+  pub state : (r : Run) → c .state (left c r) ≡ dueState r
+  -- "Each event's reply is the one due after the events standing at that moment." Number, port, length and every output byte.
+  pub reply : (r : Run) (e : Event) (output : List ℕ) → c .gives (left c r) (event e output) ≡ due (dueState r) e output
+  -- "A step back takes back the newest standing event;
+  pub takes-back : (r : Run) → (c .kept (left c r) .kept ≡ 0 → ⊥)
+      → (c .gives (left c r) back ≡ bare number.noFrame []) × (c .state (c .leaves (left c r) back) ≡ stateAfter (r .id) (drop 1 (standing r .events)))
+  -- it is refused, taking nothing back, exactly when the kept number is zero;
+  pub refused-at-zero : (r : Run) → c .kept (left c r) .kept ≡ 0
+      → (c .gives (left c r) back ≡ bare number.noneKept []) × (c .leaves (left c r) back ≡ left c r)
+  -- that number is zero at the start, after the emptying call and after an accepted RESET, goes up by one with each other event not
+  -- refused, to at most 64, and down by one with each step granted."
+  pub kept : (r : Run) → c .kept (left c r) ≡ record { number = number.noFrame; kept = standing r .number }
+  -- The emptying call is not refused.
+  pub empties : (r : Run) → c .gives (left c r) empty ≡ bare number.noFrame []
+  -- Demand 1, along the run: "A refused call [..] changes no state, no journal byte and no output byte."
+  pub unchanged : (r : Run) (k : Call) → refuses (c .gives (left c r) k) ≡ true
+      → (c .leaves (left c r) k ≡ left c r) × (c .gives (left c r) k .output ≡ lent k)

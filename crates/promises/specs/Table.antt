@@ -1,0 +1,123 @@
+-- DOCUMENT 01'S TABLE, under one claim ("Bench listing"), and a run in which every sentence of demand 3 has its turn. The lines are those
+-- of the delivered calls from a new adapter, body to body.
+use Prim.Native.Nat.{ℕ}
+use mathlib.Core.Path.{_≡_}
+use mathlib.Core.Bool.{cond}
+use mathlib.Core.List.{List, [], _∷_}
+use lib.ListN.{length, take, getD, replicate}
+use lib.Dec.{eqb}
+use Rattle.link.specs.Bits.{wire}
+use Rattle.link.specs.Frame.{stuff}
+use Rattle.chip.specs.Event.{Event, frame, sample, upset}
+use Rattle.chip.specs.State.{powerOn}
+use Rattle.chip.specs.Chip.{reaction}
+use Rattle.promises.specs.Runs.{Call, event, back, empty, Given, Calls}
+use Rattle.promises.specs.Ours.{ours}
+
+-- ---- lines
+
+-- Each output line is answer and kept number, then for answer 0 port and body.
+abbrev pub line : Given → ℕ → List ℕ
+line g kept = cond (eqb (g .number) 0) (g .number ∷ kept ∷ g .port ∷ take (g .length) (g .output)) (g .number ∷ kept ∷ [])
+
+-- the lines of calls, each handed what the last one left
+abbrev pub lines : (c : Calls) → c .Pair → List Call → List (List ℕ)
+lines c p [] = []
+lines c p (k ∷ ks) = line (c .gives p k) (c .kept (c .leaves p k) .kept) ∷ lines c (c .leaves p k) ks
+
+-- of the program's adapter, whose chip ID is 0x00000A, with any 17,408 bytes made empty
+abbrev pub played : List ℕ → List Call → List (List ℕ)
+played bytes calls = lines ours (ours .start 0x00000A bytes) calls
+
+-- an event with an output of 16 bytes
+abbrev pub happens : Event → Call
+happens e = event e (replicate 16 0)
+
+abbrev pub F : ℕ → List ℕ → Call
+F port body = happens (frame port body)
+
+-- ---- the listing
+
+abbrev pub listing : List Call
+listing =
+    F 0 (0x00 ∷ 0x00 ∷ 0x01 ∷ 0x00 ∷ 0x04 ∷ 0x02 ∷ 0x00 ∷ 0x04 ∷ 0x00 ∷ 0x00 ∷ [])
+    ∷ F 0 (0x00 ∷ 0x02 ∷ 0x02 ∷ 0x02 ∷ 0x04 ∷ 0x10 ∷ 0x34 ∷ 0x12 ∷ 0x78 ∷ 0x56 ∷ [])
+    ∷ F 0 (0x00 ∷ 0x04 ∷ 0x03 ∷ 0x02 ∷ 0x01 ∷ 0x11 ∷ 0x00 ∷ 0x00 ∷ 0x00 ∷ 0x00 ∷ [])
+    ∷ F 0 (0x00 ∷ 0x06 ∷ 0x04 ∷ 0x01 ∷ 0x02 ∷ 0x41 ∷ 0x00 ∷ 0x00 ∷ 0x00 ∷ 0x00 ∷ [])
+    ∷ F 0 (0x00 ∷ 0x06 ∷ 0x04 ∷ 0x01 ∷ 0x02 ∷ 0x41 ∷ 0x00 ∷ 0x00 ∷ 0x00 ∷ 0x00 ∷ [])
+    ∷ back
+    ∷ back
+    ∷ F 0 (0x00 ∷ 0x06 ∷ 0x05 ∷ 0x02 ∷ 0x01 ∷ 0x11 ∷ 0x00 ∷ 0x00 ∷ 0x00 ∷ 0x00 ∷ [])
+    ∷ []
+
+abbrev pub listingOutput : List (List ℕ)
+listingOutput =
+    (0 ∷ 1 ∷ 0 ∷ 0x00 ∷ 0x20 ∷ 0x01 ∷ 0x00 ∷ 0x00 ∷ 0x02 ∷ 0x00 ∷ 0x00 ∷ 0x00 ∷ 0x00 ∷ [])
+    ∷ (0 ∷ 2 ∷ 0 ∷ 0x00 ∷ 0x42 ∷ 0x02 ∷ 0x02 ∷ 0x00 ∷ 0x02 ∷ 0x00 ∷ 0x00 ∷ 0x00 ∷ 0x00 ∷ [])
+    ∷ (0 ∷ 3 ∷ 0 ∷ 0x00 ∷ 0x64 ∷ 0x03 ∷ 0x02 ∷ 0x00 ∷ 0x04 ∷ 0x34 ∷ 0x12 ∷ 0x78 ∷ 0x56 ∷ [])
+    ∷ (0 ∷ 4 ∷ 0 ∷ 0x00 ∷ 0x86 ∷ 0x04 ∷ 0x01 ∷ 0x20 ∷ 0x02 ∷ 0x00 ∷ 0x00 ∷ 0x00 ∷ 0x00 ∷ [])
+    ∷ (0 ∷ 5 ∷ 0 ∷ 0x00 ∷ 0x8D ∷ [])
+    ∷ (17 ∷ 4 ∷ [])
+    ∷ (17 ∷ 3 ∷ [])
+    ∷ (0 ∷ 4 ∷ 0 ∷ 0x00 ∷ 0x86 ∷ 0x05 ∷ 0x02 ∷ 0x00 ∷ 0x04 ∷ 0x34 ∷ 0x12 ∷ 0x78 ∷ 0x56 ∷ [])
+    ∷ []
+
+-- ---- a request to a new adapter: TRN, CH, LEN, CMD
+
+-- its reply's ERR
+abbrev pub errOf : ℕ → ℕ → ℕ → ℕ → ℕ
+errOf trn ch len cmd =
+    getD (reaction (powerOn 0x00000A) (frame 0 (0x00 ∷ 0x00 ∷ trn ∷ ch ∷ len ∷ cmd ∷ 0x00 ∷ 0x00 ∷ 0x00 ∷ 0x00 ∷ [])) .body) 4 0
+
+-- "Proved, as a single table under one claim: the eight lines; FF stuffs to 111110111; 7E to 011111010; TRN 01 and FE pass, 00 and FF
+-- give 0x08; CH 0x15 known, 0x16 not."
+pub record Table : Type 0 where
+  pub eight-lines : (bytes : List ℕ) → length bytes ≡ 17408 → played bytes listing ≡ listingOutput
+  pub ff-stuffs : stuff 0 (wire (0xFF ∷ [])) ≡ 1 ∷ 1 ∷ 1 ∷ 1 ∷ 1 ∷ 0 ∷ 1 ∷ 1 ∷ 1 ∷ []
+  pub 7e-stuffs : stuff 0 (wire (0x7E ∷ [])) ≡ 0 ∷ 1 ∷ 1 ∷ 1 ∷ 1 ∷ 1 ∷ 0 ∷ 1 ∷ 0 ∷ []
+  pub trn-01 : errOf 0x01 0x00 2 0x03 ≡ 0x00
+  pub trn-fe : errOf 0xFE 0x00 2 0x03 ≡ 0x00
+  pub trn-00 : errOf 0x00 0x00 2 0x03 ≡ 0x08
+  pub trn-ff : errOf 0xFF 0x00 2 0x03 ≡ 0x08
+  pub ch-15 : errOf 0x01 0x15 1 0x11 ≡ 0x00
+  pub ch-16 : errOf 0x01 0x16 1 0x11 ≡ 0x02
+
+-- ---- a run of everything
+
+-- Refused: an output of 15 bytes, a port 2, a body of 1 byte, a step back from nothing. Then two upsets and GPIO enabled, one upset taken
+-- back; an emptying, after which nothing can be taken back and GPIO is still enabled (a sample is 17); a RESET, after which it is not (16).
+abbrev pub everything : List Call
+everything =
+    event upset (replicate 15 0)
+    ∷ F 2 (0x00 ∷ [])
+    ∷ F 1 (0x00 ∷ [])
+    ∷ back
+    ∷ happens upset
+    ∷ F 0 (0x00 ∷ 0x00 ∷ 0x01 ∷ 0x00 ∷ 0x04 ∷ 0x02 ∷ 0x00 ∷ 0x04 ∷ 0x00 ∷ 0x00 ∷ [])
+    ∷ happens upset
+    ∷ back
+    ∷ empty
+    ∷ back
+    ∷ happens (sample 0 0)
+    ∷ F 1 (0x00 ∷ 0x9F ∷ [])
+    ∷ back
+    ∷ happens (sample 0 0)
+    ∷ []
+
+abbrev pub everythingOutput : List (List ℕ)
+everythingOutput =
+    (1 ∷ 0 ∷ [])
+    ∷ (3 ∷ 0 ∷ [])
+    ∷ (2 ∷ 0 ∷ [])
+    ∷ (5 ∷ 0 ∷ [])
+    ∷ (17 ∷ 1 ∷ [])
+    ∷ (0 ∷ 2 ∷ 0 ∷ 0x00 ∷ 0x20 ∷ 0x01 ∷ 0x00 ∷ 0x00 ∷ 0x02 ∷ 0x00 ∷ 0x00 ∷ 0x00 ∷ 0x00 ∷ [])
+    ∷ (17 ∷ 3 ∷ [])
+    ∷ (17 ∷ 2 ∷ [])
+    ∷ (17 ∷ 0 ∷ [])
+    ∷ (5 ∷ 0 ∷ [])
+    ∷ (17 ∷ 1 ∷ [])
+    ∷ (0 ∷ 0 ∷ 1 ∷ 0x00 ∷ 0x73 ∷ [])
+    ∷ (5 ∷ 0 ∷ [])
+    ∷ (16 ∷ 1 ∷ [])
+    ∷ []
