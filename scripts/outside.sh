@@ -10,6 +10,8 @@ test_outside() {
     tally "vectors" run "$built/vectors"
     tally "comparison" run "$built/compare" --seed "${SEED:-1}"
     tally "faults in the comparison" run "$built/compare" --seed "${SEED:-1}" --break
+    tally "events" run "$built/events" --seed "${SEED:-1}"
+    tally "faults in the events" run "$built/events" --seed "${SEED:-1}" --break
 }
 
 archive=target/staticlib/libsca.a
@@ -35,10 +37,11 @@ test_reference() {
     done
 }
 
-build_boundary() { rust_build --crate-type rlib --crate-name boundary -L native=target/staticlib tests/boundary.rs; }
+build_boundary() { rust_build --crate-type rlib --crate-name boundary -L native=target/staticlib rust/src/boundary.rs; }
 
 build_rust_tests() {
     build_boundary &&
         rust_build --crate-name vectors --extern boundary tests/vectors.rs &&
-        rust_build --crate-name compare --extern boundary --extern reference tests/compare/main.rs
+        rust_build --crate-name compare --extern boundary --extern reference tests/compare/main.rs &&
+        rust_build --crate-name events --extern boundary --extern reference tests/events/main.rs
 }
