@@ -6,6 +6,8 @@ test_outside() {
     step "rt staticlib sca" rt staticlib sca || return
     step "build the reference" build_reference && test_reference
     test_c link
+    test_c adapter
+    test_c guards
     step "build the Rust tests" build_rust_tests || return
     tally "vectors" run "$built/vectors"
     tally "comparison" run "$built/compare" --seed "${SEED:-1}"
