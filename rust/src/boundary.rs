@@ -72,15 +72,20 @@ pub const JOURNAL_BYTES: usize = 17_408;
 /// What a reading gives.
 #[derive(Clone, Copy, PartialEq, Eq, Debug)]
 pub struct Received {
+    /// Document 01's number.
     pub number: u8,
+    /// The bits read.
     pub consumed: usize,
+    /// The bytes of a body.
     pub length: usize,
 }
 
 /// What a transmission gives.
 #[derive(Clone, Copy, PartialEq, Eq, Debug)]
 pub struct Sent {
+    /// Document 01's number.
     pub number: u8,
+    /// The bytes of cable written.
     pub count: usize,
 }
 
@@ -124,8 +129,11 @@ pub fn transmit(body: &[u8], output: &mut [u8]) -> Sent {
 /// What an event or a step back gives.
 #[derive(Clone, Copy, PartialEq, Eq, Debug)]
 pub struct Answer {
+    /// Document 01's number.
     pub number: u8,
+    /// The bytes of a body.
     pub length: usize,
+    /// The port that it leaves on.
     pub port: u8,
 }
 
@@ -142,7 +150,9 @@ impl Answer {
 /// What a journal keeps.
 #[derive(Clone, Copy, PartialEq, Eq, Debug)]
 pub struct Kept {
+    /// Document 01's number.
     pub number: u8,
+    /// The events that can be taken back.
     pub kept: usize,
 }
 
