@@ -15,6 +15,7 @@ test_outside() {
     tally "events" run "$built/events" --seed "${SEED:-1}"
     tally "faults in the events" run "$built/events" --seed "${SEED:-1}" --break
     test_linked
+    [ ! -d crates/bench ] || test_bench
 }
 
 archive=target/staticlib/libsca.a

@@ -4,6 +4,7 @@
 //!     events --seed N --only RUN       one of them
 //!     events --replay FILE             a run as a failing one is printed
 //!     events --break                   lays faults into our side; each must be found
+//!     events --listings FOLDER         writes bench listings N.in with the output N.out that each must have
 //!
 //! Each test gives a line 'ok' or 'FAIL'; the status is 0 only where all are ok.
 
@@ -14,6 +15,7 @@ mod calls;
 mod chance;
 mod fault;
 mod image;
+mod listing;
 mod ring;
 mod run;
 mod shrink;
@@ -29,12 +31,15 @@ use tally::Tally;
 
 /// The events that a comparison of all runs has at least.
 const EVENTS: u64 = 1_000_000;
+/// The listings written.
+const LISTINGS: u64 = 60;
 
 struct Options {
     seed: u64,
     runs: u64,
     only: Option<u64>,
     replay: Option<String>,
+    listings: Option<String>,
     faults: bool,
 }
 
@@ -44,6 +49,7 @@ fn options() -> Option<Options> {
         runs: 5_500,
         only: None,
         replay: None,
+        listings: None,
         faults: false,
     };
     let mut words = std::env::args().skip(1);
@@ -53,6 +59,7 @@ fn options() -> Option<Options> {
             "--runs" => options.runs = words.next()?.parse().ok()?,
             "--only" => options.only = Some(words.next()?.parse().ok()?),
             "--replay" => options.replay = Some(words.next()?),
+            "--listings" => options.listings = Some(words.next()?),
             "--break" => options.faults = true,
             _ => return None,
         }
@@ -202,18 +209,29 @@ fn replay(file: &str) -> bool {
     }
 }
 
+/// Listings, and what the bench program must answer, by the independent implementation.
+fn write_listings(seed: u64, folder: &str) -> std::io::Result<()> {
+    for number in 0..LISTINGS {
+        let text = listing::listing(&mut Chance::new(seed, number));
+        std::fs::write(format!("{}/{}.in", folder, number), &text)?;
+        std::fs::write(format!("{}/{}.out", folder, number), reference::listing::played(&text))?;
+    }
+    Ok(())
+}
+
 fn main() -> ExitCode {
     let options = match options() {
         Some(options) => options,
         None => {
-            eprintln!("usage: events [--seed N] [--runs N] [--only RUN] [--replay FILE] [--break]");
+            eprintln!("usage: events [--seed N] [--runs N] [--only RUN] [--replay FILE] [--break] [--listings FOLDER]");
             return ExitCode::from(2);
         }
     };
-    let good = match &options.replay {
-        Some(file) => replay(file),
-        None if options.faults => find_faults(options.seed),
-        None => compare(&options),
+    let good = match (&options.replay, &options.listings) {
+        (Some(file), _) => replay(file),
+        (_, Some(folder)) => write_listings(options.seed, folder).is_ok(),
+        _ if options.faults => find_faults(options.seed),
+        _ => compare(&options),
     };
     ExitCode::from(u8::from(!good))
 }
