@@ -1,5 +1,6 @@
 //! The calls of a run, and their text: a run that fails is printed so, and can be run again.
 
+use crate::hex::{bytes_in, Hex};
 use reference::adapter::State;
 use std::fmt;
 
@@ -121,18 +122,6 @@ impl Call {
     }
 }
 
-/// Bytes as pairs of hex digits; none as a dash.
-pub struct Hex<'a>(pub &'a [u8]);
-
-impl fmt::Display for Hex<'_> {
-    fn fmt(&self, out: &mut fmt::Formatter) -> fmt::Result {
-        if self.0.is_empty() {
-            return write!(out, "-");
-        }
-        self.0.iter().try_for_each(|byte| write!(out, "{:02x}", byte))
-    }
-}
-
 /// As in a bench listing, with the output's room behind; the other calls by their names.
 impl fmt::Display for Call {
     fn fmt(&self, out: &mut fmt::Formatter) -> fmt::Result {
@@ -153,18 +142,6 @@ impl fmt::Display for Call {
             Call::JournalOfLength { length, call } => write!(out, "journal {} {}", length, call),
         }
     }
-}
-
-fn bytes_in(text: &str) -> Option<Vec<u8>> {
-    if text == "-" {
-        return Some(Vec::new());
-    }
-    if text.len() % 2 != 0 || !text.is_ascii() {
-        return None;
-    }
-    (0..text.len() / 2)
-        .map(|at| u8::from_str_radix(&text[2 * at..2 * at + 2], 16).ok())
-        .collect()
 }
 
 /// The call that a line spells.

@@ -14,8 +14,12 @@ mod calls;
 #[path = "../compare/chance.rs"]
 mod chance;
 mod fault;
+#[path = "../compare/hex.rs"]
+mod hex;
 mod image;
 mod listing;
+#[path = "../compare/output.rs"]
+mod output;
 mod ring;
 mod run;
 mod shrink;

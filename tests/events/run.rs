@@ -1,9 +1,10 @@
 //! Runs the calls of a run on both sides, the library and the independent implementation, and compares all that each
 //! call gives and leaves.
 
-use crate::calls::{Call, Hex};
+use crate::calls::Call;
 use crate::fault::Fault;
 use crate::image::{bytes_of, state_in};
+use crate::output::Output;
 use crate::ring::Ring;
 use crate::tally::Tally;
 use boundary::{Answer, JOURNAL_BYTES, STATE_BYTES};
@@ -25,31 +26,6 @@ fn same<T: PartialEq + std::fmt::Debug>(what: &str, ours: T, expected: T) -> Che
 
 pub fn refused(number: u8) -> bool {
     (1..=UNREADABLE).contains(&number)
-}
-
-/// A lent output between bytes that nobody may touch.
-#[derive(Clone, PartialEq, Eq)]
-struct Output(Vec<u8>);
-
-const GUARD: usize = 8;
-
-impl Output {
-    fn new(room: usize) -> Output {
-        Output((0..GUARD + room + GUARD).map(|at| (at * 37) as u8 ^ 0x5A).collect())
-    }
-
-    fn lent(&mut self) -> &mut [u8] {
-        let end = self.0.len() - GUARD;
-        &mut self.0[GUARD..end]
-    }
-}
-
-impl std::fmt::Debug for Output {
-    fn fmt(&self, out: &mut std::fmt::Formatter) -> std::fmt::Result {
-        let (before, rest) = self.0.split_at(GUARD);
-        let (lent, behind) = rest.split_at(rest.len() - GUARD);
-        write!(out, "{}[{}]{}", Hex(before), Hex(lent), Hex(behind))
-    }
 }
 
 /// A state and a journal: the library's bytes, and what they are expected to be.
@@ -293,7 +269,7 @@ impl<'a> Run<'a> {
             output.lent()[answer.length] ^= 1;
         }
         if self.lay(Fault::OutsideOutput, true) {
-            output.0[GUARD + room] ^= 1;
+            *output.bytes.last_mut().unwrap() ^= 1;
         }
         if self.lay(Fault::State, kept) {
             pair.state[64] ^= 1;
