@@ -129,6 +129,13 @@ fn samples<S: Side>(side: &mut S) -> (f64, usize) {
     (begin.elapsed().as_nanos() as f64 / EVENTS as f64, sum)
 }
 
+/// An event and its step back, over and over; each step back is at a full journal.
+fn there_and_back<S: Side>(side: &mut S, request: &[u8]) -> (f64, usize) {
+    let begin = Instant::now();
+    let sum = (0..EVENTS).map(|_| side.frame(request) + side.step_back()).sum();
+    (begin.elapsed().as_nanos() as f64 / EVENTS as f64, sum)
+}
+
 /// One step back of each adapter, all of them with full journals.
 fn steps_back<S: Side>(side: &S) -> (f64, usize) {
     let mut sides = vec![side.clone(); ADAPTERS];
@@ -147,7 +154,7 @@ fn compare(what: &str, mut ours: impl FnMut() -> (f64, usize), mut theirs: impl 
         least = [least[0].min(our_time), least[1].min(their_time)];
     }
     let [ours, theirs] = least;
-    println!("{:<43} {:>9.1} {:>11.1} {:>19.2}", what, ours, theirs, theirs / ours);
+    println!("{:<45} {:>9.1} {:>11.1} {:>19.2}", what, ours, theirs, theirs / ours);
 }
 
 /// Frames of one request over and over, both journals full.
@@ -157,7 +164,7 @@ fn compare_frames(what: &str, channel: u8, length: u8, command: u8) {
     compare(what, || frames(&mut ours, &requests), || frames(&mut theirs, &requests));
 }
 
-/// Requests until number 0 is due again.
+/// After a CONNECT, by which number 0 is due.
 fn in_sequence<S: Side>(mut side: S) -> S {
     side.frame(&[0x00, 0x2F]);
     side
@@ -170,7 +177,7 @@ fn main() {
     );
     println!("in nanoseconds an event. A ratio over 1: the library is faster.");
     println!(
-        "{:<43} {:>9} {:>11} {:>19}",
+        "{:<45} {:>9} {:>11} {:>19}",
         "", "library", "independent", "independent/library"
     );
     compare_frames("frame, a register written", 0x02, 4, 0x10);
@@ -181,6 +188,13 @@ fn main() {
         "pin sample, an interrupt",
         || samples(&mut ours),
         || samples(&mut theirs),
+    );
+    let request = requests([0x05, 0x02, 0x04, 0x10, 0x12, 0x34, 0x56, 0x78])[0];
+    let (mut ours, mut theirs) = (in_sequence(ready::<Ours>()), in_sequence(ready::<Theirs>()));
+    compare(
+        "frame, a register written, and its step back",
+        || there_and_back(&mut ours, &request),
+        || there_and_back(&mut theirs, &request),
     );
     let (ours, theirs) = (ready::<Ours>(), ready::<Theirs>());
     compare("step back", || steps_back(&ours), || steps_back(&theirs));
