@@ -6,10 +6,16 @@ test_outside() {
     step "rt staticlib sca" rt staticlib sca || return
     step "build the reference" build_reference && test_reference
     test_c link
+    test_c adapter
+    test_c guards
     step "build the Rust tests" build_rust_tests || return
     tally "vectors" run "$built/vectors"
     tally "comparison" run "$built/compare" --seed "${SEED:-1}"
     tally "faults in the comparison" run "$built/compare" --seed "${SEED:-1}" --break
+    tally "events" run "$built/events" --seed "${SEED:-1}"
+    tally "faults in the events" run "$built/events" --seed "${SEED:-1}" --break
+    test_linked
+    [ ! -d crates/bench ] || test_bench
 }
 
 archive=target/staticlib/libsca.a
@@ -21,24 +27,30 @@ test_c() {
 
 build_reference() { rust_build --crate-type rlib --crate-name reference tests/reference/src/lib.rs; }
 
-# The reference's own tests, as Rust's test harness counts them.
+# The reference's own tests.
 test_reference() {
     for file in tests/reference/tests/*.rs; do
-        harness=$(basename "$file" .rs)
-        step "build $file" rust_build --test --crate-name "reference_$harness" --extern reference "$file" || continue
-        run "$built/reference_$harness" >"$logs/harness" 2>&1
-        status=$?
-        counts=$(sed -n 's/^test result: .* \([0-9]*\) passed; \([0-9]*\) failed.*/\1 \2/p' "$logs/harness")
-        [ "$status" -eq 0 ] || tail -n 40 "$logs/harness"
-        # shellcheck disable=SC2086
-        add "reference, $harness" "$status" ${counts:-0 0}
+        test_harness "reference" "$file" reference
     done
 }
 
-build_boundary() { rust_build --crate-type rlib --crate-name boundary -L native=target/staticlib tests/boundary.rs; }
+# test_harness NAME FILE CRATE: tests over a crate, as Rust's test harness counts them.
+test_harness() {
+    harness=$(basename "$2" .rs)
+    step "build $2" rust_build --test --crate-name "$1_$harness" --extern "$3" "$2" || return
+    run "$built/$1_$harness" >"$logs/harness" 2>&1
+    status=$?
+    counts=$(sed -n 's/^test result: .* \([0-9]*\) passed; \([0-9]*\) failed.*/\1 \2/p' "$logs/harness")
+    [ "$status" -eq 0 ] || tail -n 40 "$logs/harness"
+    # shellcheck disable=SC2086
+    add "$1, $harness" "$status" ${counts:-0 0}
+}
+
+build_boundary() { rust_build --crate-type rlib --crate-name boundary -L native=target/staticlib rust/src/boundary.rs; }
 
 build_rust_tests() {
     build_boundary &&
         rust_build --crate-name vectors --extern boundary tests/vectors.rs &&
-        rust_build --crate-name compare --extern boundary --extern reference tests/compare/main.rs
+        rust_build --crate-name compare --extern boundary --extern reference tests/compare/main.rs &&
+        rust_build --crate-name events --extern boundary --extern reference tests/events/main.rs
 }

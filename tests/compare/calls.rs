@@ -1,5 +1,6 @@
 //! The calls of a stream, and their text: a stream that fails is printed so, and can be run again.
 
+use crate::hex::{bytes_in, Hex};
 use std::fmt;
 
 /// Cable bytes: those written out, then zeros.
@@ -40,18 +41,6 @@ pub enum Call {
     Send { body: Vec<u8>, room: usize },
 }
 
-/// Bytes as pairs of hex digits; none as a dash.
-pub struct Hex<'a>(pub &'a [u8]);
-
-impl fmt::Display for Hex<'_> {
-    fn fmt(&self, out: &mut fmt::Formatter) -> fmt::Result {
-        if self.0.is_empty() {
-            return write!(out, "-");
-        }
-        self.0.iter().try_for_each(|byte| write!(out, "{:02x}", byte))
-    }
-}
-
 impl fmt::Display for Input {
     fn fmt(&self, out: &mut fmt::Formatter) -> fmt::Result {
         write!(out, "{} zeros {}", Hex(&self.bytes), self.zeros)
@@ -83,18 +72,6 @@ impl fmt::Display for Call {
             Call::Send { body, room } => write!(out, "send {} room {}", Hex(body), room),
         }
     }
-}
-
-fn bytes_in(text: &str) -> Option<Vec<u8>> {
-    if text == "-" {
-        return Some(Vec::new());
-    }
-    if text.len() % 2 != 0 || !text.is_ascii() {
-        return None;
-    }
-    (0..text.len() / 2)
-        .map(|at| u8::from_str_radix(&text[2 * at..2 * at + 2], 16).ok())
-        .collect()
 }
 
 /// The call that a line spells.

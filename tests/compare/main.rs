@@ -13,6 +13,8 @@ mod bits;
 mod calls;
 mod chance;
 mod fault;
+mod hex;
+mod output;
 mod receiver;
 mod run;
 mod shrink;

@@ -2,8 +2,9 @@
 //! compares all that each call gives and leaves.
 
 use crate::bits::{bits_of, buffer_of};
-use crate::calls::{Call, Hex};
+use crate::calls::Call;
 use crate::fault::Fault;
+use crate::output::Output;
 use crate::receiver::{in_range, way_to};
 use boundary::{Received, Sent, RECEIVER_BYTES};
 use reference::link;
@@ -47,36 +48,6 @@ fn same<T: PartialEq + std::fmt::Debug>(what: &str, ours: T, theirs: T) -> Check
         Ok(())
     } else {
         Err(format!("{}: the library has {:?}, expected {:?}", what, ours, theirs))
-    }
-}
-
-/// A lent output between bytes that nobody may touch.
-#[derive(Clone, PartialEq, Eq)]
-struct Output {
-    bytes: Vec<u8>,
-}
-
-const GUARD: usize = 8;
-
-impl Output {
-    fn new(room: usize) -> Output {
-        let pattern = |at: usize| (at * 37) as u8 ^ 0x5A;
-        Output {
-            bytes: (0..GUARD + room + GUARD).map(pattern).collect(),
-        }
-    }
-
-    fn lent(&mut self) -> &mut [u8] {
-        let end = self.bytes.len() - GUARD;
-        &mut self.bytes[GUARD..end]
-    }
-}
-
-impl std::fmt::Debug for Output {
-    fn fmt(&self, out: &mut std::fmt::Formatter) -> std::fmt::Result {
-        let (before, rest) = self.bytes.split_at(GUARD);
-        let (lent, behind) = rest.split_at(rest.len() - GUARD);
-        write!(out, "{}[{}]{}", Hex(before), Hex(lent), Hex(behind))
     }
 }
 

@@ -1,0 +1,201 @@
+//! Measures, in one run on the same events, the library's adapter beside the independent one with its own undo.
+
+#![forbid(unsafe_code)]
+
+use boundary::{JOURNAL_BYTES, STATE_BYTES};
+use reference::adapter::{self, Journal, State};
+use std::time::Instant;
+
+/// Rounds of each measurement; the best of them counts.
+const ROUNDS: usize = 301;
+/// Events in a round.
+const EVENTS: usize = 4_096;
+/// Adapters that a round of steps back takes one step of.
+const ADAPTERS: usize = 32;
+/// The most events that a journal keeps.
+const FULL: usize = 64;
+
+/// A request for each receive number, so that they are in sequence round after round.
+type Requests = Vec<[u8; 10]>;
+
+fn requests(information: [u8; 8]) -> Requests {
+    let request = |number: u8| {
+        let mut body = [0; 10];
+        body[1] = number << 1;
+        body[2..].copy_from_slice(&information);
+        body
+    };
+    (0..8).map(request).collect()
+}
+
+#[derive(Clone)]
+struct Ours {
+    state: [u8; STATE_BYTES],
+    journal: Vec<u8>,
+}
+
+#[derive(Clone)]
+struct Theirs {
+    state: State,
+    journal: Journal,
+}
+
+/// What both can do; each call gives a sum over what it wrote, so that both are seen to do the same.
+trait Side: Clone {
+    fn new() -> Self;
+    fn frame(&mut self, body: &[u8]) -> usize;
+    fn sample(&mut self, levels: u32) -> usize;
+    fn step_back(&mut self) -> usize;
+}
+
+impl Side for Ours {
+    fn new() -> Ours {
+        let (mut state, mut journal) = ([0; STATE_BYTES], vec![0; JOURNAL_BYTES]);
+        boundary::create(&mut state, 10);
+        boundary::empty(&mut journal);
+        Ours { state, journal }
+    }
+
+    fn frame(&mut self, body: &[u8]) -> usize {
+        let mut output = [0; 16];
+        let answer = boundary::frame(&mut self.state, &mut self.journal, 0, body, &mut output);
+        sum(answer.number, &output)
+    }
+
+    fn sample(&mut self, levels: u32) -> usize {
+        let mut output = [0; 16];
+        let answer = boundary::sample(&mut self.state, &mut self.journal, levels, 0, &mut output);
+        sum(answer.number, &output)
+    }
+
+    fn step_back(&mut self) -> usize {
+        usize::from(boundary::step_back(&mut self.state, &mut self.journal).number)
+    }
+}
+
+impl Side for Theirs {
+    fn new() -> Theirs {
+        Theirs {
+            state: State::power_on(10),
+            journal: Journal::new(),
+        }
+    }
+
+    fn frame(&mut self, body: &[u8]) -> usize {
+        let mut output = [0; 16];
+        let answer = adapter::frame(&mut self.state, &mut self.journal, 0, body, &mut output);
+        sum(answer.number, &output)
+    }
+
+    fn sample(&mut self, levels: u32) -> usize {
+        let mut output = [0; 16];
+        let answer = adapter::sample(&mut self.state, &mut self.journal, levels, 0, &mut output);
+        sum(answer.number, &output)
+    }
+
+    fn step_back(&mut self) -> usize {
+        usize::from(adapter::step_back(&mut self.state, &mut self.journal))
+    }
+}
+
+fn sum(number: u8, output: &[u8]) -> usize {
+    usize::from(number) + usize::from(output[1]) + usize::from(output[4]) + usize::from(output[8])
+}
+
+/// An adapter with its channels on, all lines with interrupts, and a full journal.
+fn ready<S: Side>() -> S {
+    let mut side = S::new();
+    side.frame(&[0x00, 0x00, 0x01, 0x00, 0x04, 0x02, 0x00, 0x06, 0x00, 0x00]);
+    side.frame(&[0x00, 0x02, 0x02, 0x02, 0x04, 0x30, 0xFF, 0xFF, 0xFF, 0xFF]);
+    side.frame(&[0x00, 0x04, 0x03, 0x02, 0x04, 0x60, 0x00, 0x00, 0x01, 0x00]);
+    let read = [0x04, 0x02, 0x01, 0x11, 0x00, 0x00, 0x00, 0x00];
+    let requests = requests(read);
+    for event in 3..3 + FULL + 5 {
+        side.frame(&requests[event % 8]);
+    }
+    side
+}
+
+/// Nanoseconds an event, and the sum.
+fn frames<S: Side>(side: &mut S, requests: &Requests) -> (f64, usize) {
+    let begin = Instant::now();
+    let sum = (0..EVENTS).map(|event| side.frame(&requests[event % 8])).sum();
+    (begin.elapsed().as_nanos() as f64 / EVENTS as f64, sum)
+}
+
+fn samples<S: Side>(side: &mut S) -> (f64, usize) {
+    let begin = Instant::now();
+    let sum = (0..EVENTS).map(|event| side.sample(event as u32)).sum();
+    (begin.elapsed().as_nanos() as f64 / EVENTS as f64, sum)
+}
+
+/// An event and its step back, over and over; each step back is at a full journal.
+fn there_and_back<S: Side>(side: &mut S, request: &[u8]) -> (f64, usize) {
+    let begin = Instant::now();
+    let sum = (0..EVENTS).map(|_| side.frame(request) + side.step_back()).sum();
+    (begin.elapsed().as_nanos() as f64 / EVENTS as f64, sum)
+}
+
+/// One step back of each adapter, all of them with full journals.
+fn steps_back<S: Side>(side: &S) -> (f64, usize) {
+    let mut sides = vec![side.clone(); ADAPTERS];
+    let begin = Instant::now();
+    let sum = sides.iter_mut().map(|side| side.step_back()).sum();
+    (begin.elapsed().as_nanos() as f64 / ADAPTERS as f64, sum)
+}
+
+/// Both in turn, round after round; each one's best.
+fn compare(what: &str, mut ours: impl FnMut() -> (f64, usize), mut theirs: impl FnMut() -> (f64, usize)) {
+    let mut least = [f64::INFINITY; 2];
+    for _ in 0..ROUNDS {
+        let (our_time, our_sum) = ours();
+        let (their_time, their_sum) = theirs();
+        assert_eq!(our_sum, their_sum, "{}: both do the same work", what);
+        least = [least[0].min(our_time), least[1].min(their_time)];
+    }
+    let [ours, theirs] = least;
+    println!("{:<45} {:>9.1} {:>11.1} {:>19.2}", what, ours, theirs, theirs / ours);
+}
+
+/// Frames of one request over and over, both journals full.
+fn compare_frames(what: &str, channel: u8, length: u8, command: u8) {
+    let requests = requests([0x05, channel, length, command, 0x12, 0x34, 0x56, 0x78]);
+    let (mut ours, mut theirs) = (in_sequence(ready::<Ours>()), in_sequence(ready::<Theirs>()));
+    compare(what, || frames(&mut ours, &requests), || frames(&mut theirs, &requests));
+}
+
+/// After a CONNECT, by which number 0 is due.
+fn in_sequence<S: Side>(mut side: S) -> S {
+    side.frame(&[0x00, 0x2F]);
+    side
+}
+
+fn main() {
+    println!(
+        "A round: {} events with a full journal, or a step back of each of {} adapters at {} kept. Best of {} rounds,",
+        EVENTS, ADAPTERS, FULL, ROUNDS
+    );
+    println!("in nanoseconds an event. A ratio over 1: the library is faster.");
+    println!(
+        "{:<45} {:>9} {:>11} {:>19}",
+        "", "library", "independent", "independent/library"
+    );
+    compare_frames("frame, a register written", 0x02, 4, 0x10);
+    compare_frames("frame, a register read", 0x02, 1, 0x11);
+    compare_frames("frame, an unknown channel", 0x03, 1, 0x11);
+    let (mut ours, mut theirs) = (ready::<Ours>(), ready::<Theirs>());
+    compare(
+        "pin sample, an interrupt",
+        || samples(&mut ours),
+        || samples(&mut theirs),
+    );
+    let request = requests([0x05, 0x02, 0x04, 0x10, 0x12, 0x34, 0x56, 0x78])[0];
+    let (mut ours, mut theirs) = (in_sequence(ready::<Ours>()), in_sequence(ready::<Theirs>()));
+    compare(
+        "frame, a register written, and its step back",
+        || there_and_back(&mut ours, &request),
+        || there_and_back(&mut theirs, &request),
+    );
+    let (ours, theirs) = (ready::<Ours>(), ready::<Theirs>());
+    compare("step back", || steps_back(&ours), || steps_back(&theirs));
+}

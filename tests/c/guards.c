@@ -1,0 +1,457 @@
+/* Every buffer between pages that may not be touched, at every length around the limits. A buffer stands once right behind
+ * the page before it and once right before the page after it; what is only read stands in a page that cannot be written. */
+#define _DEFAULT_SOURCE
+#include <signal.h>
+#include <stdint.h>
+#include <stdlib.h>
+#include <string.h>
+#include <sys/mman.h>
+#include <sys/wait.h>
+#include <unistd.h>
+
+#include "check.h"
+#include "sca.h"
+
+/* ------------------------------------------------------------------ buffers */
+
+struct lent {
+    uint8_t *room, *was; /* the pages between the guards, and a copy of them as they were before the call */
+    size_t size;
+    uint8_t *at; /* what is lent of the room */
+    size_t length;
+};
+
+static struct lent state, journal, output, body, received, receiver, input;
+static int at_end;
+
+static struct lent between_guards(size_t most) {
+    size_t page = (size_t)sysconf(_SC_PAGESIZE), size = (most + page - 1) / page * page;
+    uint8_t *all = mmap(NULL, size + 2 * page, PROT_NONE, MAP_PRIVATE | MAP_ANONYMOUS, -1, 0);
+    struct lent lent = {NULL, malloc(size), size, NULL, 0};
+    if (all == MAP_FAILED || lent.was == NULL || mprotect(all + page, size, PROT_READ | PROT_WRITE) != 0) {
+        puts("FAIL no guard pages");
+        exit(1);
+    }
+    lent.room = all + page;
+    return lent;
+}
+
+/* Lends this many bytes, at one end of the room; of none, the address is in a guard page. */
+static uint8_t *lend(struct lent *lent, size_t length) {
+    for (size_t at = 0; at < lent->size; at++) lent->room[at] = (uint8_t)(at * 37 + 11);
+    lent->length = length;
+    lent->at = at_end ? lent->room + lent->size - length : length ? lent->room : lent->room - 1;
+    return lent->at;
+}
+
+static void lend_bytes(struct lent *lent, const void *bytes, size_t length) { memcpy(lend(lent, length), bytes, length); }
+
+static void note(struct lent *lent) { memcpy(lent->was, lent->room, lent->size); }
+
+static int unchanged(const struct lent *lent) { return memcmp(lent->was, lent->room, lent->size) == 0; }
+
+/* Whether no byte has changed but the first ones that were lent. */
+static int unchanged_after(const struct lent *lent, size_t count) {
+    size_t at = (size_t)(lent->at - lent->room);
+    if (count == 0) return unchanged(lent);
+    return memcmp(lent->was, lent->room, at) == 0 &&
+           memcmp(lent->was + at + count, lent->at + count, lent->size - at - count) == 0;
+}
+
+static void writable(struct lent *lent, int yes) { mprotect(lent->room, lent->size, yes ? PROT_READ | PROT_WRITE : PROT_READ); }
+
+static void touched(int signal) {
+    static const char line[] = "FAIL a guard page was touched\n";
+    (void)signal;
+    _exit(write(1, line, sizeof line - 1) < 0 ? 2 : 1);
+}
+
+/* -------------------------------------------------------------------- calls */
+
+enum call { FRAME, COMPLETION, SAMPLE, UPSET, STEP_BACK, CALLS };
+
+static uint8_t port, kind;
+
+static uint64_t call(enum call call) {
+    switch (call) {
+    case FRAME:
+        return sca_frame(state.at, state.length, journal.at, journal.length, port, body.at, body.length, output.at, output.length);
+    case COMPLETION:
+        return sca_completion(state.at, state.length, journal.at, journal.length, received.at, received.length, output.at, output.length);
+    case SAMPLE:
+        return sca_sample(state.at, state.length, journal.at, journal.length, 0xFFFF0000, kind, output.at, output.length);
+    case UPSET:
+        return sca_upset(state.at, state.length, journal.at, journal.length, output.at, output.length);
+    default:
+        return sca_step_back(state.at, state.length, journal.at, journal.length);
+    }
+}
+
+/* The call's number, and whether it left what it must: all where it is refused, else all outside of what it may write. */
+static unsigned number_of(enum call which, int *good) {
+    uint64_t result;
+    note(&state), note(&journal), note(&output), note(&body), note(&received);
+    writable(&body, 0), writable(&received, 0);
+    result = call(which);
+    writable(&body, 1), writable(&received, 1);
+    *good &= unchanged(&body) && unchanged(&received);
+    if (SCA_REFUSED(result)) {
+        *good &= unchanged(&state) && unchanged(&journal) && unchanged(&output) && result == SCA_NUMBER(result);
+    } else {
+        *good &= unchanged_after(&state, SCA_STATE_BYTES) && unchanged_after(&journal, SCA_JOURNAL_BYTES);
+        *good &= unchanged_after(&output, SCA_LENGTH(result));
+        *good &= SCA_LENGTH(result) <= SCA_OUTPUT_BYTES && SCA_PORT(result) <= SCA_AUXILIARY;
+        *good &= (SCA_LENGTH(result) > 0) == (SCA_NUMBER(result) == SCA_FRAME);
+    }
+    return SCA_NUMBER(result);
+}
+
+/* ------------------------------------------------------------------- states */
+
+static uint8_t some_state[SCA_STATE_BYTES], some_journal[SCA_JOURNAL_BYTES];
+
+/* Plays requests on a new adapter: none, or enough to have every register, loopback and an open GO. */
+static void reach(int deep) {
+    static const char *const requests[] = {
+        "\x00\x00\x01\x00\x04\x02\x00\xFF\x00\x00", "\x00\x02\x02\x00\x04\x06\x00\xFF\x00\x00",
+        "\x00\x04\x03\x02\x04\x20\x55\x55\x00\x00", "\x00\x06\x04\x02\x04\x30\xFF\xFF\xFF\xFF",
+        "\x00\x08\x05\x02\x04\x60\x00\x00\x01\x00", "\x00\x0A\x06\x01\x06\x40\x00\x00\x21\x00",
+        "\x00\x0C\x07\x01\x06\x10\x12\x34\x56\x78", "\x00\x0E\x08\x15\x04\x30\x00\x00\x99\x00",
+        "\x00\x00\x09\x01\x02\x72\x00\x00\x00\x00",
+    };
+    uint8_t sent[SCA_OUTPUT_BYTES];
+    sca_create(some_state, sizeof some_state, deep ? SCA_ID_MOST : 0x00000A);
+    memset(some_journal, 0xEE, sizeof some_journal);
+    sca_empty(some_journal, sizeof some_journal);
+    for (size_t at = 0; deep && at < sizeof requests / sizeof requests[0]; at++)
+        sca_frame(some_state, sizeof some_state, some_journal, sizeof some_journal, 0, (const uint8_t *)requests[at], 10, sent, sizeof sent);
+    sca_upset(some_state, sizeof some_state, some_journal, sizeof some_journal, sent, sizeof sent);
+}
+
+/* All as it must be for a call to be granted. */
+static void lend_all(void) {
+    port = 0, kind = SCA_SYSTEM_CLOCK;
+    lend_bytes(&state, some_state, sizeof some_state);
+    lend_bytes(&journal, some_journal, sizeof some_journal);
+    lend_bytes(&body, "\x00\x2F", 2);
+    lend(&received, SCA_TRANSFER_BYTES);
+    lend(&output, SCA_OUTPUT_BYTES);
+}
+
+static int all_zero(const uint8_t *bytes, size_t from, size_t to) {
+    for (size_t at = from; at <= to; at++)
+        if (bytes[at] != 0) return 0;
+    return 1;
+}
+
+/* Number 6 as document 01 has it, on the bytes of docs/JOURNAL.md. */
+static int in_range(const uint8_t *bytes) {
+    int spi = bytes[4] & 0x02, gpio = bytes[4] & 0x04;
+    return bytes[0] <= 7 && bytes[1] <= 7 && bytes[2] <= 1 && bytes[3] <= 7 && !(bytes[4] & 0x01) && !(bytes[6] & 0xE0) &&
+           all_zero(bytes, 13, 15) && bytes[75] == 0 && (spi || (all_zero(bytes, 7, 12) && all_zero(bytes, 16, 31))) &&
+           (gpio || (!(bytes[3] & 0x04) && all_zero(bytes, 32, 63)));
+}
+
+/* -------------------------------------------------------------------- tests */
+
+/* For each place of the buffers and each of the calls up to a last one. */
+#define EACH_CALL(last) \
+    for (at_end = 0; at_end <= 1; at_end++) \
+        for (enum call which = FRAME; which <= last; which++)
+
+static void lengths_of_outputs(void) {
+    int good = 1;
+    EACH_CALL(UPSET)
+    for (size_t length = 0; length <= 25; length++) {
+        lend_all();
+        lend(&output, length);
+        good &= (number_of(which, &good) == SCA_OUTPUT_SHORT) == (length < SCA_OUTPUT_BYTES);
+    }
+    check(good, "outputs of 0 to 25 bytes");
+}
+
+static void lengths_of_journals(void) {
+    static const size_t lengths[] = {0, SCA_JOURNAL_BYTES - 1, SCA_JOURNAL_BYTES, SCA_JOURNAL_BYTES + 1};
+    int good = 1, others = 1;
+    for (size_t at = 0; at < sizeof lengths / sizeof lengths[0]; at++) {
+        size_t length = lengths[at];
+        int right = length == SCA_JOURNAL_BYTES;
+        EACH_CALL(STEP_BACK) {
+            lend_all();
+            memcpy(lend(&journal, length), some_journal, length < SCA_JOURNAL_BYTES ? length : SCA_JOURNAL_BYTES);
+            good &= (number_of(which, &good) == SCA_JOURNAL_WRONG) == !right;
+        }
+        for (at_end = 0; at_end <= 1; at_end++) {
+            lend(&journal, length);
+            note(&journal);
+            others &= sca_empty(journal.at, length) == (right ? SCA_DONE : SCA_JOURNAL_WRONG);
+            others &= unchanged_after(&journal, right ? 7 : 0);
+            note(&journal);
+            writable(&journal, 0);
+            others &= sca_kept(journal.at, length) == (right ? SCA_DONE : SCA_JOURNAL_WRONG);
+            writable(&journal, 1);
+            others &= unchanged(&journal);
+        }
+    }
+    check(good, "journals of 0, 17,407, 17,408 and 17,409 bytes");
+    check(others, "and in sca_empty and sca_kept");
+}
+
+static void headers_of_journals(void) {
+    int good = 1;
+    EACH_CALL(STEP_BACK)
+    for (size_t at = 0; at < 8; at++)
+        for (unsigned byte = 0; byte <= 0xFF; byte++) {
+            int layout = at == 5 ? byte > 63 : at == 6 ? byte > SCA_KEPT_MOST : at < 7 && byte != some_journal[at];
+            unsigned number;
+            lend_all();
+            journal.at[at] = (uint8_t)byte;
+            number = number_of(which, &good);
+            if (which != STEP_BACK || layout) good &= (number == SCA_JOURNAL_WRONG) == layout;
+        }
+    check(good, "every byte in each place of a journal's header");
+}
+
+static void bits_of_states(void) {
+    int good = 1;
+    for (int deep = 0; deep <= 1; deep++) {
+        reach(deep);
+        good &= in_range(some_state);
+        EACH_CALL(STEP_BACK)
+        for (size_t bit = 0; bit < 8 * SCA_STATE_BYTES; bit++) {
+            int ranged;
+            lend_all();
+            state.at[bit / 8] ^= (uint8_t)(1 << bit % 8);
+            ranged = in_range(state.at);
+            good &= (number_of(which, &good) == SCA_STATE_RANGE) == !ranged;
+        }
+    }
+    check(good, "states with any one bit flipped");
+}
+
+static void lengths_of_states(void) {
+    static const size_t lengths[] = {0, SCA_STATE_BYTES - 1, SCA_STATE_BYTES, SCA_STATE_BYTES + 1};
+    int good = 1;
+    for (size_t at = 0; at < sizeof lengths / sizeof lengths[0]; at++) {
+        size_t length = lengths[at];
+        EACH_CALL(STEP_BACK) {
+            lend_all();
+            memset(lend(&state, length), 0, length);
+            good &= (number_of(which, &good) == SCA_STATE_RANGE) == (length != SCA_STATE_BYTES);
+        }
+        for (at_end = 0; at_end <= 1; at_end++)
+            for (uint32_t id = SCA_ID_MOST; id <= SCA_ID_MOST + 1; id++) {
+                unsigned number = length != SCA_STATE_BYTES ? SCA_STATE_RANGE : id > SCA_ID_MOST ? SCA_ID_RANGE : SCA_DONE;
+                lend(&state, length);
+                note(&state);
+                good &= sca_create(state.at, length, id) == number;
+                good &= unchanged_after(&state, number == SCA_DONE ? length : 0);
+            }
+    }
+    check(good, "states one byte short and long, and of none");
+}
+
+static void arguments(void) {
+    int bodies = 1, transfers = 1, ports = 1, kinds = 1;
+    for (at_end = 0; at_end <= 1; at_end++) {
+        for (size_t length = 0; length <= 20; length++) {
+            lend_all();
+            lend(&body, length);
+            bodies &= (number_of(FRAME, &bodies) == SCA_BODY_LENGTH) == (length < 2 || length > 16);
+            lend_all();
+            lend(&received, length);
+            transfers &= (number_of(COMPLETION, &transfers) == SCA_ARGUMENT) == (length != 16);
+        }
+        for (unsigned value = 0; value <= 0xFF; value++) {
+            lend_all();
+            port = kind = (uint8_t)value;
+            ports &= (number_of(FRAME, &ports) == SCA_ARGUMENT) == (value > 1);
+            lend_all();
+            port = kind = (uint8_t)value;
+            kinds &= (number_of(SAMPLE, &kinds) == SCA_ARGUMENT) == (value > 2);
+        }
+    }
+    check(bodies, "bodies of 0 to 20 bytes");
+    check(transfers, "completions of 0 to 20 bytes");
+    check(ports, "every port");
+    check(kinds, "every edge kind");
+}
+
+/* Of several reasons to refuse, the first in the order 6, 4, 1, 3, 2. */
+static void order(void) {
+    int good = 1;
+    for (at_end = 0; at_end <= 1; at_end++)
+        for (unsigned wrong = 1; wrong < 32; wrong++) {
+            unsigned first = wrong & 1 ? 6 : wrong & 2 ? 4 : wrong & 4 ? 1 : wrong & 8 ? 3 : 2;
+            lend_all();
+            if (wrong & 1) state.at[1] = 8;
+            if (wrong & 2) journal.at[0] = 0;
+            if (wrong & 4) lend(&output, SCA_OUTPUT_BYTES - 1);
+            if (wrong & 8) port = 2;
+            if (wrong & 16) lend(&body, SCA_BODY_MOST + 1);
+            good &= number_of(FRAME, &good) == first;
+        }
+    check(good, "of several reasons the first in order");
+}
+
+static void no_buffers(void) {
+    int good = 1;
+    at_end = 0;
+    for (enum call which = FRAME; which < CALLS; which++)
+        for (struct lent *none = &state;; none = none == &state ? &journal : none == &journal ? &output : none == &output ? &body : &received) {
+            unsigned number = none == &state ? 6 : none == &journal ? 4 : none == &output ? 1 : none == &body ? 2 : 3, got;
+            int used = none == &state || none == &journal || (none == &output && which != STEP_BACK) ||
+                       (none == &body && which == FRAME) || (none == &received && which == COMPLETION);
+            lend_all();
+            none->at = NULL, none->length = 0;
+            got = number_of(which, &good);
+            good &= used ? got == number : got == SCA_FRAME || got >= 11;
+            if (none == &received) break;
+        }
+    good &= sca_create(NULL, 0, 0) == SCA_STATE_RANGE && sca_receiver_new(NULL, 0) == SCA_STATE_RANGE;
+    good &= sca_empty(NULL, 0) == SCA_JOURNAL_WRONG && sca_kept(NULL, 0) == SCA_JOURNAL_WRONG;
+    good &= sca_transmit(NULL, 0, NULL, 0) == SCA_BODY_LENGTH && sca_receive(NULL, 0, NULL, 0, 0, NULL, 0) == SCA_STATE_RANGE;
+    lend(&receiver, SCA_RECEIVER_BYTES);
+    lend(&output, SCA_OUTPUT_BYTES);
+    sca_receiver_new(receiver.at, receiver.length);
+    good &= sca_receive(receiver.at, receiver.length, NULL, 0, 0, output.at, output.length) == SCA_DONE;
+    good &= sca_receive(receiver.at, receiver.length, NULL, 0, 0, NULL, 0) == SCA_OUTPUT_SHORT;
+    check(good, "NULL with length 0 for each buffer");
+}
+
+/* A reading's number, and whether it left what it must. */
+static unsigned reading(size_t start, int *good) {
+    uint64_t result;
+    note(&receiver), note(&input), note(&output);
+    writable(&input, 0);
+    result = sca_receive(receiver.at, receiver.length, input.at, input.length, start, output.at, output.length);
+    writable(&input, 1);
+    *good &= unchanged_after(&receiver, SCA_REFUSED(result) ? 0 : SCA_RECEIVER_BYTES);
+    *good &= unchanged(&input) && unchanged_after(&output, SCA_LENGTH(result));
+    *good &= !SCA_REFUSED(result) || result == SCA_NUMBER(result);
+    *good &= start + SCA_CONSUMED(result) <= 8 * input.length || SCA_REFUSED(result);
+    return SCA_NUMBER(result);
+}
+
+static void lend_link(void) {
+    sca_receiver_new(lend(&receiver, SCA_RECEIVER_BYTES), SCA_RECEIVER_BYTES);
+    lend_bytes(&input, "\x7E\x00\x2F\xFF\xFF\x7E", 6);
+    lend(&output, SCA_OUTPUT_BYTES);
+}
+
+static void receivers(void) {
+    int lengths = 1, outputs = 1, inputs = 1, starts = 1, bits = 1;
+    for (at_end = 0; at_end <= 1; at_end++) {
+        for (size_t length = SCA_RECEIVER_BYTES - 1; length <= SCA_RECEIVER_BYTES + 1; length++) {
+            unsigned number = length == SCA_RECEIVER_BYTES ? SCA_DONE : SCA_STATE_RANGE;
+            lend_link();
+            lend(&receiver, length);
+            note(&receiver);
+            lengths &= sca_receiver_new(receiver.at, length) == number;
+            lengths &= unchanged_after(&receiver, number == SCA_DONE ? length : 0);
+            memset(lend(&receiver, length), 0, length);
+            lengths &= (reading(0, &lengths) == SCA_STATE_RANGE) == (number == SCA_STATE_RANGE);
+        }
+        for (size_t bit = 0; bit < 8 * SCA_RECEIVER_BYTES; bit++) {
+            lend_link();
+            receiver.at[bit / 8] ^= (uint8_t)(1 << bit % 8);
+            reading(0, &bits);
+        }
+        for (size_t length = 0; length <= 25; length++) {
+            lend_link();
+            lend(&output, length);
+            outputs &= (reading(0, &outputs) == SCA_OUTPUT_SHORT) == (length < SCA_OUTPUT_BYTES);
+        }
+        for (size_t length = SCA_INPUT_MOST; length <= SCA_INPUT_MOST + 1; length++) {
+            lend_link();
+            lend(&input, length);
+            inputs &= (reading(0, &inputs) == SCA_INPUT_LONG) == (length > SCA_INPUT_MOST);
+            inputs &= (reading(8 * length - 3, &inputs) == SCA_INPUT_LONG) == (length > SCA_INPUT_MOST);
+        }
+        for (size_t start = 0; start <= 50; start++) {
+            lend_link();
+            starts &= (reading(start, &starts) == SCA_START_RANGE) == (start > 48);
+            lend_link();
+            starts &= reading(SIZE_MAX - start, &starts) == SCA_START_RANGE;
+        }
+    }
+    check(lengths, "receivers one byte short and long");
+    check(bits, "receivers with any one bit flipped");
+    check(outputs, "a receiver's outputs of 0 to 25 bytes");
+    check(inputs, "inputs of 65,536 and 65,537 bytes");
+    check(starts, "start bits around the end, and far past it");
+}
+
+static void transmitters(void) {
+    int good = 1;
+    for (at_end = 0; at_end <= 1; at_end++)
+        for (size_t length = 0; length <= 20; length++)
+            for (size_t room = 0; room <= 25; room++) {
+                unsigned number = length < 2 || length > 16 ? SCA_BODY_LENGTH : room < SCA_FRAME_MOST ? SCA_OUTPUT_SHORT : SCA_FRAME;
+                uint64_t result;
+                memset(lend(&body, length), 0xFF, length);
+                lend(&output, room);
+                note(&body), note(&output);
+                writable(&body, 0);
+                result = sca_transmit(body.at, length, output.at, room);
+                writable(&body, 1);
+                good &= SCA_NUMBER(result) == number && SCA_COUNT(result) <= SCA_FRAME_MOST;
+                good &= unchanged(&body) && unchanged_after(&output, SCA_COUNT(result));
+                good &= !SCA_REFUSED(result) || result == number;
+            }
+    check(good, "a transmitter's bodies of 0 to 20 and outputs of 0 to 25 bytes");
+}
+
+/* Whether a program is stopped that writes here. */
+static int guarded(volatile uint8_t *at) {
+    int status = 0;
+    pid_t child = fork();
+    if (child == 0) {
+        signal(SIGSEGV, SIG_DFL);
+        signal(SIGBUS, SIG_DFL);
+        *at = 0;
+        _exit(0);
+    }
+    return child > 0 && waitpid(child, &status, 0) == child && WIFSIGNALED(status);
+}
+
+static void guards(void) {
+    int good = 1;
+    at_end = 0;
+    good &= guarded(lend(&output, 20) - 1) && !guarded(output.at) && !guarded(output.at + 19);
+    at_end = 1;
+    good &= guarded(lend(&output, 20) + 20) && !guarded(output.at) && !guarded(output.at + 19);
+    writable(&output, 0);
+    good &= guarded(output.at);
+    writable(&output, 1);
+    check(good, "the guards stop who touches them");
+}
+
+static void map_all(void) {
+    state = between_guards(SCA_STATE_BYTES + 1);
+    journal = between_guards(SCA_JOURNAL_BYTES + 1);
+    output = between_guards(25);
+    body = between_guards(20);
+    received = between_guards(20);
+    receiver = between_guards(SCA_RECEIVER_BYTES + 1);
+    input = between_guards(SCA_INPUT_MOST + 1);
+    signal(SIGSEGV, touched);
+    signal(SIGBUS, touched);
+}
+
+int main(void) {
+    map_all();
+    guards();
+    reach(1);
+    lengths_of_outputs();
+    lengths_of_journals();
+    headers_of_journals();
+    lengths_of_states();
+    arguments();
+    order();
+    no_buffers();
+    bits_of_states();
+    receivers();
+    transmitters();
+    return failures != 0;
+}

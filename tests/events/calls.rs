@@ -1,0 +1,203 @@
+//! The calls of a run, and their text: a run that fails is printed so, and can be run again.
+
+use crate::hex::{bytes_in, Hex};
+use reference::adapter::State;
+use std::fmt;
+
+/// Where a frame arrives.
+#[derive(Clone, Copy, PartialEq, Eq, Debug)]
+pub enum Way {
+    /// On the active port.
+    Active,
+    /// On the other one.
+    Other,
+}
+
+#[derive(Clone, PartialEq, Eq, Debug)]
+pub enum Call {
+    /// Makes a state of this many bytes; where they are a state's, the run goes on with it.
+    Create {
+        length: usize,
+        id: u32,
+    },
+    /// Makes a journal of this many bytes empty: the run's own, where they are a journal's.
+    Empty {
+        length: usize,
+    },
+    Kept,
+    Frame {
+        port: u8,
+        body: Vec<u8>,
+        room: usize,
+    },
+    /// A numbered frame whose port and number depend on the state that it finds, so that it is still in sequence where
+    /// calls before it are left out. `skew` is added to the number that is due, `high` are bits 7 to 4 of control.
+    Request {
+        way: Way,
+        skew: u8,
+        high: u8,
+        information: Vec<u8>,
+        room: usize,
+    },
+    Completion {
+        received: Vec<u8>,
+        room: usize,
+    },
+    Sample {
+        levels: u32,
+        kind: u8,
+        room: usize,
+    },
+    Upset {
+        room: usize,
+    },
+    StepBack,
+    /// The run goes on with a state as another run may have left it; the journal stays.
+    Adopt {
+        state: Vec<u8>,
+    },
+    /// The call on a copy of the state with one bit flipped.
+    FlippedState {
+        bit: usize,
+        call: Box<Call>,
+    },
+    /// The call on a copy of the state, cut or lengthened.
+    StateOfLength {
+        length: usize,
+        call: Box<Call>,
+    },
+    /// The call on a copy of the journal with one byte altered.
+    AlteredJournal {
+        at: usize,
+        byte: u8,
+        call: Box<Call>,
+    },
+    /// The call on a copy of the journal, cut or lengthened.
+    JournalOfLength {
+        length: usize,
+        call: Box<Call>,
+    },
+}
+
+impl Call {
+    /// The call as it is for the state that it finds: a request is the frame that it makes.
+    pub fn found_by(&self, state: &State) -> Call {
+        let inner = |call: &Call| Box::new(call.found_by(state));
+        match self {
+            Call::Request {
+                way,
+                skew,
+                high,
+                information,
+                room,
+            } => {
+                let number = state.receive.wrapping_add(*skew) % 8;
+                let mut body = vec![0x00, high << 4 | number << 1];
+                body.extend_from_slice(information);
+                Call::Frame {
+                    port: state.active ^ u8::from(*way == Way::Other),
+                    body,
+                    room: *room,
+                }
+            }
+            Call::FlippedState { bit, call } => Call::FlippedState {
+                bit: *bit,
+                call: inner(call),
+            },
+            Call::StateOfLength { length, call } => Call::StateOfLength {
+                length: *length,
+                call: inner(call),
+            },
+            Call::AlteredJournal { at, byte, call } => Call::AlteredJournal {
+                at: *at,
+                byte: *byte,
+                call: inner(call),
+            },
+            Call::JournalOfLength { length, call } => Call::JournalOfLength {
+                length: *length,
+                call: inner(call),
+            },
+            _ => self.clone(),
+        }
+    }
+}
+
+/// As in a bench listing, with the output's room behind; the other calls by their names.
+impl fmt::Display for Call {
+    fn fmt(&self, out: &mut fmt::Formatter) -> fmt::Result {
+        match self {
+            Call::Create { length, id } => write!(out, "create {} {}", length, id),
+            Call::Empty { length } => write!(out, "empty {}", length),
+            Call::Kept => write!(out, "kept"),
+            Call::Frame { port, body, room } => write!(out, "F {} {} {}", port, Hex(body), room),
+            Call::Request { information, .. } => write!(out, "request {}", Hex(information)),
+            Call::Completion { received, room } => write!(out, "S {} {}", Hex(received), room),
+            Call::Sample { levels, kind, room } => write!(out, "P {:08x} {} {}", levels, kind, room),
+            Call::Upset { room } => write!(out, "U {}", room),
+            Call::StepBack => write!(out, "B"),
+            Call::Adopt { state } => write!(out, "adopt {}", Hex(state)),
+            Call::FlippedState { bit, call } => write!(out, "flip {} {}", bit, call),
+            Call::StateOfLength { length, call } => write!(out, "state {} {}", length, call),
+            Call::AlteredJournal { at, byte, call } => write!(out, "alter {} {} {}", at, byte, call),
+            Call::JournalOfLength { length, call } => write!(out, "journal {} {}", length, call),
+        }
+    }
+}
+
+/// The call that a line spells.
+pub fn call_in(line: &str) -> Option<Call> {
+    call_of(&line.split_whitespace().collect::<Vec<_>>())
+}
+
+fn call_of(words: &[&str]) -> Option<Call> {
+    let number = |text: &str| text.parse::<usize>().ok();
+    let small = |text: &str| text.parse::<u8>().ok();
+    let inner = |words: &[&str]| Some(Box::new(call_of(words)?));
+    match *words {
+        ["create", length, id] => Some(Call::Create {
+            length: number(length)?,
+            id: id.parse().ok()?,
+        }),
+        ["empty", length] => Some(Call::Empty {
+            length: number(length)?,
+        }),
+        ["kept"] => Some(Call::Kept),
+        ["F", port, body, room] => Some(Call::Frame {
+            port: small(port)?,
+            body: bytes_in(body)?,
+            room: number(room)?,
+        }),
+        ["S", received, room] => Some(Call::Completion {
+            received: bytes_in(received)?,
+            room: number(room)?,
+        }),
+        ["P", levels, kind, room] => Some(Call::Sample {
+            levels: u32::from_str_radix(levels, 16).ok()?,
+            kind: small(kind)?,
+            room: number(room)?,
+        }),
+        ["U", room] => Some(Call::Upset { room: number(room)? }),
+        ["B"] => Some(Call::StepBack),
+        ["adopt", state] => Some(Call::Adopt {
+            state: bytes_in(state)?,
+        }),
+        ["flip", bit, ..] => Some(Call::FlippedState {
+            bit: number(bit)?,
+            call: inner(&words[2..])?,
+        }),
+        ["state", length, ..] => Some(Call::StateOfLength {
+            length: number(length)?,
+            call: inner(&words[2..])?,
+        }),
+        ["alter", at, byte, ..] => Some(Call::AlteredJournal {
+            at: number(at)?,
+            byte: small(byte)?,
+            call: inner(&words[3..])?,
+        }),
+        ["journal", length, ..] => Some(Call::JournalOfLength {
+            length: number(length)?,
+            call: inner(&words[2..])?,
+        }),
+        _ => None,
+    }
+}

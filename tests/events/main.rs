@@ -1,0 +1,241 @@
+//! Compares the library's adapter with the independent implementation on random runs.
+//!
+//!     events [--seed N] [--runs N]     runs 0 to N - 1 of a seed
+//!     events --seed N --only RUN       one of them
+//!     events --replay FILE             a run as a failing one is printed
+//!     events --break                   lays faults into our side; each must be found
+//!     events --listings FOLDER         writes bench listings N.in with the output N.out that each must have
+//!
+//! Each test gives a line 'ok' or 'FAIL'; the status is 0 only where all are ok.
+
+#![forbid(unsafe_code)]
+
+mod calls;
+#[path = "../compare/chance.rs"]
+mod chance;
+mod fault;
+#[path = "../compare/hex.rs"]
+mod hex;
+mod image;
+mod listing;
+#[path = "../compare/output.rs"]
+mod output;
+mod ring;
+mod run;
+mod shrink;
+mod streams;
+mod tally;
+
+use calls::Call;
+use chance::Chance;
+use fault::{Fault, FAULTS};
+use run::Run;
+use std::process::ExitCode;
+use tally::Tally;
+
+/// The events that a comparison of all runs has at least.
+const EVENTS: u64 = 1_000_000;
+/// The listings written.
+const LISTINGS: u64 = 60;
+
+struct Options {
+    seed: u64,
+    runs: u64,
+    only: Option<u64>,
+    replay: Option<String>,
+    listings: Option<String>,
+    faults: bool,
+}
+
+fn options() -> Option<Options> {
+    let mut options = Options {
+        seed: 1,
+        runs: 5_500,
+        only: None,
+        replay: None,
+        listings: None,
+        faults: false,
+    };
+    let mut words = std::env::args().skip(1);
+    while let Some(word) = words.next() {
+        match word.as_str() {
+            "--seed" => options.seed = words.next()?.parse().ok()?,
+            "--runs" => options.runs = words.next()?.parse().ok()?,
+            "--only" => options.only = Some(words.next()?.parse().ok()?),
+            "--replay" => options.replay = Some(words.next()?),
+            "--listings" => options.listings = Some(words.next()?),
+            "--break" => options.faults = true,
+            _ => return None,
+        }
+    }
+    Some(options)
+}
+
+/// A run's first difference, and whether the fault was laid in.
+fn run(calls: &[Call], fault: Option<Fault>, tally: &mut Tally) -> (Option<String>, bool) {
+    let mut run = Run::new(tally, fault);
+    let difference = run.all(calls).err();
+    (difference, run.faulted)
+}
+
+fn say(holds: bool, what: &str) -> bool {
+    println!("{} {}", if holds { "ok  " } else { "FAIL" }, what);
+    holds
+}
+
+/// A failing run, made short: the difference, and its calls as the states found them.
+fn shortest(calls: &[Call], fault: Option<Fault>) -> (String, Vec<Call>) {
+    let difference = |calls: &[Call]| run(calls, fault, &mut Tally::new()).0;
+    let short = shrink::shrunk(calls, |calls| difference(calls).is_some());
+    let mut tally = Tally::new();
+    let mut run = Run::new(&mut tally, None);
+    let mut found = Vec::new();
+    for call in &short {
+        found.push(run.found(call));
+        if run.call(call).is_err() {
+            break;
+        }
+    }
+    (difference(&short).unwrap_or_default(), found)
+}
+
+fn compare(options: &Options) -> bool {
+    let mut tally = Tally::new();
+    let numbers = match options.only {
+        Some(only) => only..only + 1,
+        None => 0..options.runs,
+    };
+    println!("seed {}, runs {} to {}", options.seed, numbers.start, numbers.end - 1);
+    for number in numbers {
+        let calls = streams::stream(&mut Chance::new(options.seed, number));
+        if let (Some(difference), _) = run(&calls, None, &mut tally) {
+            say(false, &format!("seed {}, run {}: {}", options.seed, number, difference));
+            let (difference, short) = shortest(&calls, None);
+            println!("made short ({}); replay these lines:", difference);
+            short.iter().for_each(|call| println!("{}", call));
+            return false;
+        }
+    }
+    let what = format!(
+        "{} calls, {} of them events and steps back, agree",
+        tally.calls, tally.events
+    );
+    say(true, &what) && (options.only.is_some() || all_seen(&tally))
+}
+
+/// That the runs had in them what they are for.
+fn all_seen(tally: &Tally) -> bool {
+    let list = |counts: &[u64]| {
+        let seen = counts.iter().enumerate().filter(|(_, count)| **count > 0);
+        seen.map(|(number, count)| format!("{}: {}", number, count))
+            .collect::<Vec<_>>()
+            .join(", ")
+    };
+    let all = |counts: &[u64], numbers: &[usize]| numbers.iter().all(|number| counts[*number] > 0);
+    let numbers = |what: &str, counts: &[u64], numbers: &[usize]| {
+        say(
+            all(counts, numbers),
+            &format!("every number of {} ({})", what, list(counts)),
+        )
+    };
+    let some = |what: &str, count: u64| say(count > 0, &format!("{}: {}", what, count));
+    let commands = streams::COMMANDS
+        .iter()
+        .all(|(channel, command, _)| tally.commands.contains(&(*channel, *command)));
+    let results = [
+        say(tally.events >= EVENTS, &format!("at least {} events", EVENTS)),
+        numbers("a creation", &tally.create, &[17, 6, 7]),
+        numbers("an emptying", &tally.empty, &[17, 4]),
+        numbers("a counting", &tally.kept, &[17, 4]),
+        numbers("a frame", &tally.frame, &[0, 1, 2, 3, 4, 6, 11, 12, 13, 14, 17]),
+        numbers("a completion", &tally.completion, &[0, 1, 3, 4, 6, 15]),
+        numbers("a pin sample", &tally.sample, &[0, 1, 3, 4, 6, 16, 17]),
+        numbers("an upset", &tally.upset, &[1, 4, 6, 17]),
+        numbers("a step back", &tally.step_back, &[5, 6, 17]),
+        numbers("a step back in a journal altered", &tally.altered_back, &[4, 5, 17]),
+        numbers("a reply's ERR", &tally.errors, &[0, 0x02, 0x04, 0x08, 0x10, 0x20, 0x40]),
+        say(
+            commands,
+            &format!("every command carried out ({})", tally.commands.len()),
+        ),
+        say(
+            tally.transfers.iter().all(|count| *count > 0),
+            "transfers of every length",
+        ),
+        say(
+            tally.interrupts.iter().all(|count| *count > 0),
+            &format!("interrupts by every edge kind ({})", list(&tally.interrupts)),
+        ),
+        say(
+            all(&tally.acknowledged, &streams::LINK_COMMANDS.map(usize::from)),
+            "CONNECT, RESET and TEST, both forms",
+        ),
+        some("frames out of sequence", tally.rejects),
+        some("frames looped back", tally.loops),
+        some("GO dropped by a disabling", tally.go_dropped),
+        some("GO open through a CONNECT", tally.go_connected),
+        some("the SEU counter from its end to 0", tally.counter_wrapped),
+        some("64 steps back in a row and one more", tally.whole_journals_back),
+    ];
+    results.iter().all(|holds| *holds)
+}
+
+/// Each fault is laid once, into the first run from the thousandth on where it applies, and that run must fail; made short,
+/// it must still.
+fn find_faults(seed: u64) -> bool {
+    let mut found = true;
+    for (fault, name) in FAULTS {
+        let runs = (1_000..2_000).map(|number| streams::stream(&mut Chance::new(seed, number)));
+        let mut tried = runs.map(|calls| (run(&calls, Some(fault), &mut Tally::new()), calls));
+        let difference = match tried.find(|((_, faulted), _)| *faulted) {
+            Some(((Some(_), _), calls)) => {
+                let (difference, short) = shortest(&calls, Some(fault));
+                format!("{} calls, {:.100}", short.len(), difference)
+            }
+            Some(((None, _), _)) => "NOT FOUND".to_string(),
+            None => "NEVER LAID".to_string(),
+        };
+        found &= say(
+            difference.contains("the library has") || difference.contains("differs"),
+            &format!("{} changed: {}", name, difference),
+        );
+    }
+    found
+}
+
+fn replay(file: &str) -> bool {
+    let text = std::fs::read_to_string(file).expect("the file to replay");
+    let call = |line: &str| calls::call_in(line).unwrap_or_else(|| panic!("no call: {}", line));
+    let calls: Vec<Call> = text.lines().map(call).collect();
+    match run(&calls, None, &mut Tally::new()).0 {
+        Some(difference) => say(false, &difference),
+        None => say(true, &format!("{} calls agree", calls.len())),
+    }
+}
+
+/// Listings, and what the bench program must answer, by the independent implementation.
+fn write_listings(seed: u64, folder: &str) -> std::io::Result<()> {
+    for number in 0..LISTINGS {
+        let text = listing::listing(&mut Chance::new(seed, number));
+        std::fs::write(format!("{}/{}.in", folder, number), &text)?;
+        std::fs::write(format!("{}/{}.out", folder, number), reference::listing::played(&text))?;
+    }
+    Ok(())
+}
+
+fn main() -> ExitCode {
+    let options = match options() {
+        Some(options) => options,
+        None => {
+            eprintln!("usage: events [--seed N] [--runs N] [--only RUN] [--replay FILE] [--break] [--listings FOLDER]");
+            return ExitCode::from(2);
+        }
+    };
+    let good = match (&options.replay, &options.listings) {
+        (Some(file), _) => replay(file),
+        (_, Some(folder)) => write_listings(options.seed, folder).is_ok(),
+        _ if options.faults => find_faults(options.seed),
+        _ => compare(&options),
+    };
+    ExitCode::from(u8::from(!good))
+}

@@ -1,0 +1,394 @@
+//! Runs the calls of a run on both sides, the library and the independent implementation, and compares all that each
+//! call gives and leaves.
+
+use crate::calls::Call;
+use crate::fault::Fault;
+use crate::image::{bytes_of, state_in};
+use crate::output::Output;
+use crate::ring::Ring;
+use crate::tally::Tally;
+use boundary::{Answer, JOURNAL_BYTES, STATE_BYTES};
+use reference::adapter::{self, Condition, Journal, State};
+use reference::numbers::{BAD_ID, BAD_JOURNAL, DONE, FRAME, NOTHING_KEPT, OUT_OF_RANGE, UNREADABLE};
+
+type Checked = Result<(), String>;
+
+/// The chip that a run starts with.
+const FIRST_ID: u32 = 0x00_000A;
+
+fn same<T: PartialEq + std::fmt::Debug>(what: &str, ours: T, expected: T) -> Checked {
+    if ours == expected {
+        Ok(())
+    } else {
+        Err(format!("{}: the library has {:?}, expected {:?}", what, ours, expected))
+    }
+}
+
+pub fn refused(number: u8) -> bool {
+    (1..=UNREADABLE).contains(&number)
+}
+
+/// A state and a journal: the library's bytes, and what they are expected to be.
+#[derive(Clone)]
+struct Pair {
+    state: Vec<u8>,
+    journal: Vec<u8>,
+    /// None where the bytes spell no state; they are then to stay as they were handed in.
+    expected: Option<State>,
+    handed_in: Vec<u8>,
+    earlier: Journal,
+    ring: Ring,
+    /// The journal's bytes were altered, so that `earlier` does not stand for them.
+    altered: bool,
+}
+
+impl Pair {
+    fn new() -> Pair {
+        let state = State::power_on(FIRST_ID);
+        let mut ring = Ring::unwritten(JOURNAL_BYTES);
+        ring.empty();
+        Pair {
+            state: bytes_of(&state),
+            journal: ring.0.clone(),
+            expected: Some(state),
+            handed_in: Vec::new(),
+            earlier: Journal::new(),
+            ring,
+            altered: false,
+        }
+    }
+
+    fn set_state(&mut self, bytes: Vec<u8>) {
+        self.expected = state_in(&bytes);
+        self.handed_in = bytes.clone();
+        self.state = bytes;
+    }
+
+    fn set_journal(&mut self, bytes: Vec<u8>) {
+        self.ring = Ring(bytes.clone());
+        self.journal = bytes;
+        self.altered = true;
+        self.earlier.condition = if self.journal.len() != JOURNAL_BYTES {
+            Condition::WrongLength
+        } else if self.ring.well_formed() {
+            Condition::Whole
+        } else {
+            Condition::WrongLayout
+        };
+    }
+}
+
+/// Both sides of a run.
+pub struct Run<'a> {
+    own: Pair,
+    tally: &'a mut Tally,
+    fault: Option<Fault>,
+    /// The fault was laid in; it is laid in once.
+    pub faulted: bool,
+}
+
+impl<'a> Run<'a> {
+    pub fn new(tally: &'a mut Tally, fault: Option<Fault>) -> Run<'a> {
+        Run {
+            own: Pair::new(),
+            tally,
+            fault,
+            faulted: false,
+        }
+    }
+
+    /// The calls one after the other; where they differ, which call and how.
+    pub fn all(&mut self, calls: &[Call]) -> Checked {
+        for (at, call) in calls.iter().enumerate() {
+            self.call(call)
+                .map_err(|how| format!("call {}, {}: {}", at + 1, self.found(call), how))?;
+        }
+        self.records()
+    }
+
+    /// A call as the run's state finds it.
+    pub fn found(&self, call: &Call) -> Call {
+        call.found_by(&self.own.expected.expect("a run's own state is one"))
+    }
+
+    pub fn call(&mut self, call: &Call) -> Checked {
+        let call = self.found(call);
+        self.tally.calls += 1;
+        match &call {
+            Call::Create { length, id } => self.create(*length, *id),
+            Call::Empty { length } => self.empty(*length),
+            Call::Adopt { state } => {
+                if state_in(state).as_ref().map_or(false, adapter::in_range) {
+                    self.own.set_state(state.clone());
+                }
+                Ok(())
+            }
+            Call::FlippedState { bit, call } => {
+                let mut copy = self.own.clone();
+                let mut bytes = copy.state.clone();
+                bytes[bit / 8] ^= 1 << (bit % 8);
+                copy.set_state(bytes);
+                self.on(&mut copy, call)
+            }
+            Call::StateOfLength { length, call } => {
+                let mut copy = self.own.clone();
+                let mut bytes = copy.state.clone();
+                bytes.resize(*length, 0);
+                copy.set_state(bytes);
+                self.on(&mut copy, call)
+            }
+            Call::AlteredJournal { at, byte, call } => {
+                let mut copy = self.own.clone();
+                let mut bytes = copy.journal.clone();
+                bytes[*at] = *byte;
+                copy.set_journal(bytes);
+                self.on(&mut copy, call)
+            }
+            Call::JournalOfLength { length, call } => {
+                let mut copy = self.own.clone();
+                let mut bytes = copy.journal.clone();
+                bytes.resize(*length, 0);
+                copy.set_journal(bytes);
+                self.on(&mut copy, call)
+            }
+            _ => {
+                let mut own = std::mem::replace(&mut self.own, Pair::new());
+                let checked = self.on(&mut own, &call);
+                self.own = own;
+                checked
+            }
+        }
+    }
+
+    /// An event, a step back or a counting, on a pair.
+    fn on(&mut self, pair: &mut Pair, call: &Call) -> Checked {
+        match call {
+            Call::StepBack => self.step_back(pair)?,
+            Call::Kept => {}
+            _ => self.event(pair, call)?,
+        }
+        self.kept(pair)
+    }
+
+    /// Whether to change our side here.
+    fn lay(&mut self, fault: Fault, applies: bool) -> bool {
+        let now = applies && !self.faulted && self.fault == Some(fault);
+        self.faulted |= now;
+        now
+    }
+
+    fn create(&mut self, length: usize, id: u32) -> Checked {
+        let (made, state) = adapter::create(id);
+        let fill = |length: usize| (0..length).map(|at| (at * 31) as u8 ^ 0xC3).collect::<Vec<u8>>();
+        let mut bytes = fill(length);
+        let number = boundary::create(&mut bytes, id);
+        let (expected, after) = match state {
+            _ if length != STATE_BYTES => (OUT_OF_RANGE, fill(length)),
+            Some(state) => (made, bytes_of(&state)),
+            None => (BAD_ID, fill(length)),
+        };
+        if self.lay(Fault::Created, expected == DONE) {
+            bytes[20] ^= 1;
+        }
+        self.tally.create[usize::from(expected)] += 1;
+        same("the number", number, u64::from(expected))?;
+        same("the new state", &bytes, &after)?;
+        if expected == DONE {
+            self.own.set_state(bytes);
+        }
+        Ok(())
+    }
+
+    fn empty(&mut self, length: usize) -> Checked {
+        if length == JOURNAL_BYTES {
+            let expected = adapter::empty(&mut self.own.earlier);
+            self.own.ring.empty();
+            self.tally.empty[usize::from(expected)] += 1;
+            same(
+                "the number",
+                boundary::empty(&mut self.own.journal),
+                u64::from(expected),
+            )?;
+            return same("the journal", self.own.journal == self.own.ring.0, true);
+        }
+        let mut bytes = Ring::unwritten(length).0;
+        self.tally.empty[usize::from(BAD_JOURNAL)] += 1;
+        same("the number", boundary::empty(&mut bytes), u64::from(BAD_JOURNAL))?;
+        same("the journal is unchanged", bytes == Ring::unwritten(length).0, true)
+    }
+
+    fn event(&mut self, pair: &mut Pair, call: &Call) -> Checked {
+        let room = match call {
+            Call::Frame { room, .. } => *room,
+            Call::Completion { room, .. } => *room,
+            Call::Sample { room, .. } => *room,
+            Call::Upset { room } => *room,
+            _ => unreachable!("no event: {}", call),
+        };
+        let (mut ours, mut expected_output) = (Output::new(room), Output::new(room));
+        let mut answer = by_library(pair, call, ours.lent());
+        let before = pair.expected;
+        let expected = match &mut pair.expected {
+            None => Answer {
+                number: OUT_OF_RANGE,
+                length: 0,
+                port: 0,
+            },
+            Some(state) => by_reference(state, &mut pair.earlier, call, expected_output.lent()),
+        };
+        let kept = !refused(expected.number);
+        if let (true, Some(before)) = (kept, before) {
+            match adapter::kept(&pair.earlier) {
+                (_, 0) => pair.ring.empty(),
+                _ => pair.ring.push(&before),
+            }
+        }
+        self.break_event(pair, &mut answer, &mut ours, kept);
+        self.tally.event(call, &before, &expected, expected_output.lent());
+        same("the answer", answer, expected)?;
+        same("the output", ours, expected_output)?;
+        self.left(pair)
+    }
+
+    fn break_event(&mut self, pair: &mut Pair, answer: &mut Answer, output: &mut Output, kept: bool) {
+        let frame = answer.number == FRAME;
+        let room = output.lent().len();
+        if self.lay(Fault::Number, true) {
+            answer.number += 1;
+        }
+        if self.lay(Fault::Port, frame) {
+            answer.port ^= 1;
+        }
+        if self.lay(Fault::Length, frame) {
+            answer.length += 1;
+        }
+        if self.lay(Fault::Body, frame) {
+            output.lent()[answer.length - 1] ^= 1;
+        }
+        if self.lay(Fault::OutputAfterBody, frame && room > answer.length) {
+            output.lent()[answer.length] ^= 1;
+        }
+        if self.lay(Fault::OutsideOutput, true) {
+            *output.bytes.last_mut().unwrap() ^= 1;
+        }
+        if self.lay(Fault::State, kept) {
+            pair.state[64] ^= 1;
+        }
+        if self.lay(Fault::RefusedState, !kept && !pair.state.is_empty()) {
+            pair.state[0] ^= 1;
+        }
+        if self.lay(Fault::Record, kept && pair.ring.kept() > 0) {
+            let newest = pair.ring.newest_at();
+            pair.journal[newest] ^= 1;
+        }
+        if self.lay(Fault::UnusedJournal, kept) {
+            pair.journal[1_000] ^= 1;
+        }
+        if self.lay(Fault::RefusedJournal, !kept && pair.journal.len() > 20) {
+            pair.journal[20] ^= 1;
+        }
+        if self.lay(Fault::RefusedOutput, !kept && room > 0) {
+            output.lent()[0] ^= 1;
+        }
+    }
+
+    /// What docs/JOURNAL.md says a step back does; where no byte was altered, the independent implementation says it too.
+    fn step_back(&mut self, pair: &mut Pair) -> Checked {
+        let answer = boundary::step_back(&mut pair.state, &mut pair.journal);
+        let before = pair.expected;
+        let (number, after) = match before.filter(adapter::in_range) {
+            None => (OUT_OF_RANGE, before),
+            Some(_) if !pair.ring.well_formed() => (BAD_JOURNAL, before),
+            Some(_) if pair.ring.kept() == 0 => (NOTHING_KEPT, before),
+            Some(state) => match pair.ring.newest(state.id) {
+                None => (BAD_JOURNAL, before),
+                restored => (DONE, restored),
+            },
+        };
+        if let (Some(mut state), false) = (before, pair.altered) {
+            let theirs = adapter::step_back(&mut state, &mut pair.earlier);
+            same("docs/JOURNAL.md's number", number, theirs)?;
+            same("docs/JOURNAL.md's state", after, Some(state))?;
+        }
+        if number == DONE {
+            pair.ring.lower();
+        }
+        pair.expected = after;
+        if self.lay(Fault::RestoredState, number == DONE) {
+            pair.state[68] ^= 1;
+        }
+        self.tally.step_back(number, pair.altered);
+        let expected = Answer {
+            number,
+            length: 0,
+            port: 0,
+        };
+        same("the answer", answer, expected)?;
+        self.left(pair)
+    }
+
+    /// The state field by field, then all bytes of state and journal.
+    fn left(&self, pair: &Pair) -> Checked {
+        same("the state", state_in(&pair.state), pair.expected)?;
+        let bytes = pair.expected.as_ref().map(bytes_of);
+        same(
+            "the state's bytes",
+            &pair.state,
+            bytes.as_ref().unwrap_or(&pair.handed_in),
+        )?;
+        if pair.journal != pair.ring.0 {
+            let at = (0..pair.ring.0.len()).find(|at| pair.journal[*at] != pair.ring.0[*at]);
+            return Err(format!("the journal differs from byte {:?} on", at));
+        }
+        Ok(())
+    }
+
+    fn kept(&mut self, pair: &Pair) -> Checked {
+        let mut ours = boundary::kept(&pair.journal);
+        let expected = if pair.ring.well_formed() {
+            (DONE, pair.ring.kept())
+        } else {
+            (BAD_JOURNAL, 0)
+        };
+        if !pair.altered {
+            same("docs/JOURNAL.md's kept number", expected, adapter::kept(&pair.earlier))?;
+        }
+        if self.lay(Fault::KeptNumber, true) {
+            ours.kept += 1;
+        }
+        self.tally.kept[usize::from(expected.0)] += 1;
+        same("the kept number", (ours.number, ours.kept), expected)
+    }
+
+    /// The states that the journal's records spell are those that the independent implementation can go back to.
+    fn records(&self) -> Checked {
+        for (oldest, state) in self.own.earlier.earlier().enumerate() {
+            same("a record", self.own.ring.record(oldest, state.id), Some(*state))?;
+        }
+        Ok(())
+    }
+}
+
+fn by_library(pair: &mut Pair, call: &Call, output: &mut [u8]) -> Answer {
+    let (state, journal) = (&mut pair.state, &mut pair.journal);
+    match call {
+        Call::Frame { port, body, .. } => boundary::frame(state, journal, *port, body, output),
+        Call::Completion { received, .. } => boundary::completion(state, journal, received, output),
+        Call::Sample { levels, kind, .. } => boundary::sample(state, journal, *levels, *kind, output),
+        _ => boundary::upset(state, journal, output),
+    }
+}
+
+fn by_reference(state: &mut State, journal: &mut Journal, call: &Call, output: &mut [u8]) -> Answer {
+    let answer = match call {
+        Call::Frame { port, body, .. } => adapter::frame(state, journal, *port, body, output),
+        Call::Completion { received, .. } => adapter::completion(state, journal, received, output),
+        Call::Sample { levels, kind, .. } => adapter::sample(state, journal, *levels, *kind, output),
+        _ => adapter::upset(state, journal, output),
+    };
+    Answer {
+        number: answer.number,
+        length: answer.length,
+        port: answer.port,
+    }
+}

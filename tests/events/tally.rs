@@ -1,0 +1,147 @@
+//! How often each thing was seen, over all runs.
+
+use crate::calls::Call;
+use crate::run::refused;
+use boundary::Answer;
+use reference::adapter::State;
+use reference::numbers::{DONE, FRAME, NOTHING_KEPT};
+use std::collections::BTreeSet;
+
+const SPI: u8 = 0x01;
+const GO: u8 = 0x72;
+
+pub struct Tally {
+    pub calls: u64,
+    pub events: u64,
+    pub create: [u64; 256],
+    pub empty: [u64; 256],
+    pub kept: [u64; 256],
+    pub frame: [u64; 256],
+    pub completion: [u64; 256],
+    pub sample: [u64; 256],
+    pub upset: [u64; 256],
+    pub step_back: [u64; 256],
+    /// Steps back in journals with a byte altered or of another length.
+    pub altered_back: [u64; 256],
+    /// The ERR bytes of replies.
+    pub errors: [u64; 256],
+    /// CH and CMD of requests that were carried out.
+    pub commands: BTreeSet<(u8, u8)>,
+    /// Bits 6 to 0 of CONTROL at completions that were answered.
+    pub transfers: [u64; 128],
+    /// Interrupts, by edge kind.
+    pub interrupts: [u64; 3],
+    pub rejects: u64,
+    pub loops: u64,
+    pub acknowledged: [u64; 256],
+    pub go_dropped: u64,
+    pub go_connected: u64,
+    pub counter_wrapped: u64,
+    /// A full journal taken back to its end: 64 steps in a row, and one more.
+    pub whole_journals_back: u64,
+    steps_in_a_row: usize,
+}
+
+impl Tally {
+    pub fn new() -> Tally {
+        Tally {
+            calls: 0,
+            events: 0,
+            create: [0; 256],
+            empty: [0; 256],
+            kept: [0; 256],
+            frame: [0; 256],
+            completion: [0; 256],
+            sample: [0; 256],
+            upset: [0; 256],
+            step_back: [0; 256],
+            altered_back: [0; 256],
+            errors: [0; 256],
+            commands: BTreeSet::new(),
+            transfers: [0; 128],
+            interrupts: [0; 3],
+            rejects: 0,
+            loops: 0,
+            acknowledged: [0; 256],
+            go_dropped: 0,
+            go_connected: 0,
+            counter_wrapped: 0,
+            whole_journals_back: 0,
+            steps_in_a_row: 0,
+        }
+    }
+
+    /// An event's call, the state before it, and what it gave.
+    pub fn event(&mut self, call: &Call, before: &Option<State>, answer: &Answer, output: &[u8]) {
+        self.events += 1;
+        self.steps_in_a_row = 0;
+        let number = usize::from(answer.number);
+        let state = before.unwrap_or_default();
+        let frame = answer.number == FRAME;
+        match call {
+            Call::Frame { body, .. } => {
+                self.frame[number] += 1;
+                if !refused(answer.number) {
+                    self.exchanged(&state, body, answer, output);
+                }
+            }
+            Call::Completion { .. } => {
+                self.completion[number] += 1;
+                self.transfers[usize::from(state.spi.control & 0x7F)] += u64::from(frame);
+            }
+            Call::Sample { kind, .. } => {
+                self.sample[number] += 1;
+                if frame {
+                    self.interrupts[usize::from(*kind)] += 1;
+                }
+            }
+            _ => {
+                self.upset[number] += 1;
+                self.counter_wrapped += u64::from(answer.number == DONE && state.seu == u32::MAX);
+            }
+        }
+    }
+
+    /// A frame that was not refused, and what went out.
+    fn exchanged(&mut self, state: &State, body: &[u8], answer: &Answer, output: &[u8]) {
+        let sent = &output[..answer.length];
+        let go = state.spi.open_go.is_some();
+        match (body, sent) {
+            ([_, _, _, channel, _, command, ..], [_, _, _, _, error, ..]) if sent != body => {
+                self.errors[usize::from(*error)] += 1;
+                if *error == 0 {
+                    self.commands.insert((*channel, *command));
+                    let disabled = (*channel, *command) == (0x00, 0x02) && body[7] & 0x02 == 0;
+                    self.go_dropped += u64::from(go && disabled);
+                }
+            }
+            ([_, _, _, SPI, _, GO, ..], []) if answer.number == DONE => {
+                self.commands.insert((SPI, GO));
+            }
+            ([_, control], [_, acknowledgement]) if sent != body => {
+                self.acknowledged[usize::from(*control)] += u64::from(acknowledgement & 0x63 == 0x63);
+                self.go_connected += u64::from(go && control & 0xEF == 0x2F);
+            }
+            (_, [_, control]) if control & 0x1F == 0x0D && sent != body => self.rejects += 1,
+            _ => self.loops += u64::from(sent == body),
+        }
+    }
+
+    pub fn step_back(&mut self, number: u8, altered: bool) {
+        self.events += 1;
+        let counts = if altered {
+            &mut self.altered_back
+        } else {
+            &mut self.step_back
+        };
+        counts[usize::from(number)] += 1;
+        if altered {
+            return;
+        }
+        match number {
+            DONE => self.steps_in_a_row += 1,
+            NOTHING_KEPT => self.whole_journals_back += u64::from(self.steps_in_a_row == 64),
+            _ => {}
+        }
+    }
+}
