@@ -4,6 +4,7 @@ pub mod ShutOut
 pub mod Runs
 pub mod Refused
 pub mod Standing
+pub mod KeptNumber
 pub mod Wire
 pub mod AllCases
 pub mod InParts

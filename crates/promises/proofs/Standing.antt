@@ -107,7 +107,7 @@ only-standing c d r =
 -- ---- branches
 
 -- a run that goes on
-pub further : (r : Run) (ks : List Call) → AllOfTheirTypes (r .calls ++ ks) → Run
+unfoldable pub further : (r : Run) (ks : List Call) → AllOfTheirTypes (r .calls ++ ks) → Run
 further r ks t = record { id = r .id; id-fits = r .id-fits; bytes = r .bytes; size = r .size; calls = r .calls ++ ks; typed = t }
 
 module _ (r : Run) (e : Event) (o : List ℕ) (kept : refused e o ≡ false) (other : acceptedReset e ≡ false) where

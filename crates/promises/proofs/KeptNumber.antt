@@ -1,0 +1,59 @@
+-- THE KEPT NUMBER, for any calls that meet demand 3, in the words of the demand and of `kept` alone. Assumes nothing.
+use Prim.Native.Nat.{ℕ, _+_, _-_, min}
+use mathlib.Core.Path.{_≡_, refl, sym, ap, _∙_}
+use mathlib.Core.List.{List, [], _∷_, foldl-append}
+use mathlib.Core.Bool.{true, false}
+use borrow.Author.Tests.{ne-eqb}
+use Rattle.chip.specs.Event.{Event}
+use Rattle.chip.specs.Chip.{acceptedReset}
+use Rattle.adapter.specs.declared.KeptNumber.{KeptNumber}
+use Rattle.promises.specs.Runs.{Call, event, back, empty, Calls, OfItsTypes, Run, left, refused, Standing, atStart, keeps, standing, Demand3}
+use Rattle.promises.proofs.Standing.{typed-more, further}
+
+-- the kept number after a run, and after one call more
+abbrev pub keptAfter : (c : Calls) → Run → ℕ
+keptAfter c r = c .kept (left c r) .kept
+
+abbrev pub keptThen : (c : Calls) → Run → Call → ℕ
+keptThen c r k = c .kept (c .leaves (left c r) k) .kept
+
+pub record KeptRule (c : Calls) : Type 0 where
+  -- "that number is zero at the start,
+  pub at-start : (r : Run) → r .calls ≡ [] → keptAfter c r ≡ 0
+  -- after the emptying call
+  pub after-emptying : (r : Run) → keptThen c r empty ≡ 0
+  -- and after an accepted RESET,
+  pub after-reset : (r : Run) (e : Event) (o : List ℕ) → OfItsTypes (event e o) → refused e o ≡ false → acceptedReset e ≡ true
+      → keptThen c r (event e o) ≡ 0
+  -- goes up by one with each other event not refused, to at most 64,
+  pub up : (r : Run) (e : Event) (o : List ℕ) → OfItsTypes (event e o) → refused e o ≡ false → acceptedReset e ≡ false
+      → keptThen c r (event e o) ≡ min 64 (keptAfter c r + 1)
+  -- and down by one with each step granted."
+  pub down : (r : Run) → (keptAfter c r ≡ 0 → ⊥) → keptThen c r back ≡ keptAfter c r - 1
+  -- A refused event leaves it.
+  pub stays : (r : Run) (e : Event) (o : List ℕ) → OfItsTypes (event e o) → refused e o ≡ true → keptThen c r (event e o) ≡ keptAfter c r
+
+module _ (c : Calls) (d : Demand3 c) (r : Run) where
+  number-after : keptAfter c r ≡ standing r .number
+  number-after = ap (λ (x : KeptNumber). x .kept) (d .kept r)
+
+  number-then : (k : Call) → OfItsTypes k → keptThen c r k ≡ keeps (standing r) k .number
+  unfolding further
+  number-then k t =
+      let q = further r (k ∷ []) (typed-more (r .calls) k (r .typed) t) in
+      ap (λ (p : c .Pair). c .kept p .kept) (sym (foldl-append (c .leaves) (c .start (r .id) (r .bytes)) (r .calls) (k ∷ [])))
+      ∙ ap (λ (x : KeptNumber). x .kept) (d .kept q)
+      ∙ ap (λ (s : Standing). s .number) (foldl-append keeps atStart (r .calls) (k ∷ []))
+
+pub kept-rule : (c : Calls) → Demand3 c → KeptRule c
+kept-rule c d =
+    record {
+      at-start = λ r h. number-after c d r ∙ rw h refl;
+      after-emptying = λ r. number-then c d r empty tt;
+      after-reset = λ r e o t h q. number-then c d r (event e o) t ∙ simp (h, q);
+      up = λ r e o t h q. number-then c d r (event e o) t ∙ simp (h, q) (ap (λ (n : ℕ). min 64 (n + 1)) (sym (number-after c d r)));
+      down = λ r z.
+          let s : standing r .number ≡ 0 → ⊥ = λ q. z (number-after c d r ∙ q) in
+          number-then c d r back tt ∙ simp (ne-eqb (standing r .number) 0 s) (ap (λ (n : ℕ). n - 1) (sym (number-after c d r)));
+      stays = λ r e o t h. number-then c d r (event e o) t ∙ simp h (sym (number-after c d r));
+    }
