@@ -43,7 +43,7 @@ at-each f (suc n) t k h = by (and-left (f n) (below f n) t) (at-each f n (and-ri
 pub low-nibbles : (x : ℕ) → low 8 x ≡ low 4 (x % 16) ++ low 4 (x / 16)
 low-nibbles x = low-add 4 4 x ∙ ap (λ (l : List ℕ). l ++ low 4 (x / 16)) (sym (low-mod 4 x))
 
-pub register-bit-lt : (c b : ℕ) → c < 65536 → bitXor (c / 2) (polynomial * ((c % 2 + b) % 2)) < 65536
+register-bit-lt : (c b : ℕ) → c < 65536 → bitXor (c / 2) (polynomial * ((c % 2 + b) % 2)) < 65536
 register-bit-lt c b h = xor-lt 16 (c / 2) (polynomial * ((c % 2 + b) % 2)) (omega arith) (omega arith)
 
 pub register-append : (c : ℕ) (l m : List ℕ) → register c (l ++ m) ≡ register (register c l) m

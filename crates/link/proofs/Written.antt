@@ -14,7 +14,7 @@ use Rattle.parts.specs.Parts.{put}
 use Rattle.link.specs.Bits.{low, wire, octets, pack}
 use Rattle.link.specs.Fcs.{checkOf, fcs}
 use Rattle.link.specs.Frame.{stuff, flag, contentOf, frame, filled}
-use Rattle.link.specs.Inner.{tail, inked, Inked, Raw, Written}
+use Rattle.link.specs.Inner.{tail, inked, Inked, Raw, Stuffs, Written}
 use Rattle.link.proofs.Bits.{AreBytes, length-low, low-cut, low-mod, low-add, low-bytes, wire-append, length-wire, take-wire, pack-wire}
 use Rattle.link.proofs.Check.{below, and-left, and-right, at-each, content-bits}
 
@@ -149,14 +149,6 @@ written-then {o} {r} {t} {n} {h} {n′} {h′} {n″} {h″} {k} {k′} {k″} {
       short = b .short;
       most = rw (length-append l m) (omega (arith, a .most, b .most));
     }
-
--- what an entry e of the table says of the four bits x after a run of k ones
-pub record Stuffs (k x e : ℕ) : Type 0 where
-  pub bits : stuff k (low 4 x) ≡ low (4 + e / 32 % 2) (e % 32)
-  pub run : e / 64 ≡ tail k (low 4 x)
-  pub fits : e % 32 < 2 ^ (4 + e / 32 % 2)
-  pub short : e / 64 ≤ 4
-  pub most : 5 * (4 + e / 32 % 2) + e / 64 ≤ k + 24
 
 pub written-four : {o r : List ℕ} {n h k x e n′ h′ k′ : ℕ}
     → Stuffs k x e → Inked o n h (low (4 + e / 32 % 2) (e % 32)) r n′ h′ × (k′ ≡ e / 64) → Written o n h k (low 4 x) r n′ h′ k′

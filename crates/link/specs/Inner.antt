@@ -46,6 +46,14 @@ pub record Written (o : List ℕ) (n h k : ℕ) (bs r : List ℕ) (n′ h′ k�
   pub short : k′ ≤ 4
   pub most : 5 * n′ + k′ ≤ 5 * n + k + 6 * length bs
 
+-- what an entry e of the table says of the four bits x after a run of k ones
+pub record Stuffs (k x e : ℕ) : Type 0 where
+  pub bits : stuff k (low 4 x) ≡ low (4 + e / 32 % 2) (e % 32)
+  pub run : e / 64 ≡ tail k (low 4 x)
+  pub fits : e % 32 < 2 ^ (4 + e / 32 % 2)
+  pub short : e / 64 ≤ 4
+  pub most : 5 * (4 + e / 32 % 2) + e / 64 ≤ k + 24
+
 -- ---- the receiver: content in bytes
 
 -- the number that bytes spell, byte 0 lowest

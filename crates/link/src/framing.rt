@@ -5,7 +5,7 @@ ghost use Prim.Native.Nat.{_+_, _*_, _-_, _%_, _^_, _<_, _≤_};
 ghost use lib.ListN.{length, replicate};
 ghost use Rattle.link.specs.Bits.{low, wire};
 ghost use Rattle.link.specs.Frame.{frame, filled};
-ghost use Rattle.link.specs.Inner.{Inked, Raw, Written};
+ghost use Rattle.link.specs.Inner.{Inked, Raw, Stuffs, Written};
 
 const FLAG: u16 = 0x7E;
 
@@ -118,21 +118,29 @@ fn put(output: &mut [u8], pen: Pen, v: u16, count: usize) -> Pen
     }
 }
 
+// The entry for four bits after a run of ones.
+fn stuffed(ones: u16, x: u16) -> u16
+    requires { ⌜ (ones ≤ 4) × (x < 16) ⌝ }
+    ensures { λ r. ⌜ Stuffs ones x r ⌝ }
+{
+    STUFFED[(16 * ones + x) as usize]
+}
+
 // Four bits of content, with a zero after a fifth one.
 fn stuff_four(output: &mut [u8], pen: Pen, x: u16) -> Pen
     requires { ⌜ (24 ≤ length (now output)) × (5 * pen .bits + pen .ones ≤ 884) × (pen .held < 2 ^ (pen .bits % 8)) × (pen .ones ≤ 4) × (x < 16) ⌝ }
     ensures { λ r. ⌜ Written (now (output .entry)) (pen .bits) (pen .held) (pen .ones) (low 4 x) (now (output .exit)) (r .bits) (r .held) (r .ones) ⌝ }
 {
-    let stuffed = STUFFED[(16 * pen.ones + x) as usize];
-    let count = (4 + stuffed / 32 % 2) as usize;
+    let e = stuffed(pen.ones, x);
+    let count = (4 + e / 32 % 2) as usize;
     put(
         output,
         Pen {
             bits: pen.bits,
             held: pen.held,
-            ones: stuffed / 64,
+            ones: e / 64,
         },
-        stuffed % 32,
+        e % 32,
         count,
     )
 }

@@ -34,7 +34,7 @@ stuff-byte-requires c κs =
     let w = c .before .before .before .stuff-bytes .ensures in
     let a = c .before .before .before .before .before .before .before .put .ensures in
     let p = c .before .before .before .before .before .before .before .before .before .before .before .before .pre in
-    (omega (arith, w .raw .size, a .0 .size, p .1), omega (arith, rw length-low at (a .0 .count), a .1, rw length-wire at (w .most), p .0), w .raw .held, w .short)
+    (omega (arith, w .raw .size, a .0 .size, p .1), omega (arith, rw length-low at (a .0 .count), a .1, rw length-wire at (w .most), p .0), w .raw .held, omega (arith, w .short))
 
 cast-stuff-byte-2 : tie.Need-cast-stuff-byte-2
 cast-stuff-byte-2 c = search needs
