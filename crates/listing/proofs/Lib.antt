@@ -1,0 +1,5 @@
+pub mod Hex
+pub mod Writing
+pub mod Reading
+pub mod Hearing
+pub mod Feeding
