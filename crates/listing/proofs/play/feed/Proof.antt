@@ -16,6 +16,7 @@ Inv-loop held journal₀ line₀ block out₀ a₀ count₀ next₀ i₀ journal
     × (count ≤ 81)
     × (length line ≡ 81)
     × (length out ≡ length out₀)
+    × (length journal ≡ length journal₀)
     × (next ≤ 48 * i)
     × (feeding a journal line count next out ≡ feeds out₀ (foldl takes (player a₀ journal₀ line₀ held []) (take i block)))
 
@@ -24,7 +25,7 @@ abbrev μ-loop : tie.MeasureT-loop
 
 room : tie.Need-play-line-requires Inv-loop μ-loop
 room c κs =
-    omega (arith, c .before .before .before .before .before .before .loop .inv .4, c .before .before .before .before .before .loop-test .taken, c .before .before .before .before .before .before .loop .inv .3, c .before .before .before .before .before .before .before .before .before .before .before .pre .1 .1)
+    omega (arith, c .before .before .before .before .before .before .loop .inv .5, c .before .before .before .before .before .loop-test .taken, c .before .before .before .before .before .before .loop .inv .3, c .before .before .before .before .before .before .before .before .before .before .before .pre .1 .1)
 
 line-again : tie.Need-loop-again Inv-loop μ-loop
 line-again c =
@@ -32,9 +33,10 @@ line-again c =
     omega arith,
     c .before .before .before .before .before .before .before .before .before .before .before .before .loop .inv .2,
     search needs,
-    omega (arith, c .before .before .before .before .before .before .before .before .before .before .before .before .loop .inv .4, c .before .before .before .before .before .play-line .ensures .1),
-    line-fed _ _ _ _ _ _ _ _ _ _ (c .before .before .before .before .before .before .before .before .before .before .before .before .loop .inv .5) (c .before .before .before .before .before .before .before .before .before .before .before .loop-test .taken) _ _ _ (c .before .before .before .before .before .before .before .before .before .if1 .taken)
-    (omega (arith, c .before .before .before .before .before .before .before .before .before .before .before .before .loop .inv .4, c .before .before .before .before .before .before .before .before .before .before .before .loop-test .taken, c .before .before .before .before .before .before .before .before .before .before .before .before .before .before .before .before .before .pre .1 .1))
+    search needs,
+    omega (arith, c .before .before .before .before .before .before .before .before .before .before .before .before .loop .inv .5, c .before .before .before .before .before .play-line .ensures .1),
+    line-fed _ _ _ _ _ _ _ _ _ _ (c .before .before .before .before .before .before .before .before .before .before .before .before .loop .inv .6) (c .before .before .before .before .before .before .before .before .before .before .before .loop-test .taken) _ _ _ (c .before .before .before .before .before .before .before .before .before .if1 .taken)
+    (omega (arith, c .before .before .before .before .before .before .before .before .before .before .before .before .loop .inv .5, c .before .before .before .before .before .before .before .before .before .before .before .loop-test .taken, c .before .before .before .before .before .before .before .before .before .before .before .before .before .before .before .before .before .pre .1 .1))
     (c .before .before .before .before .before .play-line .ensures .0))
 
 char-again : tie.Need-loop-again-2 Inv-loop μ-loop
@@ -43,8 +45,9 @@ char-again c =
     count-fits _ _ _ _ _ (c .before .before .add .ensures) (c .before .before .before .before .before .before .before .before .loop .inv .1),
     search needs,
     c .before .before .before .before .before .before .before .before .loop .inv .3,
-    omega (arith, c .before .before .before .before .before .before .before .before .loop .inv .4),
-    char-fed _ _ _ _ _ _ _ _ _ _ (c .before .before .before .before .before .before .before .before .loop .inv .5) (c .before .before .before .before .before .before .before .loop-test .taken) _ _ (c .before .before .before .before .before .if1 .left) (c .before .before .add .ensures))
+    c .before .before .before .before .before .before .before .before .loop .inv .4,
+    omega (arith, c .before .before .before .before .before .before .before .before .loop .inv .5),
+    char-fed _ _ _ _ _ _ _ _ _ _ (c .before .before .before .before .before .before .before .before .loop .inv .6) (c .before .before .before .before .before .before .before .loop-test .taken) _ _ (c .before .before .before .before .before .if1 .left) (c .before .before .add .ensures))
 
 pub feed-spec : {M : Type 1} → statement M
 feed-spec =
@@ -52,7 +55,7 @@ feed-spec =
     (tie.spec
     Inv-loop
     μ-loop
-    (λ c. (search needs, search needs, search needs, search needs, search needs, none-fed _ _ _ _ _))
+    (λ c. (search needs, search needs, search needs, search needs, search needs, search needs, none-fed _ _ _ _ _))
     (λ c. search needs)
     (λ c. search needs)
     (λ c. search needs)
