@@ -173,6 +173,7 @@ pub fn feed(
     requires { ⌜ held ≤ 81 ⌝ }
     requires { ⌜ 48 * length (now block) ≤ length (now out) ⌝ }
     ensures { λ r. ⌜ fed r (now (journal .exit)) (now (line .exit)) (now (out .exit)) ≡ feeds (now (out .entry)) (foldl takes (player first (now (journal .entry)) (now (line .entry)) held []) (now (block .entry))) ⌝ }
+    ensures { λ r. ⌜ (r .count ≤ 81) × (r .next ≤ 48 * length (now (block .entry))) ⌝ }
 {
     let mut a = first;
     let mut count = held;
@@ -210,6 +211,7 @@ pub fn finish(
     requires { ⌜ count ≤ 81 ⌝ }
     requires { ⌜ 48 ≤ length (now out) ⌝ }
     ensures { λ r. ⌜ fed r (now (journal .exit)) (now (line .exit)) (now (out .exit)) ≡ feeds (now (out .entry)) (closes (player a (now (journal .entry)) (now (line .entry)) count [])) ⌝ }
+    ensures { λ r. ⌜ r .next ≤ 48 ⌝ }
 {
     if count == 0 {
         return Fed {

@@ -70,4 +70,4 @@ feed-spec =
     (λ c. search needs)
     (λ c. search needs)
     (λ c. search needs)
-    (λ c. search (all-fed, needs)))
+    (λ c. (search (all-fed, needs), (search needs, search needs))))

@@ -8,11 +8,11 @@ pub finish-spec : {M : Type 1} → statement M
 finish-spec =
     tie.close
     (tie.spec
-    (λ c. search (ends-nothing))
+    (λ c. (search (ends-nothing), search needs))
     (λ c. search needs)
     (λ c. search (line-long))
     (λ c κs. search needs)
     (λ c. search needs)
     (λ c. search needs)
     (λ c. search needs)
-    (λ c. search (ends-line)))
+    (λ c. (search (ends-line), search needs)))
