@@ -84,11 +84,11 @@ module _ (a : Adapter) (j line out₀ out : List ℕ) (count next : ℕ) (p : Pl
       (h ∙ ap (λ (f : Feeding). added (f .line .count) b (f .line .line)) sofar-fed)
       text-written
 
-takes-end : (p : Player) (b : ℕ) → b ≡ 10 → takes p b ≡ ends p
+pub takes-end : (p : Player) (b : ℕ) → b ≡ 10 → takes p b ≡ ends p
 unfolding takes
 takes-end p b h = simp (eq-eqb b 10 h)
 
-takes-char : (p : Player) (b : ℕ) → (b ≡ 10 → ⊥) → takes p b ≡ joins p b
+pub takes-char : (p : Player) (b : ℕ) → (b ≡ 10 → ⊥) → takes p b ≡ joins p b
 unfolding takes
 takes-char p b h = simp (ne-eqb b 10 h)
 

@@ -3,3 +3,4 @@ pub mod Writing
 pub mod Reading
 pub mod Hearing
 pub mod Feeding
+pub mod Whole

@@ -1,16 +1,16 @@
 -- A listing played in parts: what is kept between two blocks of the input, and what a byte makes of it.
 use Prim.Native.Nat.{ℕ, _+_}
 use mathlib.Core.Bool.{cond}
-use mathlib.Core.List.{List, [], _++_, foldl}
-use lib.ListN.{length, take, set}
+use mathlib.Core.List.{List, [], _∷_, _++_, foldl}
+use lib.ListN.{take, set, replicate}
 use lib.Dec.{eqb, ltb}
 use Rattle.chip.specs.declared.Adapter.{Adapter}
-use Rattle.parts.specs.Parts.{put}
+use Rattle.adapter.specs.Calls.{created}
 use Rattle.listing.specs.declared.Played.{Played}
 use Rattle.listing.specs.declared.Fed.{Fed}
 use Rattle.listing.specs.Characters.{lineFeed}
 use Rattle.listing.specs.Answer.{Wrote, wrote, written}
-use Rattle.listing.specs.Play.{Turn, turn}
+use Rattle.listing.specs.Play.{Turn, turn, chipId, emptyJournal}
 
 -- ---- one line, its output line in a lent buffer
 
@@ -72,6 +72,21 @@ takes p b = cond (eqb b lineFeed) (ends p) (joins p b)
 -- the end of the input: a last line that lacks its LF is played
 unfoldable pub closes : Player → Player
 closes p = cond (eqb (p .line .count) 0) p (ends p)
+
+-- ---- blocks of the input, one after the other
+
+-- power-on, an empty journal, and no line begun
+abbrev pub begins : Player
+begins = player (created chipId .adapter) emptyJournal (replicate lineRoom 0) 0 []
+
+-- the text is handed over before the next block
+abbrev pub handedOver : Player → Player
+handedOver p = record { adapter = p .adapter; journal = p .journal; line = p .line; text = [] }
+
+-- the texts of all blocks and of the end
+unfoldable pub playedIn : Player → List (List ℕ) → List ℕ
+playedIn p [] = closes p .text
+playedIn p (block ∷ blocks) = foldl takes p block .text ++ playedIn (handedOver (foldl takes p block)) blocks
 
 -- ---- a block of the input, the text in a lent buffer
 

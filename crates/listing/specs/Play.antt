@@ -41,10 +41,14 @@ turn a journal line =
 
 -- ---- a whole listing
 
+-- after the final LF no line follows
+abbrev pub lastLine : List ℕ → List (List ℕ)
+lastLine [] = []
+lastLine (c ∷ l) = (c ∷ l) ∷ []
+
 -- LF ends a line; the last may lack it. The line so far stands before the rest of the input.
 unfoldable pub linesFrom : List ℕ → List ℕ → List (List ℕ)
-linesFrom [] [] = []
-linesFrom (c ∷ l) [] = (c ∷ l) ∷ []
+linesFrom l [] = lastLine l
 linesFrom l (b ∷ s) = cond (eqb b lineFeed) (l ∷ linesFrom [] s) (linesFrom (l ++ (b ∷ [])) s)
 
 -- each line's answer, one after the other
