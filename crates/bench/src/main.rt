@@ -95,12 +95,7 @@ fn turn(
 }
 
 // Nothing says that the input ends, so the turns are counted down from a number that no run uses up.
-fn run(
-    block: &mut [u8; 16384],
-    journal: &mut [u8],
-    line: &mut [u8; 81],
-    out: &mut [u8; 786432],
-) {
+fn run(block: &mut [u8; 16384], journal: &mut [u8], line: &mut [u8; 81], out: &mut [u8; 786432]) {
     let a = listing::play::start();
     let mut b = Bench {
         adapter: a,

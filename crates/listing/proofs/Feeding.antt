@@ -63,7 +63,7 @@ module _ (a : Adapter) (j line out₀ out : List ℕ) (count next : ℕ) (p : Pl
   unfolding ends
   ends-fed t j′ out′ room h =
       let same : turn a j (take count line) ≡ turn (p .adapter) (p .journal) (sofar (p .line)) =
-        ap (λ (f : Feeding). turn (f .adapter) (f .journal) (sofar (f .line))) sofar-fed
+      ap (λ (f : Feeding). turn (f .adapter) (f .journal) (sofar (f .line))) sofar-fed
       in
       let g : left t j′ out′ ≡ leaves next out (turn (p .adapter) (p .journal) (sofar (p .line))) = h ∙ ap (leaves next out) same in
       same-feeding (t .adapter) _ j′ _ (held 0 line) (held 0 (p .line .line)) (wrote (t .next) out′) _

@@ -4,3 +4,4 @@ pub mod Reading
 pub mod Hearing
 pub mod Feeding
 pub mod Whole
+pub mod OneOutcome

@@ -114,6 +114,7 @@ begun-more h l b e = either (ltb (h .count) 81) refl
   where
     short : h .count < 81 → length l < 81
     short g = let c = counted h l e in let m = length-take 81 l in omega arith
+
     either : (c : Bool) → ltb (h .count) 81 ≡ c → Begun (cond c (held (h .count + 1) (set (h .line) (h .count) b)) (held (h .count) (h .line))) (l ++ (b ∷ []))
     either true c =
         let g = ltb-true (h .count) 81 c in
@@ -124,10 +125,10 @@ begun-more h l b e = either (ltb (h .count) 81) refl
           long = length-set (h .line) (h .count) b ∙ e .long;
           few = omega arith;
           same =
-            ap (λ (k : ℕ). take k (set (h .line) (h .count) b)) (add-one (h .count))
-            ∙ take-suc-set (h .line) (h .count) b (omega arith)
-            ∙ ap (λ (t : List ℕ). t ++ (b ∷ [])) (e .same ∙ take-all 81 l (omega arith))
-            ∙ sym (take-all 81 (l ++ (b ∷ [])) (omega arith));
+              ap (λ (k : ℕ). take k (set (h .line) (h .count) b)) (add-one (h .count))
+              ∙ take-suc-set (h .line) (h .count) b (omega arith)
+              ∙ ap (λ (t : List ℕ). t ++ (b ∷ [])) (e .same ∙ take-all 81 l (omega arith))
+              ∙ sym (take-all 81 (l ++ (b ∷ [])) (omega arith));
         }
     either false c =
         let g = ltb-false (h .count) 81 c in

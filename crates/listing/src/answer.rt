@@ -73,14 +73,7 @@ fn put_frame(out: &mut [u8], at: usize, wanted: bool, port: u8, body: &[u8]) -> 
 }
 
 // Writes an output line from a place on, and gives the place after it.
-pub fn put_answer(
-    out: &mut [u8],
-    at: usize,
-    number: u8,
-    kept: u8,
-    port: u8,
-    body: &[u8],
-) -> usize
+pub fn put_answer(out: &mut [u8], at: usize, number: u8, kept: u8, port: u8, body: &[u8]) -> usize
     requires { ⌜ at + 48 ≤ length (now out) ⌝ }
     requires { ⌜ length (now body) ≤ 16 ⌝ }
     ensures { λ r. ⌜ wrote r (now (out .exit)) ≡ written at (answerText number kept port (now (body .entry))) (now (out .entry)) ⌝ }

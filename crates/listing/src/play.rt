@@ -1,6 +1,4 @@
 // A listing played: what each line does, and its answer; lines cut out of blocks of any size.
-use adapter::Answer;
-use chip::Adapter;
 use crate::Fed;
 use crate::Form;
 use crate::Played;
@@ -8,6 +6,8 @@ use crate::answer;
 use crate::characters;
 use crate::characters::LINE_FEED;
 use crate::line;
+use adapter::Answer;
+use chip::Adapter;
 ghost use mathlib.Core.Path.{_≡_};
 ghost use mathlib.Core.List.{[], foldl};
 ghost use Prim.Native.Nat.{_+_, _*_, _≤_};
@@ -118,13 +118,7 @@ fn put_reply(
 }
 
 // Plays a line: its output line is written from a place on.
-pub fn play_line(
-    a: Adapter,
-    journal: &mut [u8],
-    l: &[u8],
-    out: &mut [u8],
-    at: usize,
-) -> Played
+pub fn play_line(a: Adapter, journal: &mut [u8], l: &[u8], out: &mut [u8], at: usize) -> Played
     requires { ⌜ at + 48 ≤ length (now out) ⌝ }
     ensures { λ r. ⌜ left r (now (journal .exit)) (now (out .exit)) ≡ leaves at (now (out .entry)) (turn a (now (journal .entry)) (now (l .entry))) ⌝ }
     ensures { λ r. ⌜ r .next ≤ at + 48 ⌝ }
@@ -200,13 +194,7 @@ pub fn feed(
 }
 
 // Plays a last line that no LF ended, if there is one.
-pub fn finish(
-    a: Adapter,
-    count: usize,
-    journal: &mut [u8],
-    line: &mut [u8],
-    out: &mut [u8],
-) -> Fed
+pub fn finish(a: Adapter, count: usize, journal: &mut [u8], line: &mut [u8], out: &mut [u8]) -> Fed
     requires { ⌜ length (now line) ≡ 81 ⌝ }
     requires { ⌜ count ≤ 81 ⌝ }
     requires { ⌜ 48 ≤ length (now out) ⌝ }

@@ -5,9 +5,10 @@ use Rattle.listing.proofs.answer.put_answer.Statement.{statement}
 use Rattle.listing.proofs.answer.put_answer.Tie as tie
 
 put-frame-requires : tie.Need-put-frame-requires
-put-frame-requires c κs =
-    (frame-room _ _ _ _ _ _ _ _ _ _ (c .before .before .before .put-decimal2 .ensures) (c .before .before .before .before .before .before .before .put-byte .ensures) (c .before .before .before .before .before .before .before .before .before .before .before .put-decimal .ensures) (c .before .before .before .before .before .before .before .before .before .before .before .before .before .before .before .pre .0),
-    c .before .before .before .before .before .before .before .before .before .before .before .before .before .before .before .pre .1)
+put-frame-requires c κs = (
+  frame-room _ _ _ _ _ _ _ _ _ _ (c .before .before .before .put-decimal2 .ensures) (c .before .before .before .before .before .before .before .put-byte .ensures) (c .before .before .before .before .before .before .before .before .before .before .before .put-decimal .ensures) (c .before .before .before .before .before .before .before .before .before .before .before .before .before .before .before .pre .0),
+  c .before .before .before .before .before .before .before .before .before .before .before .before .before .before .before .pre .1,
+)
 
 put-byte-requires : tie.Need-put-byte-requires-2
 put-byte-requires c κs =
@@ -17,8 +18,8 @@ put-byte-requires c κs =
 returns : tie.Need-returns
 returns c =
     let e =
-      line-written _ _ _ _ _ _ _ _ _ _ _ _ _ _ _ _ (c .before .before .put-byte2 .ensures) (c .before .before .before .before .before .before .put-frame .ensures) (c .before .before .before .before .before .before .before .before .before .before .put-decimal2 .ensures) (c .before .before .before .before .before .before .before .before .before .before .before .before .before .before .put-byte .ensures)
-      (c .before .before .before .before .before .before .before .before .before .before .before .before .before .before .before .before .before .before .put-decimal .ensures) (c .before .before .before .before .before .before .before .before .before .before .before .before .before .before .before .before .before .before .before .before .before .before .pre .0) (c .before .before .before .before .before .before .before .before .before .before .before .before .before .before .before .before .before .before .before .before .before .before .pre .1)
+    line-written _ _ _ _ _ _ _ _ _ _ _ _ _ _ _ _ (c .before .before .put-byte2 .ensures) (c .before .before .before .before .before .before .put-frame .ensures) (c .before .before .before .before .before .before .before .before .before .before .put-decimal2 .ensures) (c .before .before .before .before .before .before .before .before .before .before .before .before .before .before .put-byte .ensures)
+    (c .before .before .before .before .before .before .before .before .before .before .before .before .before .before .before .before .before .before .put-decimal .ensures) (c .before .before .before .before .before .before .before .before .before .before .before .before .before .before .before .before .before .before .before .before .before .before .pre .0) (c .before .before .before .before .before .before .before .before .before .before .before .before .before .before .before .before .before .before .before .before .before .before .pre .1)
     in
     (e, line-bound _ _ _ _ _ _ _ _ e (c .before .before .before .before .before .before .before .before .before .before .before .before .before .before .before .before .before .before .before .before .before .before .pre .1))
 

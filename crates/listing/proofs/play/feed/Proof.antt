@@ -28,26 +28,28 @@ room c κs =
     omega (arith, c .before .before .before .before .before .before .loop .inv .5, c .before .before .before .before .before .loop-test .taken, c .before .before .before .before .before .before .loop .inv .3, c .before .before .before .before .before .before .before .before .before .before .before .pre .1 .1)
 
 line-again : tie.Need-loop-again Inv-loop μ-loop
-line-again c =
-    (omega (arith, c .before .before .before .before .before .before .before .before .before .before .before .loop-test .taken),
-    omega arith,
-    c .before .before .before .before .before .before .before .before .before .before .before .before .loop .inv .2,
-    search needs,
-    search needs,
-    omega (arith, c .before .before .before .before .before .before .before .before .before .before .before .before .loop .inv .5, c .before .before .before .before .before .play-line .ensures .1),
-    line-fed _ _ _ _ _ _ _ _ _ _ (c .before .before .before .before .before .before .before .before .before .before .before .before .loop .inv .6) (c .before .before .before .before .before .before .before .before .before .before .before .loop-test .taken) _ _ _ (c .before .before .before .before .before .before .before .before .before .if1 .taken)
-    (omega (arith, c .before .before .before .before .before .before .before .before .before .before .before .before .loop .inv .5, c .before .before .before .before .before .before .before .before .before .before .before .loop-test .taken, c .before .before .before .before .before .before .before .before .before .before .before .before .before .before .before .before .before .pre .1 .1))
-    (c .before .before .before .before .before .play-line .ensures .0))
+line-again c = (
+  omega (arith, c .before .before .before .before .before .before .before .before .before .before .before .loop-test .taken),
+  omega arith,
+  c .before .before .before .before .before .before .before .before .before .before .before .before .loop .inv .2,
+  search needs,
+  search needs,
+  omega (arith, c .before .before .before .before .before .before .before .before .before .before .before .before .loop .inv .5, c .before .before .before .before .before .play-line .ensures .1),
+  line-fed _ _ _ _ _ _ _ _ _ _ (c .before .before .before .before .before .before .before .before .before .before .before .before .loop .inv .6) (c .before .before .before .before .before .before .before .before .before .before .before .loop-test .taken) _ _ _ (c .before .before .before .before .before .before .before .before .before .if1 .taken)
+      (omega (arith, c .before .before .before .before .before .before .before .before .before .before .before .before .loop .inv .5, c .before .before .before .before .before .before .before .before .before .before .before .loop-test .taken, c .before .before .before .before .before .before .before .before .before .before .before .before .before .before .before .before .before .pre .1 .1))
+      (c .before .before .before .before .before .play-line .ensures .0),
+)
 
 char-again : tie.Need-loop-again-2 Inv-loop μ-loop
-char-again c =
-    (omega (arith, c .before .before .before .before .before .before .before .loop-test .taken),
-    count-fits _ _ _ _ _ (c .before .before .add .ensures) (c .before .before .before .before .before .before .before .before .loop .inv .1),
-    search needs,
-    c .before .before .before .before .before .before .before .before .loop .inv .3,
-    c .before .before .before .before .before .before .before .before .loop .inv .4,
-    omega (arith, c .before .before .before .before .before .before .before .before .loop .inv .5),
-    char-fed _ _ _ _ _ _ _ _ _ _ (c .before .before .before .before .before .before .before .before .loop .inv .6) (c .before .before .before .before .before .before .before .loop-test .taken) _ _ (c .before .before .before .before .before .if1 .left) (c .before .before .add .ensures))
+char-again c = (
+  omega (arith, c .before .before .before .before .before .before .before .loop-test .taken),
+  count-fits _ _ _ _ _ (c .before .before .add .ensures) (c .before .before .before .before .before .before .before .before .loop .inv .1),
+  search needs,
+  c .before .before .before .before .before .before .before .before .loop .inv .3,
+  c .before .before .before .before .before .before .before .before .loop .inv .4,
+  omega (arith, c .before .before .before .before .before .before .before .before .loop .inv .5),
+  char-fed _ _ _ _ _ _ _ _ _ _ (c .before .before .before .before .before .before .before .before .loop .inv .6) (c .before .before .before .before .before .before .before .loop-test .taken) _ _ (c .before .before .before .before .before .if1 .left) (c .before .before .add .ensures),
+)
 
 pub feed-spec : {M : Type 1} → statement M
 feed-spec =
