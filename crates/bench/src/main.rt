@@ -4,8 +4,16 @@ use chip::Adapter;
 use libc::STDERR_FILENO;
 use libc::STDIN_FILENO;
 use libc::STDOUT_FILENO;
+use listing::play::ANSWER_ROOM;
+use listing::play::LINE_ROOM;
 ghost use Prim.Native.Nat.{_≤_};
 ghost use lib.ListN.{length};
+
+// The most that one read takes.
+const BLOCK_ROOM: usize = 16384;
+
+// Room for the answers to as much.
+const OUTPUT_ROOM: usize = BLOCK_ROOM * ANSWER_ROOM;
 
 // Between two reads: the adapter, the characters of the line so far, and whether there is more to read.
 struct Bench {
@@ -31,8 +39,8 @@ fn feed(
     b: Bench,
     block: &[u8],
     journal: &mut [u8],
-    line: &mut [u8; 81],
-    out: &mut [u8; 786432],
+    line: &mut [u8; LINE_ROOM],
+    out: &mut [u8; OUTPUT_ROOM],
 ) -> Bench
     requires { ⌜ b .count ≤ 81 ⌝ }
     requires { ⌜ length (now block) ≤ 16384 ⌝ }
@@ -50,7 +58,7 @@ fn feed(
 }
 
 // The end of the input: a last line that lacks its LF is played.
-fn finish(b: Bench, journal: &mut [u8], line: &mut [u8; 81], out: &mut [u8; 786432]) -> Bench
+fn finish(b: Bench, journal: &mut [u8], line: &mut [u8; LINE_ROOM], out: &mut [u8; OUTPUT_ROOM]) -> Bench
     requires { ⌜ b .count ≤ 81 ⌝ }
     ensures { λ r. ⌜ r .count ≤ 81 ⌝ }
 {
@@ -70,8 +78,8 @@ fn turn(
     b: Bench,
     block: &mut [u8],
     journal: &mut [u8],
-    line: &mut [u8; 81],
-    out: &mut [u8; 786432],
+    line: &mut [u8; LINE_ROOM],
+    out: &mut [u8; OUTPUT_ROOM],
 ) -> Bench
     requires { ⌜ b .count ≤ 81 ⌝ }
     requires { ⌜ length (now block) ≤ 16384 ⌝ }
@@ -95,7 +103,7 @@ fn turn(
 }
 
 // Nothing says that the input ends, so the turns are counted down from a number that no run uses up.
-fn run(block: &mut [u8; 16384], journal: &mut [u8], line: &mut [u8; 81], out: &mut [u8; 786432]) {
+fn run(block: &mut [u8; BLOCK_ROOM], journal: &mut [u8], line: &mut [u8; LINE_ROOM], out: &mut [u8; OUTPUT_ROOM]) {
     let a = listing::play::start();
     let mut b = Bench {
         adapter: a,
@@ -110,10 +118,10 @@ fn run(block: &mut [u8; 16384], journal: &mut [u8], line: &mut [u8; 81], out: &m
 }
 
 fn main() {
-    let mut block = [0u8; 16384];
-    let mut journal = [0u8; 17408];
-    let mut line = [0u8; 81];
-    let mut out = [0u8; 786432];
+    let mut block = [0u8; BLOCK_ROOM];
+    let mut journal = [0u8; journal::SIZE];
+    let mut line = [0u8; LINE_ROOM];
+    let mut out = [0u8; OUTPUT_ROOM];
     adapter::empty(&mut journal);
     run(&mut block, &mut journal, &mut line, &mut out);
 }
