@@ -1,0 +1,127 @@
+// The bench program: a listing on standard input, its answers on standard output. What matters is in `listing`; here it is only read,
+// fed and written. The answers to what was read are written before the next read.
+use chip::Adapter;
+use libc::STDERR_FILENO;
+use libc::STDIN_FILENO;
+use libc::STDOUT_FILENO;
+use listing::play::ANSWER_ROOM;
+use listing::play::LINE_ROOM;
+ghost use Prim.Native.Nat.{_≤_};
+ghost use lib.ListN.{length};
+
+// The most that one read takes.
+const BLOCK_ROOM: usize = 16384;
+
+// Room for the answers to as much.
+const OUTPUT_ROOM: usize = BLOCK_ROOM * ANSWER_ROOM;
+
+// Between two reads: the adapter, the characters of the line so far, and whether there is more to read.
+struct Bench {
+    adapter: Adapter,
+    count: usize,
+    more: bool,
+}
+
+// Writes the first bytes of the output, and says whether the program goes on.
+fn flush(out: &[u8], used: usize) -> bool
+    requires { ⌜ used ≤ length (now out) ⌝ }
+{
+    let written = io::write_all(STDOUT_FILENO, &out[..used]);
+    if written {
+        return true;
+    }
+    io::write_all(STDERR_FILENO, b"bench: standard output cannot be written\n");
+    false
+}
+
+// Plays what was read, and writes the answers.
+fn feed(
+    b: Bench,
+    block: &[u8],
+    journal: &mut [u8],
+    line: &mut [u8; LINE_ROOM],
+    out: &mut [u8; OUTPUT_ROOM],
+) -> Bench
+    requires { ⌜ b .count ≤ 81 ⌝ }
+    requires { ⌜ length (now block) ≤ 16384 ⌝ }
+    ensures { λ r. ⌜ r .count ≤ 81 ⌝ }
+{
+    let a = b.adapter;
+    let r = listing::play::feed(a, b.count, journal, line, block, out);
+    let more = flush(out, r.next);
+    let next = r.adapter;
+    Bench {
+        adapter: next,
+        count: r.count,
+        more: more,
+    }
+}
+
+// The end of the input: a last line that lacks its LF is played.
+fn finish(b: Bench, journal: &mut [u8], line: &mut [u8; LINE_ROOM], out: &mut [u8; OUTPUT_ROOM]) -> Bench
+    requires { ⌜ b .count ≤ 81 ⌝ }
+    ensures { λ r. ⌜ r .count ≤ 81 ⌝ }
+{
+    let a = b.adapter;
+    let r = listing::play::finish(a, b.count, journal, line, out);
+    flush(out, r.next);
+    let next = r.adapter;
+    Bench {
+        adapter: next,
+        count: 0,
+        more: false,
+    }
+}
+
+// One read, and what follows from it.
+fn turn(
+    b: Bench,
+    block: &mut [u8],
+    journal: &mut [u8],
+    line: &mut [u8; LINE_ROOM],
+    out: &mut [u8; OUTPUT_ROOM],
+) -> Bench
+    requires { ⌜ b .count ≤ 81 ⌝ }
+    requires { ⌜ length (now block) ≤ 16384 ⌝ }
+    ensures { λ r. ⌜ r .count ≤ 81 ⌝ }
+{
+    let got = libc::read(STDIN_FILENO, block);
+    if got < 0 {
+        io::write_all(STDERR_FILENO, b"bench: standard input cannot be read\n");
+        let a = b.adapter;
+        return Bench {
+            adapter: a,
+            count: 0,
+            more: false,
+        };
+    }
+    if got == 0 {
+        return finish(b, journal, line, out);
+    }
+    let n = io::count(got, block);
+    feed(b, &block[..n], journal, line, out)
+}
+
+// Nothing says that the input ends, so the turns are counted down from a number that no run uses up.
+fn run(block: &mut [u8; BLOCK_ROOM], journal: &mut [u8], line: &mut [u8; LINE_ROOM], out: &mut [u8; OUTPUT_ROOM]) {
+    let a = listing::play::start();
+    let mut b = Bench {
+        adapter: a,
+        count: 0,
+        more: true,
+    };
+    let mut turns = u64::MAX;
+    while turns > 0 && b.more {
+        b = turn(b, block, journal, line, out);
+        turns -= 1;
+    }
+}
+
+fn main() {
+    let mut block = [0u8; BLOCK_ROOM];
+    let mut journal = [0u8; journal::SIZE];
+    let mut line = [0u8; LINE_ROOM];
+    let mut out = [0u8; OUTPUT_ROOM];
+    adapter::empty(&mut journal);
+    run(&mut block, &mut journal, &mut line, &mut out);
+}

@@ -1,0 +1,20 @@
+-- `play::hear_completion` meets its contract. Assumes nothing.
+use borrow.Author.Needs.{needs}
+use Rattle.listing.proofs.Hearing.{completion-call}
+use Rattle.listing.proofs.play.hear_completion.Statement.{statement}
+use Rattle.listing.proofs.play.hear_completion.Tie as tie
+
+pub hear-completion-spec : {M : Type 1} → statement M
+hear-completion-spec =
+    tie.close
+    (tie.spec
+    (λ c. search needs)
+    (λ c. search needs)
+    (λ c. search needs)
+    (λ c. search needs)
+    (λ c κs. search needs)
+    (λ c. search needs)
+    (λ c κs. search needs)
+    (λ c. search needs)
+    (λ c. search needs)
+    (λ c. search (completion-call)))

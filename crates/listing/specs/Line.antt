@@ -1,0 +1,79 @@
+-- What a line says: document 01, "Bench listing". Lines up to 80 characters: F port body, S 32 hex digits, P 8 hex digits and kind,
+-- U, B for step back. Any other line, an empty or longer one too, is not readable.
+use Prim.Native.Nat.{ℕ, _+_, _*_, _/_}
+use mathlib.Core.Bool.{Bool, cond, _&&_}
+use mathlib.Core.List.{List, foldl}
+use lib.ListN.{length, take, drop, getD}
+use lib.Dec.{eqb}
+use Rattle.chip.specs.Event.{Event, frame, completion, sample, upset}
+use Rattle.listing.specs.declared.Form.{Form}
+use Rattle.listing.specs.declared.Form.the-variants.{Frame, Completion, Sample, Upset, Back, Unreadable}
+use Rattle.listing.specs.Characters.{space, between, isDigit, hexValue, arePairs, pairBytes}
+
+-- F, a space, the port, a space, and a body of at least one pair
+unfoldable pub isFrame : List ℕ → Bool
+isFrame l =
+    between 6 80 (length l)
+    && (eqb (getD l 0 0) 70
+    && (eqb (getD l 1 0) space
+    && (isDigit (getD l 2 0)
+    && (eqb (getD l 3 0) space
+    && arePairs (drop 4 l)))))
+
+-- S, a space, and 32 hex digits
+unfoldable pub isCompletion : List ℕ → Bool
+isCompletion l = eqb (length l) 34 && (eqb (getD l 0 0) 83 && (eqb (getD l 1 0) space && arePairs (drop 2 l)))
+
+-- P, a space, 8 hex digits, a space and the kind
+unfoldable pub isSample : List ℕ → Bool
+isSample l =
+    eqb (length l) 12
+    && (eqb (getD l 0 0) 80
+    && (eqb (getD l 1 0) space
+    && (arePairs (take 8 (drop 2 l))
+    && (eqb (getD l 10 0) space
+    && isDigit (getD l 11 0)))))
+
+-- one letter alone
+unfoldable pub isLetter : ℕ → List ℕ → Bool
+isLetter letter l = eqb (length l) 1 && eqb (getD l 0 0) letter
+
+unfoldable pub formOf : List ℕ → Form
+formOf l =
+    cond (isFrame l) Frame
+    (cond (isCompletion l) Completion
+    (cond (isSample l) Sample
+    (cond (isLetter 85 l) Upset
+    (cond (isLetter 66 l) Back Unreadable))))
+
+-- ---- what each form says
+
+pub data Line : Type 0 where
+  happens : Event → Line
+  back : Line
+  unreadable : Line
+
+abbrev pub frameOf : List ℕ → Event
+frameOf l = frame (hexValue (getD l 2 0)) (pairBytes (length (drop 4 l) / 2) (drop 4 l))
+
+-- byte 0 first
+abbrev pub completionOf : List ℕ → Event
+completionOf l = completion (pairBytes 16 (drop 2 l))
+
+-- the top digit first
+abbrev pub topFirst : List ℕ → ℕ
+topFirst s = foldl (λ (v b : ℕ). 256 * v + b) 0 s
+
+abbrev pub sampleOf : List ℕ → Event
+sampleOf l = sample (topFirst (pairBytes 4 (drop 2 l))) (hexValue (getD l 11 0))
+
+abbrev pub saidBy : Form → List ℕ → Line
+saidBy Frame l = happens (frameOf l)
+saidBy Completion l = happens (completionOf l)
+saidBy Sample l = happens (sampleOf l)
+saidBy Upset l = happens upset
+saidBy Back l = back
+saidBy Unreadable l = unreadable
+
+unfoldable pub read : List ℕ → Line
+read l = saidBy (formOf l) l
