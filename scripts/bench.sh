@@ -2,7 +2,7 @@
 # The bench program on random listings, beside the independent implementation. Sourced.
 
 test_bench() {
-    step "rt check bench" rt check bench || return
+    step "rt check bench" program_ready bench || return
     mkdir -p "$logs/listings"
     step "write listings" run "$built/events" --seed "${SEED:-1}" --listings "$logs/listings" || return
     differing=0 lines=0
@@ -16,7 +16,7 @@ test_bench() {
 
 # same_answers LISTING: shows the first line that is answered otherwise.
 same_answers() {
-    run target/bin/bench <"$1" >"$logs/answers"
+    program_run bench <"$1" >"$logs/answers"
     cmp -s "${1%.in}.out" "$logs/answers" && return
     at=$(cmp "${1%.in}.out" "$logs/answers" | sed 's/.* //')
     for file in "$1" "${1%.in}.out" "$logs/answers"; do

@@ -3,8 +3,8 @@
 
 test_linked() {
     step "build the crate" build_crate && test_crate
-    same_output "the example in Rust" examples/job.txt "$built/job" build_rust_example
-    same_output "the example in C, over the installed library" examples/job.txt "$built/job_c" build_c_example
+    same_output "the example in Rust" examples/job.out "$built/job" build_rust_example
+    same_output "the example in C, over the installed library" examples/job.out "$built/job_c" build_c_example
 }
 
 build_crate() { rust_build --crate-type rlib --crate-name sca -D warnings -L native=target/staticlib rust/src/lib.rs; }

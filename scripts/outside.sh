@@ -15,7 +15,9 @@ test_outside() {
     tally "events" run "$built/events" --seed "${SEED:-1}"
     tally "faults in the events" run "$built/events" --seed "${SEED:-1}" --break
     test_linked
-    [ ! -d crates/bench ] || test_bench
+    test_bench
+    tally "examples" scripts/examples.sh
+    tally "bad input" scripts/bad_input.sh
 }
 
 archive=target/staticlib/libsca.a
