@@ -58,7 +58,12 @@ fn feed(
 }
 
 // The end of the input: a last line that lacks its LF is played.
-fn finish(b: Bench, journal: &mut [u8], line: &mut [u8; LINE_ROOM], out: &mut [u8; OUTPUT_ROOM]) -> Bench
+fn finish(
+    b: Bench,
+    journal: &mut [u8],
+    line: &mut [u8; LINE_ROOM],
+    out: &mut [u8; OUTPUT_ROOM],
+) -> Bench
     requires { ⌜ b .count ≤ 81 ⌝ }
     ensures { λ r. ⌜ r .count ≤ 81 ⌝ }
 {
@@ -103,7 +108,12 @@ fn turn(
 }
 
 // Nothing says that the input ends, so the turns are counted down from a number that no run uses up.
-fn run(block: &mut [u8; BLOCK_ROOM], journal: &mut [u8], line: &mut [u8; LINE_ROOM], out: &mut [u8; OUTPUT_ROOM]) {
+fn run(
+    block: &mut [u8; BLOCK_ROOM],
+    journal: &mut [u8],
+    line: &mut [u8; LINE_ROOM],
+    out: &mut [u8; OUTPUT_ROOM],
+) {
     let a = listing::play::start();
     let mut b = Bench {
         adapter: a,
