@@ -10,11 +10,27 @@ use Rattle.listing.specs.declared.Form.{Form}
 use Rattle.listing.specs.declared.Form.the-variants.{Frame, Completion, Sample, Upset, Back, Unreadable}
 use Rattle.listing.specs.Characters.{space, between, isDigit, hexValue, arePairs, pairBytes}
 
+-- the letters
+abbrev pub letterF : ℕ
+letterF = 70
+
+abbrev pub letterS : ℕ
+letterS = 83
+
+abbrev pub letterP : ℕ
+letterP = 80
+
+abbrev pub letterU : ℕ
+letterU = 85
+
+abbrev pub letterB : ℕ
+letterB = 66
+
 -- F, a space, the port, a space, and a body of at least one pair
 unfoldable pub isFrame : List ℕ → Bool
 isFrame l =
     between 6 80 (length l)
-    && (eqb (getD l 0 0) 70
+    && (eqb (getD l 0 0) letterF
     && (eqb (getD l 1 0) space
     && (isDigit (getD l 2 0)
     && (eqb (getD l 3 0) space
@@ -22,19 +38,19 @@ isFrame l =
 
 -- S, a space, and 32 hex digits
 unfoldable pub isCompletion : List ℕ → Bool
-isCompletion l = eqb (length l) 34 && (eqb (getD l 0 0) 83 && (eqb (getD l 1 0) space && arePairs (drop 2 l)))
+isCompletion l = eqb (length l) 34 && (eqb (getD l 0 0) letterS && (eqb (getD l 1 0) space && arePairs (drop 2 l)))
 
 -- P, a space, 8 hex digits, a space and the kind
 unfoldable pub isSample : List ℕ → Bool
 isSample l =
     eqb (length l) 12
-    && (eqb (getD l 0 0) 80
+    && (eqb (getD l 0 0) letterP
     && (eqb (getD l 1 0) space
     && (arePairs (take 8 (drop 2 l))
     && (eqb (getD l 10 0) space
     && isDigit (getD l 11 0)))))
 
--- one letter alone
+-- one letter alone: U an upset, B a step back
 unfoldable pub isLetter : ℕ → List ℕ → Bool
 isLetter letter l = eqb (length l) 1 && eqb (getD l 0 0) letter
 
@@ -43,8 +59,8 @@ formOf l =
     cond (isFrame l) Frame
     (cond (isCompletion l) Completion
     (cond (isSample l) Sample
-    (cond (isLetter 85 l) Upset
-    (cond (isLetter 66 l) Back Unreadable))))
+    (cond (isLetter letterU l) Upset
+    (cond (isLetter letterB l) Back Unreadable))))
 
 -- ---- what each form says
 
