@@ -1,9 +1,9 @@
 -- THE TABLE of document 01, computed from the definitions; the lines of the delivered calls by the text's (`demand3`).
 use Prim.Native.Nat.{ℕ, zero, suc, _<_, _^_}
-use mathlib.Core.Path.{_≡_, refl, _∙_}
+use mathlib.Core.Path.{_≡_, refl, ap, _∙_}
 use mathlib.Core.List.{List, [], _∷_}
 use mathlib.Core.Bool.{Bool, true, _&&_}
-use lib.ListN.{length, getD}
+use lib.ListN.{length, getD, replicate, length-replicate}
 use lib.Dec.{ltb, lit<, lit≤}
 use borrow.Author.Tests.{ltb-true}
 use Rattle.bits.specs.Bits.{word}
@@ -26,12 +26,19 @@ use Rattle.chip.specs.Answer.{padded}
 use Rattle.chip.specs.Request.{onChannel, answered, replies, requested}
 use Rattle.chip.specs.Frame.{isResetFrame, commanded, numbered, carried, onFrame}
 use Rattle.chip.specs.Chip.{reaction, onSample, onUpset}
+use Rattle.listing.specs.Characters.{isHex, hexValue, allHex, arePairs, pairBytes, hexDigit, hexText}
+use Rattle.listing.specs.Line as Line
+use Rattle.listing.specs.Answer.{decimal, frameText, answerText}
+use Rattle.listing.specs.Play as Listing
+use Rattle.listing.specs.Play.{linesFrom}
 use Rattle.promises.specs.Runs.{Call, event, back, empty, AllOfTheirTypes, atStart}
 use Rattle.promises.specs.Ours.{ours}
-use Rattle.promises.specs.Table.{played, listing, listingOutput, everything, everythingOutput, Table}
+use Rattle.promises.specs.Text.{text}
+use Rattle.promises.specs.Table.{played, listing, listingOutput, inputText, outputText, everything, everythingOutput, Table}
 use Rattle.promises.proofs.Steps.{and-left, and-right}
 use Rattle.promises.proofs.Runs.{demand3}
 use Rattle.promises.proofs.Lines.{textLines, lines-told}
+use Rattle.promises.proofs.Text.{ofLine, joined, Says, none, happens, steps, answers-text}
 
 -- literal bytes are bytes
 below : List ℕ → Bool
@@ -77,6 +84,26 @@ unfolding
     channelOf controllerAnswer actControl controllerCommand gpioSampled datainAfter firingLines word
 everything-text = refl
 
+-- the file's lines say the calls
+listing-says : Says (linesFrom [] (text inputText)) listing
+unfolding
+    text linesFrom Line.read Line.formOf Line.isFrame Line.isCompletion Line.isSample Line.isLetter
+    arePairs allHex isHex pairBytes hexValue
+listing-says =
+    happens refl (happens refl (happens refl (happens refl (happens refl (steps refl (steps refl (happens refl none)))))))
+
+-- and the lines are the file's
+listing-joined : joined listingOutput ≡ text outputText
+unfolding joined ofLine answerText decimal frameText hexText hexDigit text
+listing-joined = refl
+
+eight-text : Listing.played (text inputText) ≡ text outputText
+unfolding Listing.played literal below
+eight-text =
+    answers-text listing-says _ _
+    ∙ ap joined (lines-told ours demand3 0x00000A (lit≤ tt) (replicate 17408 0) (length-replicate {A = ℕ} 17408 0) listing (typed listing refl) ∙ listing-text)
+    ∙ listing-joined
+
 -- THE TABLE HOLDS.
 pub table : Table
 unfolding
@@ -88,6 +115,7 @@ table =
           lines-told ours demand3 0x00000A (lit≤ tt) b size listing
           (typed listing refl)
           ∙ listing-text;
+      eight-lines-as-text = eight-text;
       ff-stuffs = refl;
       7e-stuffs = refl;
       trn-01 = refl;

@@ -1,5 +1,6 @@
 pub mod Examples
 pub mod Lines
+pub mod Text
 pub mod ShutOut
 pub mod Runs
 pub mod Refused

@@ -1,5 +1,5 @@
 -- DOCUMENT 01'S TABLE, under one claim ("Bench listing"), and a run in which every sentence of demand 3 has its turn. The lines are those
--- of the delivered calls from a new adapter, body to body.
+-- of the delivered calls from a new adapter, body to body, and those of the bench program, text to text.
 use Prim.Native.Nat.{ℕ}
 use mathlib.Core.Path.{_≡_}
 use mathlib.Core.Bool.{cond}
@@ -8,9 +8,12 @@ use lib.ListN.{length, take, getD, replicate}
 use lib.Dec.{eqb}
 use Rattle.link.specs.Bits.{wire}
 use Rattle.link.specs.Frame.{stuff}
+use Prim.Native.String.{String}
 use Rattle.chip.specs.Event.{Event, frame, sample, upset}
 use Rattle.chip.specs.State.{powerOn}
 use Rattle.chip.specs.Chip.{reaction}
+use Rattle.listing.specs.Play as Listing
+use Rattle.promises.specs.Text.{text}
 use Rattle.promises.specs.Runs.{Call, event, back, empty, Given, Calls}
 use Rattle.promises.specs.Ours.{ours}
 
@@ -62,6 +65,16 @@ listingOutput =
     ∷ (0 ∷ 4 ∷ 0 ∷ 0x00 ∷ 0x86 ∷ 0x05 ∷ 0x02 ∷ 0x00 ∷ 0x04 ∷ 0x34 ∷ 0x12 ∷ 0x78 ∷ 0x56 ∷ [])
     ∷ []
 
+-- ---- the listing, as its file has it
+
+abbrev pub inputText : String
+inputText =
+    "F 0 00000100040200040000\nF 0 00020202041034127856\nF 0 00040302011100000000\nF 0 00060401024100000000\nF 0 00060401024100000000\nB\nB\nF 0 00060502011100000000\n"
+
+abbrev pub outputText : String
+outputText =
+    "0 1 0 00200100000200000000\n0 2 0 00420202000200000000\n0 3 0 00640302000434127856\n0 4 0 00860401200200000000\n0 5 0 008d\n17 4\n17 3\n0 4 0 00860502000434127856\n"
+
 -- ---- a request to a new adapter: TRN, CH, LEN, CMD
 
 -- its reply's ERR
@@ -73,6 +86,7 @@ errOf trn ch len cmd =
 -- give 0x08; CH 0x15 known, 0x16 not."
 pub record Table : Type 0 where
   pub eight-lines : (bytes : List ℕ) → length bytes ≡ 17408 → played bytes listing ≡ listingOutput
+  pub eight-lines-as-text : Listing.played (text inputText) ≡ text outputText
   pub ff-stuffs : stuff 0 (wire (0xFF ∷ [])) ≡ 1 ∷ 1 ∷ 1 ∷ 1 ∷ 1 ∷ 0 ∷ 1 ∷ 1 ∷ 1 ∷ []
   pub 7e-stuffs : stuff 0 (wire (0x7E ∷ [])) ≡ 0 ∷ 1 ∷ 1 ∷ 1 ∷ 1 ∷ 1 ∷ 0 ∷ 1 ∷ 0 ∷ []
   pub trn-01 : errOf 0x01 0x00 2 0x03 ≡ 0x00

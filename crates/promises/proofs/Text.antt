@@ -1,0 +1,81 @@
+-- The listing's lines as text: what the bench program writes is the text of the delivered calls' lines.
+use Prim.Native.Nat.{ℕ}
+use mathlib.Core.Path.{_≡_, refl, sym, ap, ap₂, _∙_}
+use mathlib.Core.List.{List, [], _∷_, _++_}
+use mathlib.Core.Bool.{Bool, true, false, not, cond}
+use lib.ListN.{length, take, replicate, length-replicate}
+use lib.Dec.{eqb}
+use Rattle.link.proofs.Bounds.{either}
+use Rattle.chip.specs.Event.{Event}
+use Rattle.chip.specs.State.{inRange}
+use Rattle.chip.specs.declared.Adapter.{Adapter}
+use Rattle.journal.specs.Layout.{version1, wellFormed, keptOf, past}
+use Rattle.journal.specs.Record.{sound}
+use Rattle.adapter.specs.Calls.{Stepped, steppedBack}
+use Rattle.listing.specs.Line as Line
+use Rattle.listing.specs.Answer.{answerText}
+use Rattle.listing.specs.Play.{noReply, heard, answerOf, Turn, turn, answers}
+use Rattle.promises.specs.Runs.{Call, event, back, Given, Calls}
+use Rattle.promises.specs.Ours.{ours, handed}
+use Rattle.promises.specs.Table.{line, lines}
+
+-- a line of numbers as text
+unfoldable pub ofLine : List ℕ → List ℕ
+ofLine [] = []
+ofLine (n ∷ []) = []
+ofLine (n ∷ k ∷ []) = answerText n k 0 []
+ofLine (n ∷ k ∷ p ∷ body) = answerText n k p body
+
+unfoldable pub joined : List (List ℕ) → List ℕ
+joined [] = []
+joined (l ∷ ls) = ofLine l ++ joined ls
+
+-- lines of text that say these calls
+pub data Says : List (List ℕ) → List Call → Type 0 where
+  none : Says [] []
+  happens : {l : List ℕ} {e : Event} {ls : List (List ℕ)} {ks : List Call} → Line.read l ≡ Line.happens e → Says ls ks → Says (l ∷ ls) (event e noReply ∷ ks)
+  steps : {l : List ℕ} {ls : List (List ℕ)} {ks : List Call} → Line.read l ≡ Line.back → Says ls ks → Says (l ∷ ls) (back ∷ ks)
+
+-- a step back gives no frame
+back-length : (a : Adapter) (j : List ℕ) → steppedBack a j .answer .length ≡ 0
+unfolding steppedBack
+back-length a j =
+    let P : Stepped → Type 0 = λ s. s .answer .length ≡ 0 in
+    either P (not (inRange a)) (λ h. refl)
+    (λ h. either P (not (wellFormed version1 j)) (λ k. refl)
+    (λ k. either P (eqb (keptOf j) 0) (λ l. refl)
+    (λ l. either P (not (sound a (past version1 j 0))) (λ m. refl) (λ m. refl))))
+
+-- one line
+of-line : (g : Given) (kept : ℕ) (body : List ℕ) → body ≡ take (g .length) (g .output) → answerText (g .number) kept (g .port) body ≡ ofLine (line g kept)
+unfolding ofLine answerText
+of-line g kept body e = by (eqb (g .number) 0) refl
+  where
+    by : (t : Bool) → eqb (g .number) 0 ≡ t → answerText (g .number) kept (g .port) body ≡ ofLine (line g kept)
+    by true h = rw (h, h, e) refl
+    by false h = rw (h, h) refl
+
+-- what a line does is what it says
+turned : (a : Adapter) (j l : List ℕ) (x : Line.Line) → Line.read l ≡ x
+    → turn a j l ≡ (let o = heard a j x noReply in record { adapter = o .answer .adapter; journal = o .journal; text = answerOf o })
+unfolding turn
+turned a j l x h =
+    ap (λ (y : Line.Line). let w : Turn = (let o = heard a j y noReply in record { adapter = o .answer .adapter; journal = o .journal; text = answerOf o }) in w) h
+
+-- what the program answers to lines that say calls
+pub answers-text : {ls : List (List ℕ)} {ks : List Call} → Says ls ks → (a : Adapter) (j : List ℕ) → answers a j ls ≡ joined (lines ours (handed a j) ks)
+unfolding answers joined
+answers-text none a j = refl
+answers-text (happens {l} {e} {ls} h s) a j =
+    let p = handed a j in
+    let q = ours .leaves p (event e noReply) in
+    ap (λ (t : Turn). t .text ++ answers (t .adapter) (t .journal) ls) (turned a j l (Line.happens e) h)
+    ∙ ap₂ _++_ (of-line (ours .gives p (event e noReply)) (ours .kept q .kept) _ refl) (answers-text s (q .adapter) (q .journal))
+answers-text (steps {l} {ls} h s) a j =
+    let p = handed a j in
+    let q = ours .leaves p back in
+    ap (λ (t : Turn). t .text ++ answers (t .adapter) (t .journal) ls) (turned a j l Line.back h)
+    ∙ ap₂ _++_
+    (of-line (ours .gives p back) (ours .kept q .kept) _
+    (ap (λ (n : ℕ). take n noReply) (back-length a j) ∙ sym (ap (λ (n : ℕ). take n []) (back-length a j))))
+    (answers-text s (q .adapter) (q .journal))
