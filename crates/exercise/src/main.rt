@@ -1,7 +1,7 @@
 // Every command once, and every other event: one line for each, document 01's number and the body that is sent.
-// Each line of `stdout` is explained beside the call that prints it. A reply is 00, control, TRN 01, CH, ERR, LEN, D[23:16], D[31:24],
-// D[7:0], D[15:8]; control is twice the replies and interrupts before it plus 32 times the requests so far, each modulo 8.
-// Where nothing else is said, ERR is 0, a write gives no data and a read gives what was written.
+// `stdout` is worked out by hand from document 01. The comment above a call is how its line comes about: s and r are the send and
+// the receive number in its control, 2 s + 32 r; then LEN as asked and as given, and the data. A reply is 00, control, TRN 01, CH, ERR,
+// LEN, D[23:16], D[31:24], D[7:0], D[15:8]; ERR is 0 and data is 0 where nothing else is said.
 mod print;
 mod requests;
 
@@ -10,135 +10,167 @@ use chip::state;
 use requests::ask;
 use requests::show;
 
-// Values in D[31:24]; LEN 4/2 and 2/4.
+// The controller is always enabled. A register stands in D[31:24], the second byte of data.
 fn controller(a: chip::Adapter) -> chip::Adapter {
-    // Enables SPI (bit 1) and GPIO (bit 2); bit 0 reads 0.
+    // s 0 r 1: 20. LEN 4/2. SPI (bit 1) and the parallel lines (bit 2) are enabled; bit 0 reads 0.
     let a = ask(a, 0x00, 4, 0x02, 0x07000000);
-    // 06.
+    // s 1 r 2: 42. LEN 2/4. CRB is 06: 00 06 00 00.
     let a = ask(a, 0x00, 2, 0x03, 0);
+    // s 2 r 3: 64. LEN 4/2.
     let a = ask(a, 0x00, 4, 0x04, 0x80000000);
-    // 80: bit 7 is I2CC and is kept.
+    // s 3 r 4: 86. LEN 2/4. CRC is 80, its bit 7 is I2CC and is kept: 00 80 00 00.
     let a = ask(a, 0x00, 2, 0x05, 0);
-    // Enables 0x13 (bit 3) and 0x14 (bit 4); bits 7 to 5 read 0.
+    // s 4 r 5: A8. LEN 4/2. 0x13 (bit 3) and 0x14 (bit 4) are enabled; bits 7 to 5 read 0.
     let a = ask(a, 0x00, 4, 0x06, 0xF8000000);
-    // 18.
+    // s 5 r 6: CA. LEN 2/4. CRD is 18: 00 18 00 00.
     ask(a, 0x00, 2, 0x07, 0)
 }
 
-// LEN 6/2 and 2/6; CONTROL and FREQ in D[15:0], SS in D[7:0].
+// CONTROL and FREQ stand in D[15:0], SS in D[7:0].
 fn spi_settings(a: chip::Adapter) -> chip::Adapter {
-    // A length of 8 bits; bit 15 is kept too.
+    // s 6 r 7: EC. LEN 6/2. A length of 8 bits (bits 6 to 0); bit 15 is kept too.
     let a = ask(a, 0x01, 6, 0x40, 0x00008008);
-    // 8008: 08 in D[7:0], 80 in D[15:8].
+    // s 7 r 0, since 7 is followed by 0: 0E. LEN 2/6. CONTROL is 8008: 00 00 08 80.
     let a = ask(a, 0x01, 2, 0x41, 0);
+    // s 0 r 1: 20. LEN 6/2.
     let a = ask(a, 0x01, 6, 0x50, 0x00001234);
-    // 1234.
+    // s 1 r 2: 42. LEN 2/6. FREQ is 1234: 00 00 34 12.
     let a = ask(a, 0x01, 2, 0x51, 0);
-    // D[15:8] is not kept.
+    // s 2 r 3: 64. LEN 6/2. D[15:8] is not read.
     let a = ask(a, 0x01, 6, 0x60, 0x000001A5);
-    // A5.
+    // s 3 r 4: 86. LEN 2/6. SS is A5: 00 00 A5 00.
     ask(a, 0x01, 2, 0x61, 0)
 }
 
-fn spi_transfer(a: chip::Adapter) -> chip::Adapter {
+fn spi_data(a: chip::Adapter) -> chip::Adapter {
+    // s 4 r 5: A8. LEN 6/2.
     let a = ask(a, 0x01, 6, 0x00, 0x11223344);
-    // 11223344, as 22 11 44 33.
+    // s 5 r 6: CA. LEN 2/6. Word 0 is 11223344: 22 11 44 33.
     let a = ask(a, 0x01, 2, 0x01, 0);
+    // s 6 r 7: EC. LEN 6/2.
     let a = ask(a, 0x01, 6, 0x10, 0x55667788);
+    // s 7 r 0: 0E. LEN 2/6. Word 1 is 55667788: 66 55 88 77.
     let a = ask(a, 0x01, 2, 0x11, 0);
+    // s 0 r 1: 20. LEN 6/2.
     let a = ask(a, 0x01, 6, 0x20, 0x99AABBCC);
+    // s 1 r 2: 42. LEN 2/6. Word 2 is 99AABBCC: AA 99 CC BB.
     let a = ask(a, 0x01, 2, 0x21, 0);
+    // s 2 r 3: 64. LEN 6/2.
     let a = ask(a, 0x01, 6, 0x30, 0xDDEEFF00);
-    let a = ask(a, 0x01, 2, 0x31, 0);
-    // GO: 17, no reply yet.
+    // s 3 r 4: 86. LEN 2/6. Word 3 is DDEEFF00: EE DD 00 FF.
+    ask(a, 0x01, 2, 0x31, 0)
+}
+
+fn spi_transfer(a: chip::Adapter) -> chip::Adapter {
+    // 17: GO gives no reply yet. It was accepted, so r is 5; s stays 4.
     let a = ask(a, 0x01, 2, 0x72, 0);
-    // Busy: 0x40.
+    // s 4 r 6: C8. SPI is busy: ERR 40, and as in every error reply LEN 2.
     let a = ask(a, 0x01, 2, 0x01, 0);
-    // The completion sends the GO's reply: the low 8 bits of DATA are the received 5A.
+    // s 5 r 6: CA. The GO's reply, LEN 6: of 11223344 the low 8 bits become the received 5A. DATA[31:0] is 1122335A: 22 11 5A 33.
     let received = [0x5A, 0xFF, 0, 0, 0, 0, 0, 0, 0, 0, 0, 0, 0, 0, 0, 0];
     let a = show(events::on_completion(a, &received));
-    // A second completion: 15.
+    // 15: SPI is not busy any more.
     show(events::on_completion(a, &received))
 }
 
-// LEN 4/2 and 1/4.
 fn lines(a: chip::Adapter) -> chip::Adapter {
+    // s 6 r 7: EC. LEN 4/2.
     let a = ask(a, 0x02, 4, 0x10, 0x01020304);
-    // 01020304, as 02 01 04 03.
+    // s 7 r 0: 0E. LEN 1/4. DATAOUT is 01020304: 02 01 04 03.
     let a = ask(a, 0x02, 1, 0x11, 0);
-    // The upper 16 lines are outputs.
+    // s 0 r 1: 20. LEN 4/2. Lines 31 to 16 are outputs.
     let a = ask(a, 0x02, 4, 0x20, 0xFFFF0000);
+    // s 1 r 2: 42. LEN 1/4. DIRECTION is FFFF0000: FF FF 00 00.
     let a = ask(a, 0x02, 1, 0x21, 0);
-    // Lines 0, 1 and 16 may interrupt.
+    // s 2 r 3: 64. LEN 4/2. Lines 0, 1 and 16 may interrupt.
     let a = ask(a, 0x02, 4, 0x30, 0x00010003);
+    // s 3 r 4: 86. LEN 1/4. INTSEL is 00010003: 01 00 03 00.
     let a = ask(a, 0x02, 1, 0x31, 0);
-    // Line 1 on falling.
+    // s 4 r 5: A8. LEN 4/2. Line 1 fires on falling, the others on rising.
     let a = ask(a, 0x02, 4, 0x40, 0x00000002);
+    // s 5 r 6: CA. LEN 1/4. INTTRIG is 00000002: 00 00 02 00.
     let a = ask(a, 0x02, 1, 0x41, 0);
+    // s 6 r 7: EC. LEN 4/2.
     let a = ask(a, 0x02, 4, 0x70, 0x00000080);
+    // s 7 r 0: 0E. LEN 1/4. INTS is 00000080: 00 00 80 00.
     let a = ask(a, 0x02, 1, 0x71, 0);
+    // s 0 r 1: 20. LEN 4/2. Line 8 goes by the strobe.
     let a = ask(a, 0x02, 4, 0x80, 0x00000100);
+    // s 1 r 2: 42. LEN 1/4. CLKSEL is 00000100: 00 00 00 01.
     let a = ask(a, 0x02, 1, 0x81, 0);
+    // s 2 r 3: 64. LEN 4/2. Line 8 goes by the strobe's falling edge.
     let a = ask(a, 0x02, 4, 0x90, 0x00000100);
+    // s 3 r 4: 86. LEN 1/4. EDGESEL is 00000100: 00 00 00 01.
     ask(a, 0x02, 1, 0x91, 0)
 }
 
 fn samples(a: chip::Adapter) -> chip::Adapter {
-    // INTENABLE still 0: lines 0 and 1 rise, 17. Line 8 waits for the strobe's falling edge, line 16 is an output.
+    // 17: lines 0 and 1 take 1, line 8 waits for the strobe, line 16 is an output. Line 0 fires, but INTENABLE is 0.
     let a = show(events::on_sample(a, 0x00010103, 0));
-    // D[0] alone is kept.
+    // s 4 r 5: A8. LEN 4/2. D[0] alone is read.
     let a = ask(a, 0x02, 4, 0x60, 0xFFFFFFFF);
-    // 1.
+    // s 5 r 6: CA. LEN 1/4. INTENABLE is 1: 00 00 01 00.
     let a = ask(a, 0x02, 1, 0x61, 0);
-    // Line 0 falls, for which it does not fire, and line 1 falls: an interrupt with INTS 2.
+    // s 6 r 6: CC. Lines 0 and 1 fall, line 1 fires: an interrupt, TRN FF, CH 02, LEN 4. INTS becomes 00000002: 00 00 02 00.
     let a = show(events::on_sample(a, 0x00000000, 0));
-    // INTS is now 2.
+    // s 7 r 7: EE. LEN 1/4. INTS is 00000002: 00 00 02 00.
     let a = ask(a, 0x02, 1, 0x71, 0);
-    // The strobe falls: only line 8 takes its level; it is not selected, 17.
+    // 17: the strobe falls, line 8 alone takes 1; INTSEL does not have it.
     let a = show(events::on_sample(a, 0x00000103, 2));
-    // DATAIN: 100.
+    // s 0 r 0: 00. LEN 1/4. DATAIN is 00000100: 00 00 00 01.
     ask(a, 0x02, 1, 0x01, 0)
 }
 
-// 0x13, 0x14 and 0x15.
-fn others(a: chip::Adapter) -> chip::Adapter {
-    // 17.
+fn upsets_and_id(a: chip::Adapter) -> chip::Adapter {
+    // 17: the counter is 1.
     let a = show(events::on_upset(a));
-    // 1; LEN 4/4.
+    // s 1 r 1: 22. LEN 4/4. The counter, low byte in D[7:0]: 00 00 01 00.
     let a = ask(a, 0x13, 4, 0xF1, 0);
-    // LEN 4/2.
+    // s 2 r 2: 44. LEN 4/2.
     let a = ask(a, 0x13, 4, 0xF0, 0);
-    // 0000000A; LEN 4/4.
-    let a = ask(a, 0x14, 4, 0xD1, 0);
-    // The outputs A to D; LEN 4/1 and 1/4.
+    // s 3 r 3: 66. LEN 4/4. The ID is 00000A: 00 00 0A 00.
+    ask(a, 0x14, 4, 0xD1, 0)
+}
+
+// The DAC is always enabled; an output stands in D[7:0].
+fn outputs(a: chip::Adapter) -> chip::Adapter {
+    // s 4 r 4: 88. LEN 4/1.
     let a = ask(a, 0x15, 4, 0x10, 0x11);
+    // s 5 r 5: AA. LEN 1/4. A is 11: 00 00 11 00.
     let a = ask(a, 0x15, 1, 0x11, 0);
+    // s 6 r 6: CC. LEN 4/1.
     let a = ask(a, 0x15, 4, 0x20, 0x22);
+    // s 7 r 7: EE. LEN 1/4. B is 22: 00 00 22 00.
     let a = ask(a, 0x15, 1, 0x21, 0);
+    // s 0 r 0: 00. LEN 4/1.
     let a = ask(a, 0x15, 4, 0x30, 0x33);
+    // s 1 r 1: 22. LEN 1/4. C is 33: 00 00 33 00.
     let a = ask(a, 0x15, 1, 0x31, 0);
+    // s 2 r 2: 44. LEN 4/1.
     let a = ask(a, 0x15, 4, 0x40, 0x44);
+    // s 3 r 3: 66. LEN 1/4. D is 44: 00 00 44 00.
     ask(a, 0x15, 1, 0x41, 0)
 }
 
 fn link(a: chip::Adapter) -> chip::Adapter {
-    // TEST on port 1: 00 63.
+    // TEST on port 1, bit 4 clear: 00 63. Port 1 is in loopback.
     let a = show(events::on_frame(a, 1, &[0x00, 0xE3]));
-    // Port 1 sends any body back.
+    // Port 1 sends back what it gets, though it is not active and this is no request: 00 02 AB.
     let a = show(events::on_frame(a, 1, &[0x00, 0x02, 0xAB]));
-    // CONNECT on port 1, with bit 4: 00 73. Both numbers are 0 again and port 1 is active.
+    // CONNECT on port 1, bit 4 set: 00 73. Port 1 is active, s and r are 0, no port is in loopback.
     let a = show(events::on_frame(a, 1, &[0x00, 0x3F]));
-    // Port 0 is not active: 12.
+    // 12: port 0 is not active.
     let a = ask(a, 0x00, 2, 0x03, 0);
-    // RESET on port 0: 00 63.
+    // RESET on port 0, bit 4 clear: 00 63. Port 0 is active, s and r are 0, every register is 0.
     let a = show(events::on_frame(a, 0, &[0x00, 0x8F]));
-    // CRB is 0 again.
+    // s 0 r 1: 20. LEN 2/4. CRB is 00.
     ask(a, 0x00, 2, 0x03, 0)
 }
 
 fn main() {
     let a = controller(state::power_on(0x00000A));
-    let a = spi_transfer(spi_settings(a));
+    let a = spi_transfer(spi_data(spi_settings(a)));
     let a = samples(lines(a));
-    link(others(a));
+    let a = outputs(upsets_and_id(a));
+    link(a);
 }
