@@ -1,14 +1,15 @@
 -- What each call gives and leaves, case by case: a law for every case of the definitions. Assumes nothing.
 use Prim.Native.Nat.{ℕ, _+_, _≤_, _<_}
 use mathlib.Core.Path.{_≡_, refl, sym, ap, _∙_}
-use mathlib.Core.Bool.{Bool, true, false, not, _||_, true≢false}
+use mathlib.Core.Bool.{Bool, true, false, not, cond, _||_, true≢false}
 use mathlib.Core.List.{List}
+use native.Mathlib.Nat.{pos-of-ne-zero}
 use native.Mathlib.Omega.{arith}
 use lib.ListN.{length, take}
 use lib.Seq.{length-take-le}
 use borrow.Author.Needs.{length-unmapped}
 use lib.Dec.{ltb, lit≤}
-use borrow.Author.Tests.{eq-eqb, ne-eqb, lt-ltb, le-ltb, ltb-false, eqb-true, not-false}
+use borrow.Author.Tests.{eq-eqb, ne-eqb, lt-ltb, le-ltb, ltb-false, eqb-true, eqb-false, not-false}
 use Rattle.chip.specs.declared.Adapter.{Adapter}
 use Rattle.chip.specs.declared.Reaction.{Reaction}
 use Rattle.chip.specs.Event.{Event, frame, completion}
@@ -18,14 +19,13 @@ use Rattle.chip.specs.Request.{replies}
 use Rattle.chip.proofs.Steps.{step-cases}
 use Rattle.parts.specs.Parts.{put}
 use Rattle.journal.specs.Layout.{version1, keptOf, wellFormed, past, emptied, pushed, lowered}
-use Rattle.journal.specs.declared.Restored.{Restored}
-use Rattle.journal.specs.Record.{before, sound, restoredBy}
+use Rattle.journal.specs.Record.{before, sound, restored}
 use Rattle.adapter.specs.declared.Answer.{Answer}
 use Rattle.adapter.specs.declared.Created.{Created}
 use Rattle.adapter.specs.declared.KeptNumber.{KeptNumber}
 use Rattle.adapter.specs.declared.Verdict.{Verdict}
 use Rattle.adapter.specs.declared.Verdict.the-variants.{Refused, Passed}
-use Rattle.adapter.specs.Refusals.{wrongArgument, wrongBody, inOrder, verdict}
+use Rattle.adapter.specs.Refusals.{wrongArgument, wrongBody, inOrder, verdict, backVerdict}
 use Rattle.adapter.specs.Calls.{created, keptIn, Outcome, outcome, plain, recorded, done, called, stepped, steppedBack}
 
 -- ---- creation
@@ -201,35 +201,62 @@ received-long s h = eqb-true (length s) 16 (not-false _ h)
 -- ---- a step back
 
 module _ (a : Adapter) (j : List ℕ) (ranged : Bool) (in-range : ranged ≡ inRange a) where
-  pub back-state : (x : Answer) → ranged ≡ false → x ≡ plain a 6 → stepped x j ≡ steppedBack a j
+  pub back-state : not ranged ≡ true → Refused 6 ≡ backVerdict a j
+  unfolding backVerdict
+  back-state h = rw (← in-range, h) refl
+
+  module _ (formed : Bool) (well-formed : formed ≡ wellFormed version1 j) (h : not ranged ≡ false) where
+    pub back-journal : not formed ≡ true → Refused 4 ≡ backVerdict a j
+    unfolding backVerdict
+    back-journal g = rw (← in-range, h, ← well-formed, g) refl
+
+    pub back-none : not formed ≡ false → keptOf j ≡ 0 → Refused 5 ≡ backVerdict a j
+    unfolding backVerdict
+    back-none g n = rw (← in-range, h, ← well-formed, g, eq-eqb (keptOf j) 0 n) refl
+
+    module _ (restorable : Bool) (is-sound : (b : Adapter) → inRange b ≡ true → restorable ≡ sound b (past version1 j 0)) (g : not formed ≡ false) (n : keptOf j ≡ 0 → ⊥) where
+      its-record : restorable ≡ sound a (past version1 j 0)
+      its-record = is-sound a (sym in-range ∙ not-false ranged h)
+
+      pub back-damaged : not restorable ≡ true → Refused 4 ≡ backVerdict a j
+      unfolding backVerdict
+      back-damaged s = rw (← in-range, h, ← well-formed, g, ne-eqb (keptOf j) 0 n, ← its-record, s) refl
+
+      pub back-passed : not restorable ≡ false → Passed ≡ backVerdict a j
+      unfolding backVerdict
+      back-passed s = rw (← in-range, h, ← well-formed, g, ne-eqb (keptOf j) 0 n, ← its-record, s) refl
+
+-- what a verdict that refuses nothing tells
+pub record PassingBack (a : Adapter) (j : List ℕ) : Type 0 where
+  pub ranged : inRange a ≡ true
+  pub formed : wellFormed version1 j ≡ true
+  pub some : 0 < keptOf j
+  pub restorable : sound a (past version1 j 0) ≡ true
+
+module _ (a : Adapter) (j : List ℕ) (ranged : Bool) (in-range : ranged ≡ inRange a) (v : Verdict) (judged : (b : Adapter) → ranged ≡ inRange b → v ≡ backVerdict b j) where
+  pub back-refuses : (number : ℕ) (x : Answer) → v ≡ Refused number → x ≡ plain a number → stepped x j ≡ steppedBack a j
   unfolding steppedBack
-  back-state x h e = rw (← in-range, h, e) refl
+  back-refuses number x q r = rw (← judged a in-range, q, r) refl
 
-  module _ (formed : Bool) (well-formed : formed ≡ wellFormed version1 j) where
-    pub back-journal : (x : Answer) → ranged ≡ true → formed ≡ false → x ≡ plain a 4 → stepped x j ≡ steppedBack a j
-    unfolding steppedBack
-    back-journal x h g e = rw (← in-range, h, ← well-formed, g, e) refl
+  pub back-passes : (b : Adapter) (k : List ℕ) → v ≡ Passed → b ≡ restored a (past version1 j 0) → k ≡ lowered j → stepped (plain b 17) k ≡ steppedBack a j
+  unfolding steppedBack
+  back-passes b k q r s = rw (← judged a in-range, q, r, s) refl
 
-    pub back-none : (x : Answer) → ranged ≡ true → formed ≡ true → keptOf j ≡ 0 → x ≡ plain a 5 → stepped x j ≡ steppedBack a j
-    unfolding steppedBack
-    back-none x h g n e = simp (sym in-range ∙ h, sym well-formed ∙ g, eq-eqb (keptOf j) 0 n, e)
-
-    module _ (back : Restored) (restores : back ≡ restoredBy a (past version1 j 0)) where
-      pub back-damaged : (x : Answer) → ranged ≡ true → formed ≡ true → (keptOf j ≡ 0 → ⊥) → back .sound ≡ false → x ≡ plain a 4 → stepped x j ≡ steppedBack a j
-      unfolding steppedBack
-      back-damaged x h g n s e =
-          simp (sym in-range ∙ h, sym well-formed ∙ g, ne-eqb (keptOf j) 0 n, sym (ap (λ (b : Restored). b .sound) restores) ∙ s, e)
-
-      pub back-granted : (k : List ℕ) → ranged ≡ true → formed ≡ true → (keptOf j ≡ 0 → ⊥) → back .sound ≡ true → k ≡ lowered j → stepped (plain (back .adapter) 17) k ≡ steppedBack a j
-      unfolding steppedBack
-      back-granted k h g n s e =
-          simp (
-            sym in-range ∙ h,
-            sym well-formed ∙ g,
-            ne-eqb (keptOf j) 0 n,
-            sym (ap (λ (b : Restored). b .sound) restores) ∙ s,
-            ap (λ (b : Restored). b .adapter) restores,
-            e,
-          )
-
-pub ruleset backs = (back-state, back-journal, back-none, back-damaged, back-granted)
+pub passing-back : (a : Adapter) (j : List ℕ) → Passed ≡ backVerdict a j → PassingBack a j
+unfolding backVerdict
+passing-back a j h =
+    let p = none-back _ _ _ _ h in
+    record {
+      ranged = not-false _ (p .0);
+      formed = not-false _ (p .1);
+      some = pos-of-ne-zero (eqb-false (keptOf j) 0 (p .2));
+      restorable = not-false _ (p .3);
+    }
+  where
+    none-back : (s f n d : Bool) → Passed ≡ cond s (Refused 6) (cond f (Refused 4) (cond n (Refused 5) (cond d (Refused 4) Passed)))
+        → (s ≡ false) × (f ≡ false) × (n ≡ false) × (d ≡ false)
+    none-back false false false false h = (refl, refl, refl, refl)
+    none-back true f n d h = let z : _≡_ {A = ℕ} 0 1 = cc in let x : ⊥ = omega arith in absurd x
+    none-back false true n d h = let z : _≡_ {A = ℕ} 0 1 = cc in let x : ⊥ = omega arith in absurd x
+    none-back false false true d h = let z : _≡_ {A = ℕ} 0 1 = cc in let x : ⊥ = omega arith in absurd x
+    none-back false false false true h = let z : _≡_ {A = ℕ} 0 1 = cc in let x : ⊥ = omega arith in absurd x

@@ -20,7 +20,7 @@ use Rattle.journal.specs.Record.{before, restored, sound}
 use Rattle.journal.proofs.Record.{length-before, restored-before, sound-before}
 use Rattle.journal.proofs.Ring.{Well, well-of, emptied-well, emptied-kept, behind, pushed-well, pushed-kept, pushed-newest, pushed-older}
 use Rattle.adapter.specs.declared.Verdict.the-variants.{Refused, Passed}
-use Rattle.adapter.specs.Refusals.{wrongArgument, wrongBody, inOrder, verdict}
+use Rattle.adapter.specs.Refusals.{wrongArgument, wrongBody, inOrder, verdict, backVerdict}
 use Rattle.adapter.specs.Calls.{outcome, plain, recorded, sentIn, done, called, stepped, steppedBack, cleared, madeEmpty}
 
 -- ---- creation
@@ -86,11 +86,11 @@ module _ (a : Adapter) (e : Event) (j : List ℕ) (w : Well version1 j) where
 
 module _ (a : Adapter) (j : List ℕ) (ranged : inRange a ≡ true) (w : Well version1 j) where
   pub back-refused : keptOf j ≡ 0 → steppedBack a j ≡ stepped (plain a 5) j
-  unfolding steppedBack
+  unfolding steppedBack backVerdict
   back-refused h = simp (ranged, well-of w, eq-eqb (keptOf j) 0 h)
 
   pub back-done : (keptOf j ≡ 0 → ⊥) → sound a (past version1 j 0) ≡ true → steppedBack a j ≡ stepped (plain (restored a (past version1 j 0)) 17) (lowered j)
-  unfolding steppedBack
+  unfolding steppedBack backVerdict
   back-done h s = simp (ranged, well-of w, ne-eqb (keptOf j) 0 h, s)
 
 -- ---- a journal made empty

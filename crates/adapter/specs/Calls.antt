@@ -1,24 +1,24 @@
 -- What each public call gives and what it leaves in every buffer that it is lent, refused or not.
 use Prim.Native.Nat.{ℕ}
-use mathlib.Core.Bool.{not, cond}
+use mathlib.Core.Bool.{cond}
 use mathlib.Core.List.{List}
 use lib.ListN.{length, take}
 use lib.Dec.{eqb, ltb}
 use Rattle.chip.specs.declared.Adapter.{Adapter}
 use Rattle.chip.specs.declared.Reaction.{Reaction}
 use Rattle.chip.specs.Event.{Event}
-use Rattle.numbers.specs.Numbers.{noFrame, badJournal, noneKept, badState, badId}
+use Rattle.numbers.specs.Numbers.{noFrame, badJournal, badId}
 use Rattle.chip.specs.Chip.{reaction, acceptedReset}
-use Rattle.chip.specs.State.{powerOn, inRange}
+use Rattle.chip.specs.State.{powerOn}
 use Rattle.parts.specs.Parts.{put}
 use Rattle.journal.specs.Layout.{version1, sizeOf, keptOf, wellFormed, past, emptied, pushed, lowered}
-use Rattle.journal.specs.Record.{before, restored, sound}
+use Rattle.journal.specs.Record.{before, restored}
 use Rattle.adapter.specs.declared.Answer.{Answer}
 use Rattle.adapter.specs.declared.Created.{Created}
 use Rattle.adapter.specs.declared.KeptNumber.{KeptNumber}
 use Rattle.adapter.specs.declared.Verdict.{Verdict}
 use Rattle.adapter.specs.declared.Verdict.the-variants.{Refused, Passed}
-use Rattle.adapter.specs.Refusals.{verdict}
+use Rattle.adapter.specs.Refusals.{verdict, backVerdict}
 
 -- ---- creation
 
@@ -74,14 +74,13 @@ pub record Stepped : Type 0 where
 abbrev pub stepped : Answer → List ℕ → Stepped
 stepped answer journal = record { answer = answer; journal = journal }
 
--- Refused in the order 6, 4, 5; a damaged record is a wrong journal, and there is no record where the kept number is 0.
+-- The newest record's state, and the record given up.
+abbrev pub judgedBack : Verdict → Adapter → List ℕ → Stepped
+judgedBack (Refused number) a journal = stepped (plain a number) journal
+judgedBack Passed a journal = stepped (plain (restored a (past version1 journal 0)) noFrame) (lowered journal)
+
 unfoldable pub steppedBack : Adapter → List ℕ → Stepped
-steppedBack a journal =
-    cond (not (inRange a)) (stepped (plain a badState) journal)
-    (cond (not (wellFormed version1 journal)) (stepped (plain a badJournal) journal)
-    (cond (eqb (keptOf journal) 0) (stepped (plain a noneKept) journal)
-    (cond (not (sound a (past version1 journal 0))) (stepped (plain a badJournal) journal)
-    (stepped (plain (restored a (past version1 journal 0)) noFrame) (lowered journal)))))
+steppedBack a journal = judgedBack (backVerdict a journal) a journal
 
 -- ---- the journal alone
 

@@ -1,4 +1,4 @@
--- What refuses a call, in document 01's order: 6, 4, 1, 3, 2 for an event.
+-- What refuses a call, in document 01's order: 6, 4, 1, 3, 2 for an event; 6, 4, 5 for a step back.
 use Prim.Native.Nat.{ℕ}
 use mathlib.Core.Bool.{Bool, false, not, cond, _||_}
 use mathlib.Core.List.{List}
@@ -7,10 +7,11 @@ use lib.Dec.{eqb, ltb}
 use Rattle.chip.specs.declared.Adapter.{Adapter}
 use Rattle.chip.specs.Event.{Event, frame, completion, sample, upset}
 use Rattle.chip.specs.State.{inRange}
-use Rattle.journal.specs.Layout.{version1, wellFormed}
+use Rattle.journal.specs.Layout.{version1, wellFormed, keptOf, past}
+use Rattle.journal.specs.Record.{sound}
 use Rattle.adapter.specs.declared.Verdict.{Verdict}
 use Rattle.adapter.specs.declared.Verdict.the-variants.{Refused, Passed}
-use Rattle.numbers.specs.Numbers.{shortOutput, badBody, badArgument, badJournal, badState}
+use Rattle.numbers.specs.Numbers.{shortOutput, badBody, badArgument, badJournal, noneKept, badState}
 
 -- port not 0 or 1, edge kind over 2, or completion not 16 bytes
 abbrev pub wrongArgument : Event → Bool
@@ -39,3 +40,11 @@ inOrder state journal output argument body =
 unfoldable pub verdict : Adapter → List ℕ → Event → List ℕ → Verdict
 verdict a journal e output =
     inOrder (not (inRange a)) (not (wellFormed version1 journal)) (ltb (length output) 16) (wrongArgument e) (wrongBody e)
+
+-- Of a step back that is handed a state and a journal. A damaged record is a wrong journal; there is no record where the kept number is 0.
+unfoldable pub backVerdict : Adapter → List ℕ → Verdict
+backVerdict a journal =
+    cond (not (inRange a)) (Refused badState)
+    (cond (not (wellFormed version1 journal)) (Refused badJournal)
+    (cond (eqb (keptOf journal) 0) (Refused noneKept)
+    (cond (not (sound a (past version1 journal 0))) (Refused badJournal) Passed)))

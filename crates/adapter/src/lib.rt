@@ -19,7 +19,7 @@ ghost use Rattle.chip.specs.State.{inRange};
 ghost use Rattle.chip.specs.Chip.{reaction, acceptedReset};
 ghost use Rattle.parts.specs.Parts.{put};
 ghost use Rattle.journal.specs.Layout.{version1, wellFormed};
-ghost use Rattle.adapter.specs.Refusals.{inOrder};
+ghost use Rattle.adapter.specs.Refusals.{inOrder, backVerdict};
 ghost use Rattle.adapter.specs.Calls.{created, cleared, madeEmpty, keptIn, outcome, plain, recorded, done, called, stepped, steppedBack};
 
 // An event's or a step back's answer: the state after the call, document 01's number, and with number 0 the frame's port and length.
@@ -239,29 +239,41 @@ pub fn sample(a: Adapter, journal: &mut [u8], levels: u32, kind: u8, output: &mu
     }
 }
 
+// The first refusal of a step back from a state that is in range or not.
+pub fn judge_back(ranged: bool, journal: &[u8]) -> Verdict
+    ensures { λ r. ⌜ ((a : Adapter) → ranged ≡ inRange a → r ≡ backVerdict a (now (journal .entry))) ⌝ }
+{
+    if !ranged {
+        return Verdict::Refused(BAD_STATE);
+    }
+    if !journal::is_well_formed(journal) {
+        return Verdict::Refused(BAD_JOURNAL);
+    }
+    if journal[journal::KEPT] == 0 {
+        return Verdict::Refused(NONE_KEPT);
+    }
+    if !journal::is_sound(journal) {
+        return Verdict::Refused(BAD_JOURNAL);
+    }
+    Verdict::Passed
+}
+
 // Takes the newest standing event back.
 pub fn step_back(a: Adapter, journal: &mut [u8]) -> Answer
     ensures { λ r. ⌜ stepped r (now (journal .exit)) ≡ steppedBack a (now (journal .entry)) ⌝ }
 {
-    if chip::state::in_range(a) {
-        if journal::is_well_formed(journal) {
-            if journal[journal::KEPT] == 0 {
-                return refused(a, NONE_KEPT);
+    let verdict = judge_back(chip::state::in_range(a), journal);
+    match verdict {
+        Verdict::Refused(number) => refused(a, number),
+        Verdict::Passed => {
+            let before = journal::restore(a, journal);
+            journal::lower(journal);
+            Answer {
+                adapter: before,
+                number: NO_FRAME,
+                port: 0,
+                length: 0,
             }
-            let back = journal::restore(a, journal);
-            if back.sound {
-                journal::lower(journal);
-                let before = back.adapter;
-                return Answer {
-                    adapter: before,
-                    number: NO_FRAME,
-                    port: 0,
-                    length: 0,
-                };
-            }
-            return refused(a, BAD_JOURNAL);
         }
-        return refused(a, BAD_JOURNAL);
     }
-    refused(a, BAD_STATE)
 }

@@ -1,13 +1,20 @@
 // The chip's state at power-on and its ranges.
 ghost use mathlib.Core.Path.{_≡_};
+ghost use mathlib.Core.Bool.{_||_};
+ghost use Rattle.registers.specs.Controller.{spiEnabled, gpioEnabled};
+ghost use Rattle.registers.specs.Spi.{spiIsZero};
+ghost use Rattle.registers.specs.Gpio.{gpioIsZero};
 ghost use Rattle.chip.specs.State.{poweredOn, powerOn, inRange};
 ghost use Rattle.chip.specs.Link.{reset};
 use crate::Adapter;
 use crate::link;
 use registers::controller;
+use registers::controller::Control;
 use registers::dac;
 use registers::gpio;
+use registers::gpio::Gpio;
 use registers::spi;
+use registers::spi::Spi;
 
 const LAST_NUMBER: u8 = 7;
 
@@ -47,6 +54,25 @@ pub(crate) fn reset_of(a: Adapter, port: u8) -> Adapter
     powered_on(port, a.id)
 }
 
+// A channel that is enabled may hold anything; its registers are looked at only where it is not.
+fn spi_fits(c: Control, s: Spi) -> bool
+    ensures { λ r. ⌜ r ≡ (spiEnabled c || spiIsZero s) ⌝ }
+{
+    if controller::spi_enabled(c) {
+        return true;
+    }
+    spi::is_zero(s)
+}
+
+fn gpio_fits(c: Control, g: Gpio) -> bool
+    ensures { λ r. ⌜ r ≡ (gpioEnabled c || gpioIsZero g) ⌝ }
+{
+    if controller::gpio_enabled(c) {
+        return true;
+    }
+    gpio::is_zero(g)
+}
+
 // Document 01's list for number 6.
 pub fn in_range(a: Adapter) -> bool
     ensures { λ r. ⌜ r ≡ inRange a ⌝ }
@@ -56,7 +82,5 @@ pub fn in_range(a: Adapter) -> bool
     let g = a.gpio;
     let numbers = (a.link.send.0 <= LAST_NUMBER) & (a.link.receive.0 <= LAST_NUMBER);
     let values = numbers & (a.link.port <= LAST_PORT) & (a.id <= LAST_ID);
-    let held_spi = controller::spi_enabled(c) | spi::is_zero(s);
-    let held_gpio = controller::gpio_enabled(c) | gpio::is_zero(g);
-    values & controller::in_range(c) & held_spi & held_gpio
+    values & controller::in_range(c) & spi_fits(c, s) & gpio_fits(c, g)
 }

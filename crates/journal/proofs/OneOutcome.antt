@@ -1,7 +1,10 @@
 -- Any two outcomes that a function's contract allows coincide: the result and every lent byte, for every public function.
 use mathlib.Core.Path.{sym, _∙_}
+use lib.Dec.{lit≤}
 use denote.Ref.{now}
 use Rattle.chip.specs.Event.{upset}
+use Rattle.chip.specs.State.{powerOn}
+use Rattle.chip.proofs.Laws.{power-on-in-range}
 use Rattle.parts.proofs.Outcome.{One}
 use Rattle.journal.proofs.is_well_formed.Kinds as is-well-formed-kinds
 use Rattle.journal.proofs.is_well_formed.Reads as is-well-formed
@@ -9,6 +12,10 @@ use Rattle.journal.proofs.empty.Kinds as empty-kinds
 use Rattle.journal.proofs.empty.Reads as empty
 use Rattle.journal.proofs.push.Kinds as push-kinds
 use Rattle.journal.proofs.push.Reads as push
+use Rattle.journal.proofs.is_sound.Kinds as is-sound-kinds
+use Rattle.journal.proofs.is_sound.Reads as is-sound
+use Rattle.journal.proofs.copy_image.Kinds as copy-image-kinds
+use Rattle.journal.proofs.copy_image.Reads as copy-image
 use Rattle.journal.proofs.restore.Kinds as restore-kinds
 use Rattle.journal.proofs.restore.Reads as restore
 use Rattle.journal.proofs.lower.Kinds as lower-kinds
@@ -28,6 +35,12 @@ empty-one κs a x y s t p q = p ∙ sym q
 
 pub push-one : One 1 push-kinds.ps push-kinds.r push.Post (λ κs x s. now (s .0))
 push-one κs a x y s t p q = p upset ∙ sym (q upset)
+
+pub is-sound-one : One 1 is-sound-kinds.ps is-sound-kinds.r is-sound.Post (λ κs x s. x)
+is-sound-one κs a x y s t p q = p (powerOn 0) (power-on-in-range 0 (lit≤ tt)) ∙ sym (q (powerOn 0) (power-on-in-range 0 (lit≤ tt)))
+
+pub copy-image-one : One 2 copy-image-kinds.ps copy-image-kinds.r copy-image.Post (λ κs x s. now (s .1 .0))
+copy-image-one κs a x y s t p q = p ∙ sym q
 
 pub restore-one : One 1 restore-kinds.ps restore-kinds.r restore.Post (λ κs x s. x)
 restore-one κs a x y s t p q = p ∙ sym q

@@ -3,19 +3,21 @@
 -- Assumes nothing.
 use Prim.Native.Nat.{ℕ, _≤_}
 use mathlib.Core.Path.{_≡_, ap, _∙_}
-use mathlib.Core.Bool.{true}
+use mathlib.Core.Bool.{true, _&&_}
 use mathlib.Core.List.{List, _++_}
 use native.Mathlib.Omega.{arith}
 use lib.ListN.{length}
+use borrow.Author.Tests.{le-leb}
 use Rattle.chip.specs.declared.Adapter.{Adapter}
 use Rattle.chip.specs.Event.{Event}
 use Rattle.chip.specs.Chip.{reaction}
 use Rattle.chip.specs.State.{inRange}
 use Rattle.chip.proofs.Fits.{Fits}
 use Rattle.chip.proofs.Laws.{id-stays}
+use Rattle.chip.proofs.Ranges.{of-in-range}
 use Rattle.parts.specs.Words.{wordsOf}
 use Rattle.parts.proofs.Laws.{length-bytes, words-bytes}
-use Rattle.journal.specs.Image.{imageWords, stateOf}
+use Rattle.journal.specs.Image.{imageWords, stateOf, spelled}
 use Rattle.journal.specs.Record.{before, restored, sound}
 use Rattle.journal.proofs.Spelling.{image-words, state-image, image-spelled}
 
@@ -35,6 +37,11 @@ module _ (b a : Adapter) (e : Event) (rest : List ℕ) (chip : b .id ≡ a .id) 
   pub sound-before : inRange a ≡ true → sound b (before a e ++ rest) ≡ true
   unfolding sound
   sound-before h = rw (restored-before, words-before, image-spelled a f) h
+
+-- the ID, which a record does not have, does not matter as long as it is in range
+pub sound-by : (a : Adapter) (r : List ℕ) → inRange a ≡ true → (spelled (wordsOf 18 r) && inRange (stateOf 0 (wordsOf 18 r))) ≡ sound a r
+unfolding sound restored inRange stateOf
+sound-by a r h = simp (le-leb _ _ (of-in-range a h .id))
 
 -- the same in the words of an event: taken back from the state that it left, it leaves the state that it happened to
 pub taken-back : (a : Adapter) (e : Event) (rest : List ℕ) → Fits a → restored (reaction a e .adapter) (before a e ++ rest) ≡ a

@@ -12,8 +12,8 @@ use borrow.Author.Tests.{eqb-true, eqb-false, lt-ltb, ltb-true}
 use Rattle.bits.specs.Bits.{bitOf, digit}
 use Rattle.chip.specs.declared.Adapter.{Adapter}
 use Rattle.chip.proofs.Fits.{Fits}
-use Rattle.parts.specs.Words.{word}
-use Rattle.parts.proofs.Laws.{Words, none, more, word-digits, word-small, byte0, byte1, byte2, byte3, over3}
+use Rattle.parts.specs.Words.{word, bytesOf, wordsOf}
+use Rattle.parts.proofs.Laws.{Words, none, more, word-digits, word-small, byte0, byte1, byte2, byte3, over3, AreBytes, length-words, words-small}
 use Rattle.journal.specs.Image.{flags, halves, imageWords, linkOf, controlOf, spiOf, dacOf, stateOf, spelled}
 use Rattle.journal.proofs.Ring.{both-true}
 
@@ -211,3 +211,7 @@ image-state id ws n small s =
       word-digits (getD ws 16 0) (small 16),
     )
     (elements-all ws 18 n)
+
+-- the image of the state that bytes spell is these bytes, read as words
+pub image-bytes : (id : ℕ) (r : List ℕ) → AreBytes r → spelled (wordsOf 18 r) ≡ true → bytesOf (imageWords (stateOf id (wordsOf 18 r))) ≡ bytesOf (wordsOf 18 r)
+image-bytes id r b s = ap bytesOf (image-state id (wordsOf 18 r) (length-words 18 r) (words-small 18 r b) s)

@@ -7,7 +7,6 @@ use Rattle.chip.specs.declared.Adapter.{Adapter}
 use Rattle.chip.specs.Event.{Event}
 use Rattle.chip.specs.State.{inRange}
 use Rattle.parts.specs.Words.{bytesOf, wordsOf}
-use Rattle.journal.specs.declared.Restored.{Restored}
 use Rattle.journal.specs.Image.{imageWords, stateOf, spelled}
 
 -- what is kept of an event that happens to a state: the image of the state, whatever the event
@@ -21,7 +20,3 @@ restored a r = stateOf (a .id) (wordsOf 18 r)
 -- A record is damaged, and a step back refused, where it has a bit set that no field has, or restores a state out of range.
 unfoldable pub sound : Adapter → List ℕ → Bool
 sound a r = spelled (wordsOf 18 r) && inRange (restored a r)
-
--- both at once
-abbrev pub restoredBy : Adapter → List ℕ → Restored
-restoredBy a r = record { sound = sound a r; adapter = restored a r }

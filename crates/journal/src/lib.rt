@@ -7,14 +7,11 @@ ghost use mathlib.Core.Bool.{true};
 ghost use Prim.Native.Nat.{_+_, _*_, _%_, _<_, _≤_, min};
 ghost use lib.ListN.{length};
 ghost use Rattle.chip.specs.Event.{Event};
-ghost use Rattle.parts.specs.Words.{wordsOf};
+ghost use Rattle.chip.specs.State.{inRange};
+ghost use Rattle.parts.specs.Parts.{put};
+ghost use Rattle.parts.specs.Words.{bytesOf, wordsOf};
 ghost use Rattle.journal.specs.Layout.{version1, sizeOf, keptOf, wellFormed, past, emptied, pushed, lowered};
-ghost use Rattle.journal.specs.Record.{before, restoredBy};
-
-pub struct Restored {
-    pub sound: bool,
-    pub adapter: Adapter,
-}
+ghost use Rattle.journal.specs.Record.{before, restored, sound};
 
 pub const SIZE: usize = 17408;
 
@@ -122,6 +119,39 @@ fn newest(j: &[u8]) -> [u32; 18]
     words
 }
 
+// Whether a step back may restore the newest record: the ID, which a record does not have, is in range.
+pub fn is_sound(j: &[u8]) -> bool
+    requires { ⌜ wellFormed version1 (now j) ≡ true ⌝ }
+    requires { ⌜ 0 < keptOf (now j) ⌝ }
+    ensures { λ r. ⌜ ((a : Adapter) → inRange a ≡ true → r ≡ sound a (past version1 (now (j .entry)) 0)) ⌝ }
+{
+    let words = newest(j);
+    let b = image::state_of(words, 0);
+    let spelled = image::is_spelled(words);
+    let ranged = chip::state::in_range(b);
+    spelled & ranged
+}
+
+// The state that the newest record restores, for the chip of the state a.
+pub fn restore(a: Adapter, j: &[u8]) -> Adapter
+    requires { ⌜ wellFormed version1 (now j) ≡ true ⌝ }
+    requires { ⌜ 0 < keptOf (now j) ⌝ }
+    ensures { λ r. ⌜ r ≡ restored a (past version1 (now (j .entry)) 0) ⌝ }
+{
+    image::state_of(newest(j), a.id)
+}
+
+// Copies the image in the newest record over the front of s.
+pub fn copy_image(j: &[u8], s: &mut [u8])
+    requires { ⌜ wellFormed version1 (now j) ≡ true ⌝ }
+    requires { ⌜ 0 < keptOf (now j) ⌝ }
+    requires { ⌜ 72 ≤ length (now s) ⌝ }
+    ensures { λ _. ⌜ now (s .exit) ≡ put 0 (bytesOf (wordsOf 18 (past version1 (now (j .entry)) 0))) (now (s .entry)) ⌝ }
+{
+    let words = newest(j);
+    parts::store_words(s, 0, &words);
+}
+
 // Gives the newest record up.
 pub fn lower(j: &mut [u8])
     requires { ⌜ wellFormed version1 (now j) ≡ true ⌝ }
@@ -130,20 +160,4 @@ pub fn lower(j: &mut [u8])
 {
     let kept = j[KEPT];
     j[KEPT] = kept - 1;
-}
-
-// What a step back makes of the state a: whether the newest record is sound, and the state that it restores.
-pub fn restore(a: Adapter, j: &[u8]) -> Restored
-    requires { ⌜ wellFormed version1 (now j) ≡ true ⌝ }
-    requires { ⌜ 0 < keptOf (now j) ⌝ }
-    ensures { λ r. ⌜ r ≡ restoredBy a (past version1 (now (j .entry)) 0) ⌝ }
-{
-    let words = newest(j);
-    let b = image::state_of(words, a.id);
-    let spelled = image::is_spelled(words);
-    let ranged = chip::state::in_range(b);
-    Restored {
-        sound: spelled & ranged,
-        adapter: b,
-    }
 }

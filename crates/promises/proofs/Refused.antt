@@ -28,8 +28,8 @@ use Rattle.journal.specs.Record.{restored, sound}
 use Rattle.adapter.specs.declared.Verdict.{Verdict}
 use Rattle.adapter.specs.declared.Verdict.the-variants.{Refused, Passed}
 use Rattle.adapter.specs.declared.Created.{Created}
-use Rattle.adapter.specs.Refusals.{verdict}
-use Rattle.adapter.specs.Calls.{Outcome, outcome, plain, done, called, Stepped, stepped, steppedBack, cleared, madeEmpty, created}
+use Rattle.adapter.specs.Refusals.{verdict, backVerdict}
+use Rattle.adapter.specs.Calls.{Outcome, outcome, plain, done, called, stepped, judgedBack, steppedBack, cleared, madeEmpty, created}
 use Rattle.adapter.proofs.Laws.{no-adapter, called-refused, called-done}
 use Rattle.promises.specs.Runs.{isRefusal}
 use Rattle.promises.proofs.Runs.{not-one-to-ten}
@@ -51,26 +51,13 @@ module _ (a : Adapter) (j : List ℕ) (e : Event) (o : List ℕ) where
           absurd (not-one-to-ten _ (number-given a e) (ap (λ (y : Outcome). isRefusal (y .answer .number)) (sym x) ∙ h))
 
 -- a step back
-module _ (a b : Adapter) (j j′ : List ℕ) where
-  stepped-by : (range formed none damaged : Bool) → Stepped
-  stepped-by range formed none damaged =
-      cond range (stepped (plain a 6) j)
-      (cond formed (stepped (plain a 4) j) (cond none (stepped (plain a 5) j) (cond damaged (stepped (plain a 4) j) (stepped (plain b 17) j′))))
-
-  stepped-unchanged : (range formed none damaged : Bool) → isRefusal (stepped-by range formed none damaged .answer .number) ≡ true
-      → stepped-by range formed none damaged ≡ stepped (plain a (stepped-by range formed none damaged .answer .number)) j
-  unfolding stepped-by
-  stepped-unchanged true formed none damaged h = refl
-  stepped-unchanged false true none damaged h = refl
-  stepped-unchanged false false true damaged h = refl
-  stepped-unchanged false false false true h = refl
-  stepped-unchanged false false false false h = absurd (false≢true h)
-
 pub back-unchanged : (a : Adapter) (j : List ℕ) → isRefusal (steppedBack a j .answer .number) ≡ true → steppedBack a j ≡ stepped (plain a (steppedBack a j .answer .number)) j
-unfolding steppedBack stepped-by
-back-unchanged a j h =
-    stepped-unchanged a (restored a (past version1 j 0)) j (lowered j) (not (inRange a)) (not (wellFormed version1 j)) (eqb (keptOf j) 0)
-    (not (sound a (past version1 j 0))) h
+unfolding steppedBack
+back-unchanged a j h = go (backVerdict a j) h
+  where
+    go : (v : Verdict) → isRefusal (judgedBack v a j .answer .number) ≡ true → judgedBack v a j ≡ stepped (plain a (judgedBack v a j .answer .number)) j
+    go (Refused n) q = refl
+    go Passed q = absurd (false≢true q)
 
 -- the emptying call
 cleared-unchanged : (j j′ : List ℕ) (b : Bool) → isRefusal (cond b (cleared 17 j′) (cleared 4 j) .number) ≡ true → cond b (cleared 17 j′) (cleared 4 j) .journal ≡ j

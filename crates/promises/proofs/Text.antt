@@ -2,16 +2,15 @@
 use Prim.Native.Nat.{ℕ}
 use mathlib.Core.Path.{_≡_, refl, sym, ap, ap₂, _∙_}
 use mathlib.Core.List.{List, [], _∷_, _++_}
-use mathlib.Core.Bool.{Bool, true, false, not, cond}
+use mathlib.Core.Bool.{Bool, true, false}
 use lib.ListN.{length, take, replicate, length-replicate}
 use lib.Dec.{eqb}
-use Rattle.link.proofs.Bounds.{either}
 use Rattle.chip.specs.Event.{Event}
-use Rattle.chip.specs.State.{inRange}
 use Rattle.chip.specs.declared.Adapter.{Adapter}
-use Rattle.journal.specs.Layout.{version1, wellFormed, keptOf, past}
-use Rattle.journal.specs.Record.{sound}
-use Rattle.adapter.specs.Calls.{Stepped, steppedBack}
+use Rattle.adapter.specs.declared.Verdict.{Verdict}
+use Rattle.adapter.specs.declared.Verdict.the-variants.{Refused, Passed}
+use Rattle.adapter.specs.Refusals.{backVerdict}
+use Rattle.adapter.specs.Calls.{judgedBack, steppedBack}
 use Rattle.listing.specs.Line as Line
 use Rattle.listing.specs.Answer.{answerText}
 use Rattle.listing.specs.Play.{noReply, heard, answerOf, Turn, turn, answers}
@@ -39,12 +38,11 @@ pub data Says : List (List ℕ) → List Call → Type 0 where
 -- a step back gives no frame
 back-length : (a : Adapter) (j : List ℕ) → steppedBack a j .answer .length ≡ 0
 unfolding steppedBack
-back-length a j =
-    let P : Stepped → Type 0 = λ s. s .answer .length ≡ 0 in
-    either P (not (inRange a)) (λ h. refl)
-    (λ h. either P (not (wellFormed version1 j)) (λ k. refl)
-    (λ k. either P (eqb (keptOf j) 0) (λ l. refl)
-    (λ l. either P (not (sound a (past version1 j 0))) (λ m. refl) (λ m. refl))))
+back-length a j = go (backVerdict a j)
+  where
+    go : (v : Verdict) → judgedBack v a j .answer .length ≡ 0
+    go (Refused n) = refl
+    go Passed = refl
 
 -- one line
 of-line : (g : Given) (kept : ℕ) (body : List ℕ) → body ≡ take (g .length) (g .output) → answerText (g .number) kept (g .port) body ≡ ofLine (line g kept)

@@ -2,19 +2,28 @@
 use mathlib.Core.Path.{_≡_, refl, sym, ap, ap₂, _∙_}
 use mathlib.Core.Bool.{Bool, true, false, cond, _&&_}
 use mathlib.Core.List.{List, [], _∷_, _++_, append-nil}
-use Prim.Native.Nat.{ℕ, _-_, _≤_}
+use Prim.Native.Nat.{ℕ, _+_, _*_, _-_, _≤_}
 use native.Mathlib.Omega.{arith}
 use borrow.Author.Tests.{eq-eqb, ne-eqb, eqb-true}
 use lib.Dec.{eqb}
-use lib.ListN.{length, take, drop, getD, length-append, length-drop}
+use lib.ListN.{length, take, drop, getD, length-append, length-drop, take-append-drop}
 use lib.Seq.{take-all}
 use Rattle.numbers.specs.Numbers as number
 use Rattle.parts.specs.Parts.{put}
 use Rattle.parts.specs.Words.{bytesOf, wordsOf, frontWord}
-use Rattle.parts.proofs.Laws.{put-put, length-bytes}
+use Rattle.parts.proofs.Laws.{put-put, length-bytes, AreBytes, bytes-drop, bytes-part, length-words, bytes-words}
 use Rattle.chip.specs.Event.{Event}
 use Rattle.chip.specs.declared.Adapter.{Adapter}
+use Rattle.chip.specs.State.{powerOn, inRange}
 use Rattle.journal.specs.Image.{imageWords, stateOf, spelled}
+use Rattle.journal.specs.Layout.{version1, past, lowered}
+use Rattle.journal.specs.Record.{restored, sound}
+use Rattle.journal.proofs.Spelling.{image-bytes}
+use Rattle.adapter.specs.Refusals.{backVerdict}
+use Rattle.adapter.specs.declared.Verdict.{Verdict}
+use Rattle.adapter.specs.declared.Verdict.the-variants.{Refused, Passed}
+use Rattle.adapter.proofs.Laws.{no-adapter}
+use Rattle.adapter.proofs.Cases.{PassingBack, passing-back}
 use Rattle.adapter.specs.Calls as Calls
 use Rattle.adapter.specs.Calls.{Outcome, Stepped, Cleared}
 use Rattle.adapter.specs.declared.Answer.{Answer}
@@ -51,6 +60,33 @@ spelled-state a ws d d₁ d₂ n w e f =
     ∙ put-put 0 (bytesOf (imageWords a)) (bytesOf (a .id ∷ [])) d 72 (omega arith) (omega arith)
     ∙ put-all (stateBytes a) d (simp length-append (omega arith))
 
+-- a state has no other spelling
+id-again : (t : List ℕ) → AreBytes t → length t ≡ 4 → bytesOf (frontWord t ∷ []) ≡ t
+unfolding wordsOf
+id-again t c k = bytes-words 1 t c (omega arith) ∙ take-all 4 t (omega arith)
+
+id-bytes : (s : List ℕ) → AreBytes s → length s ≡ 76 → bytesOf (frontWord (drop 72 s) ∷ []) ≡ drop 72 s
+id-bytes s b n = id-again (drop 72 s) (bytes-drop 72 s b) (simp length-drop (omega arith))
+
+pub state-again : (s : List ℕ) → isState s ≡ true → AreBytes s → stateBytes (stateIn s) ≡ s
+unfolding isState stateOf
+state-again s h b =
+    let n = its-length s h in
+    ap₂ (λ (x y : List ℕ). x ++ y)
+    (image-bytes (frontWord (drop 72 s)) s b (both (eqb (length s) 76) (spelled (wordsOf 18 s)) h .1) ∙ bytes-words 18 s b (omega arith))
+    (id-bytes s b n)
+    ∙ take-append-drop 72 s
+
+-- a record's image takes the place of the state's
+restored-bytes : (s r : List ℕ) → length s ≡ 76 → AreBytes s → AreBytes r → spelled (wordsOf 18 r) ≡ true
+    → stateBytes (restored (stateIn s) r) ≡ put 0 (bytesOf (wordsOf 18 r)) s
+unfolding restored stateOf put
+restored-bytes s r n b c h =
+    let l : length (bytesOf (wordsOf 18 r)) ≡ 4 * 18 = length-bytes (wordsOf 18 r) ∙ ap (λ (x : ℕ). 4 * x) (length-words 18 r) in
+    let k : 72 ≡ 0 + length (bytesOf (wordsOf 18 r)) = omega arith in
+    ap₂ (λ (x y : List ℕ). x ++ y) (image-bytes (frontWord (drop 72 s)) r c h) (id-bytes s b n)
+    ∙ ap (λ (x : ℕ). bytesOf (wordsOf 18 r) ++ drop x s) k
+
 -- one word
 pub first-word : (ws s : List ℕ) → ws ≡ wordsOf 1 s → getD ws 0 0 ≡ frontWord s
 unfolding wordsOf
@@ -81,20 +117,62 @@ module _ (s journal output : List ℕ) (e : Event) where
 
 -- ---- a step back
 
-module _ (s journal : List ℕ) where
-  pub back-done : {before : Adapter} {a : Answer} {j′ s′ : List ℕ} {r : ℕ} → isState s ≡ true → before ≡ stateIn s
-      → Calls.stepped a j′ ≡ Calls.steppedBack before journal → r ≡ packAnswer a → s′ ≡ stateBytes (a .adapter)
-      → backed r s′ j′ ≡ steppedBack s journal
-  unfolding steppedBack
-  back-done {before} {a} {j′} {s′} {r} h f d q p =
-      rw h
-      (ap₂ (λ (x : ℕ) (y : List ℕ). backed x y j′) q p
-      ∙ ap (λ (c : Stepped). backed (packAnswer (c .answer)) (stateBytes (c .answer .adapter)) (c .journal))
-      (d ∙ ap (λ (x : Adapter). Calls.steppedBack x journal) f))
+pub ranged-state : (s : List ℕ) {a : Adapter} {r : Bool} → isState s ≡ true → a ≡ stateIn s → r ≡ inRange a → r ≡ (isState s && inRange (stateIn s))
+ranged-state s h e f = rw h (f ∙ ap inRange e)
 
-  pub back-refused : {r : ℕ} → isState s ≡ false → r ≡ number.badState → backed r s journal ≡ steppedBack s journal
-  unfolding steppedBack
-  back-refused h q = rw h (ap (λ (x : ℕ). backed x s journal) q)
+pub ranged-none : (s : List ℕ) → isState s ≡ false → false ≡ (isState s && inRange (stateIn s))
+ranged-none s h = rw h refl
+
+-- a verdict's number, and an answer that has only a number
+numberIn : Verdict → ℕ
+numberIn (Refused n) = n
+numberIn Passed = number.noFrame
+
+only-number : (n : ℕ) → n ≡ n + 256 * 0 + 65536 * 0
+only-number n = omega arith
+
+not-six : number.noFrame ≡ number.badState → ⊥
+not-six e = omega arith
+
+module _ (s journal : List ℕ) (ranged : Bool) (in-range : ranged ≡ (isState s && inRange (stateIn s))) (v : Verdict)
+    (judged : (b : Adapter) → ranged ≡ inRange b → v ≡ backVerdict b journal) where
+  -- bytes that spell no state are judged as a state out of range
+  no-state : isState s ≡ false → v ≡ Refused number.badState
+  unfolding backVerdict
+  no-state h = judged (powerOn 0xFFFFFFFF) (in-range ∙ rw h (sym no-adapter)) ∙ rw no-adapter refl
+
+  a-state : isState s ≡ true → v ≡ backVerdict (stateIn s) journal
+  a-state h = judged (stateIn s) (in-range ∙ rw h refl)
+
+  pub back-refused : {n r : ℕ} → AreBytes s → v ≡ Refused n → r ≡ n → backed r s journal ≡ steppedBack s journal
+  unfolding steppedBack Calls.steppedBack numberIn
+  back-refused {n} {r} b q e = by (isState s) refl
+    where
+      by : (t : Bool) → isState s ≡ t → backed r s journal ≡ steppedBack s journal
+      by true h =
+          rw (h, ← a-state h, q)
+          (ap₂ (λ (x : ℕ) (y : List ℕ). backed x y journal) (e ∙ only-number n) (sym (state-again s h b)))
+      by false h = rw h (ap (λ (x : ℕ). backed x s journal) (e ∙ ap numberIn (sym q ∙ no-state h)))
+
+  -- what a verdict that refuses nothing tells
+  pub granted : v ≡ Passed → (isState s ≡ true) × PassingBack (stateIn s) journal
+  unfolding numberIn
+  granted q = by (isState s) refl
+    where
+      by : (t : Bool) → isState s ≡ t → (isState s ≡ true) × PassingBack (stateIn s) journal
+      by true h = (h, passing-back (stateIn s) journal (sym q ∙ a-state h))
+      by false h = absurd (not-six (ap numberIn (sym q ∙ no-state h)))
+
+  pub back-granted : {r : ℕ} {s′ j′ : List ℕ} → AreBytes s → AreBytes journal → v ≡ Passed → s′ ≡ put 0 (bytesOf (wordsOf 18 (past version1 journal 0))) s
+      → j′ ≡ lowered journal → r ≡ number.noFrame → backed r s′ j′ ≡ steppedBack s journal
+  unfolding steppedBack Calls.steppedBack sound past
+  back-granted {r} {s′} {j′} b c q d f e =
+      let g = granted q in
+      let newest : List ℕ = past version1 journal 0 in
+      let image = restored-bytes s newest (its-length s (g .0)) b (bytes-part _ 256 journal c)
+      (both (spelled (wordsOf 18 newest)) (inRange (restored (stateIn s) newest)) (g .1 .restorable) .0) in
+      rw (g .0, ← a-state (g .0), q, image)
+      (ap₂ (λ (x : ℕ) (y : List ℕ). backed x s′ y) e f ∙ ap (λ (y : List ℕ). backed 17 y (lowered journal)) d)
 
 -- ---- creation, and the journal alone
 

@@ -5,6 +5,7 @@ mod state;
 use adapter::Answer;
 use adapter::Created;
 use adapter::KeptNumber;
+use adapter::Verdict;
 use link::Received;
 use link::Sent;
 use numbers::BAD_STATE;
@@ -208,10 +209,14 @@ pub extern "C" fn sca_upset(bytes: &mut [u8], journal: &mut [u8], output: &mut [
 pub extern "C" fn sca_step_back(bytes: &mut [u8], journal: &mut [u8]) -> u64
     ensures { λ r. ⌜ events.backed r (now (bytes .exit)) (now (journal .exit)) ≡ events.steppedBack (now (bytes .entry)) (now (journal .entry)) ⌝ }
 {
-    if state::is_state(bytes) {
-        let before = state::state_in(bytes);
-        let a = adapter::step_back(before, journal);
-        return finish(bytes, a);
+    let verdict = adapter::judge_back(state::in_range(bytes), journal);
+    match verdict {
+        Verdict::Refused(number) => wide(number),
+        Verdict::Passed => {
+            // A record is spelled as a state is, so its image takes the state's place as it stands.
+            journal::copy_image(journal, bytes);
+            journal::lower(journal);
+            wide(NO_FRAME)
+        }
     }
-    wide(BAD_STATE)
 }

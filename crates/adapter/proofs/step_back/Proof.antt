@@ -1,21 +1,24 @@
 -- `adapter::step_back` meets its contract. Assumes nothing.
 use mathlib.Core.Path.{sym, _∙_}
-use native.Mathlib.Nat.{pos-of-ne-zero}
-use lib.Dec.{lit<}
 use borrow.Author.Needs.{needs}
-use Rattle.journal.proofs.Ring.{in-journal}
-use Rattle.adapter.proofs.Cases.{backs}
+use Rattle.adapter.proofs.Cases.{PassingBack, passing-back, back-refuses, back-passes}
 use Rattle.adapter.proofs.step_back.Statement.{statement}
 use Rattle.adapter.proofs.step_back.Tie as tie
 
-slice-read-if3 : tie.Need-slice-read-if3
-slice-read-if3 c = in-journal _ 6 (sym (c .before .before .is-well-formed .ensures) ∙ c .before .if2 .taken) (lit< tt)
+passed : (c : tie.After-enum-told) → PassingBack (c .before .before .before .before .before .before .args .a) (c .before .before .before .before .before .before .args .journal .now)
+passed c = passing-back _ _ (sym (c .enum-told .given .1) ∙ c .before .before .judge-back .ensures _ (c .before .before .before .before .in-range .ensures))
 
 restore-requires : tie.Need-restore-requires
-restore-requires c κs = (sym (c .before .before .before .before .is-well-formed .ensures) ∙ c .before .before .before .if2 .taken, pos-of-ne-zero (c .before .if3 .left))
+restore-requires c κs = let p = passed (c .before) in (p .formed, p .some)
 
 lower-requires : tie.Need-lower-requires
-lower-requires c κs = (sym (c .before .before .before .before .before .before .before .is-well-formed .ensures) ∙ c .before .before .before .before .before .before .if2 .taken, pos-of-ne-zero (c .before .before .before .before .if3 .left))
+lower-requires c κs = let p = passed (c .before .before .before) in (p .formed, p .some)
+
+returns : tie.Need-returns
+returns c = search (back-refuses)
+
+returns-2 : tie.Need-returns-2
+returns-2 c = search (back-passes)
 
 pub step-back-spec : {M : Type 1} → statement M
 step-back-spec =
@@ -23,19 +26,12 @@ step-back-spec =
     (tie.spec
     (λ c κs. search needs)
     (λ c κs. search needs)
-    slice-read-if3
+    (λ c. search needs)
     (λ c κs. search needs)
     (λ c. search needs)
-    (λ c. search backs)
     restore-requires
     lower-requires
     (λ c. search needs)
-    (λ c. search backs)
-    (λ c κs. search needs)
+    returns
     (λ c. search needs)
-    (λ c. search backs)
-    (λ c κs. search needs)
-    (λ c. search needs)
-    (λ c. search backs)
-    (λ c κs. search needs)
-    (λ c. search backs))
+    returns-2)

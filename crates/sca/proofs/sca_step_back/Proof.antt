@@ -1,35 +1,54 @@
--- The step on the state that the bytes spell, spelled and packed.
-use mathlib.Core.Path.{sym, _∙_}
+-- Judged as the state that the bytes spell; the record's image takes the state's place.
+use mathlib.Core.Path.{_≡_}
+use mathlib.Core.Bool.{true}
+use native.Mathlib.Omega.{arith}
 use borrow.Author.Needs.{needs}
-use Rattle.sca.proofs.States.{its-length, back-done, back-refused}
+use denote.Ref.{now}
+use Rattle.adapter.proofs.Cases.{PassingBack}
+use Rattle.sca.specs.Adapter.{isState, stateIn}
+use Rattle.sca.proofs.States.{its-length, granted, back-refused, back-granted}
 use Rattle.sca.proofs.sca_step_back.Statement.{statement}
 use Rattle.sca.proofs.sca_step_back.Tie as tie
 
-state-in-requires : tie.Need-state-in-requires
-state-in-requires c κs = its-length _ (sym (c .before .before .is-state .ensures) ∙ c .before .if1 .taken)
+passed : (c : tie.After-enum-told) → (isState (now (c .before .before .before .before .before .before .before .before .args .bytes)) ≡ true) × PassingBack (stateIn (now (c .before .before .before .before .before .before .before .before .args .bytes))) (now (c .before .before .before .before .before .before .before .before .args .journal))
+passed c = let j = c .before .before in granted _ _ _ (j .before .before .in-range .ensures) _ (j .judge-back .ensures) (c .enum-told .given .1)
 
-finish-requires : tie.Need-finish-requires
-finish-requires c κs = its-length _ (sym (c .before .before .before .before .before .before .before .before .is-state .ensures) ∙ c .before .before .before .before .before .before .before .if1 .taken)
+copy-image-requires : tie.Need-copy-image-requires
+copy-image-requires c κs =
+    let p = passed (c .before .before) in
+    let n = its-length _ (p .0) in
+    (p .1 .formed, (p .1 .some, omega arith))
+
+lower-requires : tie.Need-lower-requires
+lower-requires c κs = let p = passed (c .before .before .before .before .before .before) in (p .1 .formed, p .1 .some)
 
 returns : tie.Need-returns
 returns c =
-    let f = c .before .before .finish .ensures in
-    back-done _ _ (sym (c .before .before .before .before .before .before .before .before .before .before .before .is-state .ensures) ∙ c .before .before .before .before .before .before .before .before .before .before .if1 .taken) (c .before .before .before .before .before .before .before .before .state-in .ensures) (c .before .before .before .before .before .before .step-back .ensures) (f .0) (f .1)
+    let j = c .before .before .before .before in
+    back-refused _ _ _ (j .before .before .in-range .ensures) _ (j .judge-back .ensures) (λ i. omega (arith, j .before .before .before .before .before .slice-known .given i)) (c .before .before .verdict .given .1) (c .wide .ensures .0)
 
 returns-2 : tie.Need-returns-2
-returns-2 c = back-refused _ _ (sym (c .before .before .is-state .ensures) ∙ c .before .if1 .left) (c .wide .ensures .0)
+returns-2 c =
+    let told = c .before .before .before .before .before .before .before .before .before .before in
+    let j = told .before .before in
+    let known = j .before .before .before .before in
+    back-granted _ _ _ (j .before .before .in-range .ensures) _ (j .judge-back .ensures) (λ i. omega (arith, known .before .slice-known .given i)) (λ i. omega (arith, known .slice-known2 .given i)) (told .enum-told .given .1) (c .before .before .before .before .before .before .before .copy-image .ensures) (c .before .before .before .lower .ensures) (c .wide2 .ensures .0)
 
 pub sca-step-back-spec : {M : Type 1} → statement M
 sca-step-back-spec =
     tie.close
     (tie.spec
     (λ c κs. search needs)
-    state-in-requires
     (λ c κs. search needs)
-    finish-requires
+    (λ c. search needs)
+    (λ c κs. search needs)
+    (λ c. search needs)
+    copy-image-requires
+    lower-requires
+    (λ c κs. search needs)
     (λ c. search needs)
     (λ c. search needs)
     returns
-    (λ c κs. search needs)
+    (λ c. search needs)
     (λ c. search needs)
     returns-2)

@@ -11,6 +11,4 @@ in-range-spec =
     (λ c κs. search needs)
     (λ c κs. search needs)
     (λ c κs. search needs)
-    (λ c κs. search needs)
-    (λ c κs. search needs)
-    (λ c. simp (c .in-range .ensures, c .before .is-zero2 .ensures, c .before .before .gpio-enabled .ensures, c .before .before .before .is-zero .ensures, c .before .before .before .before .spi-enabled .ensures)))
+    (λ c. simp (c .gpio-fits .ensures, c .before .spi-fits .ensures, c .before .before .in-range .ensures)))

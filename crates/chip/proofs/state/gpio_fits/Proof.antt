@@ -1,0 +1,13 @@
+use mathlib.Core.Path.{refl, sym, _∙_}
+use borrow.Author.Needs.{needs}
+use Rattle.chip.proofs.state.gpio_fits.Statement.{statement}
+use Rattle.chip.proofs.state.gpio_fits.Tie as tie
+
+returns : tie.Need-returns
+returns c = rw (sym (c .before .gpio-enabled .ensures) ∙ c .if1 .taken) refl
+
+returns-2 : tie.Need-returns-2
+returns-2 c = rw (sym (c .before .before .gpio-enabled .ensures) ∙ c .before .if1 .left) (c .is-zero .ensures)
+
+pub gpio-fits-spec : {M : Type 1} → statement M
+gpio-fits-spec = tie.close (tie.spec (λ c κs. search needs) returns (λ c κs. search needs) returns-2)
