@@ -5,7 +5,7 @@ use mathlib.Core.List.{List, [], _∷_, _++_}
 use mathlib.Core.Bool.{Bool, true, false, not, cond}
 use lib.ListN.{length, take, replicate, length-replicate}
 use lib.Dec.{eqb}
-use Rattle.link.proofs.Bounds.{either}
+use Rattle.wire.proofs.Tests.{either}
 use Rattle.chip.specs.Event.{Event}
 use Rattle.chip.specs.State.{inRange}
 use Rattle.chip.specs.declared.Adapter.{Adapter}
