@@ -1,6 +1,6 @@
 #!/bin/sh
 # The definitions that a reader of docs/PROMISES.md has to believe, and how many lines each file has: those that are not blank, a comment, or
-# a name brought in. Files of specs/ that only inner functions cite (link's Inner) are not among them: no promise is stated with them.
+# a name brought in. Files of specs/ that only inner functions cite (Inner) are not among them: no promise is stated with them.
 cd "$(dirname "$0")/.." || exit 2
 
 lines() {
@@ -23,7 +23,7 @@ part() {
 }
 
 part 'Numbers and places in bytes' crates/numbers/specs/*.antt crates/parts/specs/*.antt
-part 'The wire' crates/link/specs/*.antt
+part 'The wire' crates/wire/specs/*.antt crates/transmitter/specs/*.antt crates/receiver/specs/*.antt
 part 'The wire, in the words of the standard' crates/promises/specs/Wire.antt crates/promises/specs/Calls.antt
 part 'The chip' crates/bits/specs/*.antt crates/commands/specs/*.antt crates/registers/specs/*.antt crates/chip/specs/*.antt
 part 'The calls and the journal' crates/adapter/specs/*.antt crates/journal/specs/*.antt

@@ -9,8 +9,8 @@ use borrow.Author.Tests.{leb-true, leb-false}
 use lib.Dec.{leb, lit≤}
 use lib.ListN.{length, take, drop, getD, replicate, length-append, length-take, length-drop, length-replicate, getD-replicate}
 use lib.Seq.{getD-take, getD-at, take-append-le}
-use Rattle.link.specs.Bits.{wire}
-use Rattle.link.proofs.Bits.{AreBits, none, more, bits-wire, bits-drop}
+use Rattle.wire.specs.Bits.{wire}
+use Rattle.wire.proofs.Bits.{AreBits, none, more, bits-wire, bits-drop}
 use Rattle.promises.specs.Wire.{absent, sixOnes, AfterFlag, unended, six-last, closes, shares, aborts}
 use Rattle.promises.proofs.Steps.{split, absent-drop, ones-on}
 

@@ -10,9 +10,9 @@ use lib.Dec.{eqb, leb}
 use lib.ListN.{length, take, drop, length-take, length-drop}
 use lib.Seq.{drop-drop, drop-nil, take-all}
 use Rattle.numbers.specs.Numbers as number
-use Rattle.link.specs.Receiver.{State, Stop, next, ended, decides, runs}
-use Rattle.link.specs.Receive.{Answer, Reading, concluded, reading}
-use Rattle.link.proofs.Machine.{runs-go, runs-stop, runs-end}
+use Rattle.receiver.specs.Receiver.{State, Stop, next, ended, decides, runs}
+use Rattle.receiver.specs.Receive.{Answer, Reading, concluded, reading}
+use Rattle.receiver.proofs.Machine.{runs-go, runs-stop, runs-end}
 use Rattle.promises.specs.Wire.{after}
 use Rattle.promises.specs.Calls.{spoken, verdict, heard}
 use Rattle.promises.proofs.Steps.{split, and-right, at-flag-answers}

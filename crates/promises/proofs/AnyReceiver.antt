@@ -5,12 +5,13 @@ use Prim.Native.Nat.{ℕ, _+_, _*_, _-_, _≤_, _<_}
 use lib.ListN.{length, drop, getD}
 use lib.Seq.{drop-at, drop-append-add}
 use Rattle.numbers.specs.Numbers as number
-use Rattle.link.specs.Bits.{wire}
-use Rattle.link.specs.Frame.{flag, stuff, contentOf, frame}
-use Rattle.link.specs.declared.Receiver.{Receiver}
-use Rattle.link.specs.Receiver.{State, hunting, opened, view}
-use Rattle.link.specs.Receive.{Answer, bare, atFlag}
-use Rattle.link.proofs.Bits.{AreBits, bits-wire, bits-drop}
+use Rattle.wire.specs.Bits.{wire}
+use Rattle.wire.specs.Frame.{flag, stuff, contentOf}
+use Rattle.transmitter.specs.Frame.{frame}
+use Rattle.receiver.specs.declared.Receiver.{Receiver}
+use Rattle.receiver.specs.Receiver.{State, hunting, opened, view}
+use Rattle.receiver.specs.Receive.{Answer, bare, atFlag}
+use Rattle.wire.proofs.Bits.{AreBits, bits-wire, bits-drop}
 use Rattle.promises.specs.Wire.{absent, sixOnes, sevenOnes, destuff, atAbort}
 use Rattle.promises.specs.Calls.{Accepted, receives, spoken, heard}
 use Rattle.promises.proofs.Steps.{bits-front, bits-back}

@@ -11,12 +11,12 @@ use lib.Seq.{drop-drop, take-at}
 use Rattle.numbers.specs.Numbers as number
 use Rattle.parts.specs.Parts.{put}
 use Rattle.parts.proofs.Laws.{put-none, length-put}
-use Rattle.link.specs.Bits.{wire}
-use Rattle.link.specs.declared.Receiver.{Receiver}
-use Rattle.link.specs.declared.Received.{Received}
-use Rattle.link.specs.Receiver.{State, view, inRange}
-use Rattle.link.specs.Receive.{Answer, Reading, reading, readFrom, received, outputAfter}
-use Rattle.link.proofs.Bits.{AreBits, bits-wire, bits-drop, length-wire}
+use Rattle.wire.specs.Bits.{wire}
+use Rattle.receiver.specs.declared.Receiver.{Receiver}
+use Rattle.receiver.specs.declared.Received.{Received}
+use Rattle.receiver.specs.Receiver.{State, view, inRange}
+use Rattle.receiver.specs.Receive.{Answer, Reading, reading, readFrom, received, outputAfter}
+use Rattle.wire.proofs.Bits.{AreBits, bits-wire, bits-drop, length-wire}
 use Rattle.promises.specs.Calls.{Accepted, Gives, Sized, told, receives}
 use Rattle.promises.proofs.Steps.{bits-front}
 use Rattle.promises.proofs.Readings.{silent, silent-consumed, reading-sized}

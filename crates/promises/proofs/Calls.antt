@@ -9,10 +9,10 @@ use borrow.Author.Tests.{ne-eqb, eqb-true, eqb-false, ltb-false}
 use lib.Dec.{eqb, ltb, lit<, lit≤}
 use lib.ListN.{length, take, drop, replicate, length-drop, length-append}
 use lib.Seq.{drop-nil, drop-drop, take-add, take-all, take-append-add}
-use Rattle.link.specs.Frame.{flag}
-use Rattle.link.specs.Receiver.{State, Stop, opened, next, decides, runs}
-use Rattle.link.specs.Receive.{Answer, concluded, reading}
-use Rattle.link.proofs.Machine.{runs-go, runs-stop, runs-end}
+use Rattle.wire.specs.Frame.{flag}
+use Rattle.receiver.specs.Receiver.{State, Stop, opened, next, decides, runs}
+use Rattle.receiver.specs.Receive.{Answer, concluded, reading}
+use Rattle.receiver.proofs.Machine.{runs-go, runs-stop, runs-end}
 use Rattle.promises.specs.Wire.{after}
 use Rattle.promises.proofs.Steps.{split, and-left}
 use Rattle.promises.proofs.Readings.{read-split}

@@ -18,8 +18,8 @@ use Rattle.registers.specs.Gpio.{gpioAnswer, actGpio}
 use Rattle.registers.specs.Pins.{gpioSampled, datainAfter, firingLines}
 use Rattle.registers.specs.Dac.{dacAnswer, actDac}
 use Rattle.parts.specs.Parts.{put}
-use Rattle.link.specs.Bits.{low, wire}
-use Rattle.link.specs.Frame.{stuff}
+use Rattle.wire.specs.Bits.{low, wire}
+use Rattle.wire.specs.Frame.{stuff}
 use Rattle.chip.specs.Event.{frame, completion, sample, upset}
 use Rattle.chip.specs.State.{poweredOn}
 use Rattle.chip.specs.Answer.{padded}

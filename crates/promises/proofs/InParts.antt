@@ -8,11 +8,11 @@ use lib.Dec.{eqb}
 use lib.ListN.{length, drop}
 use Rattle.numbers.specs.Numbers as number
 use Rattle.parts.specs.Parts.{put}
-use Rattle.link.specs.Bits.{wire}
-use Rattle.link.specs.declared.Receiver.{Receiver}
-use Rattle.link.specs.declared.Received.{Received}
-use Rattle.link.specs.Receiver.{State, view}
-use Rattle.link.specs.Receive.{Answer, Reading, reading, readFrom, received, receivedAs, outputAfter}
+use Rattle.wire.specs.Bits.{wire}
+use Rattle.receiver.specs.declared.Receiver.{Receiver}
+use Rattle.receiver.specs.declared.Received.{Received}
+use Rattle.receiver.specs.Receiver.{State, view}
+use Rattle.receiver.specs.Receive.{Answer, Reading, reading, readFrom, received, receivedAs, outputAfter}
 use Rattle.promises.specs.Wire.{after}
 use Rattle.promises.specs.Calls.{Accepted, onFrom, receives, spoken}
 use Rattle.promises.proofs.Readings.{read-split}

@@ -3,16 +3,16 @@
 use mathlib.Core.Path.{_≡_, sym, ap₂, _∙_}
 use mathlib.Core.List.{List}
 use Prim.Native.Nat.{ℕ}
-use Rattle.link.specs.declared.Received.{Received}
-use Rattle.link.specs.declared.Sent.{Sent}
+use Rattle.receiver.specs.declared.Received.{Received}
+use Rattle.transmitter.specs.declared.Sent.{Sent}
 use denote.Ref.{now}
 use Rattle.parts.proofs.Outcome.{One}
-use Rattle.link.proofs.transmit.Kinds as transmit-kinds
-use Rattle.link.proofs.transmit.Reads as transmit
-use Rattle.link.proofs.receive.Kinds as receive-kinds
-use Rattle.link.proofs.receive.Reads as receive
-use Rattle.link.proofs.Receiver.new.Kinds as new-kinds
-use Rattle.link.proofs.Receiver.new.Reads as new
+use Rattle.transmitter.proofs.transmit.Kinds as transmit-kinds
+use Rattle.transmitter.proofs.transmit.Reads as transmit
+use Rattle.receiver.proofs.receive.Kinds as receive-kinds
+use Rattle.receiver.proofs.receive.Reads as receive
+use Rattle.receiver.proofs.Receiver.new.Kinds as new-kinds
+use Rattle.receiver.proofs.Receiver.new.Reads as new
 use Rattle.sca.proofs.sca_transmit.Kinds as sca-transmit-kinds
 use Rattle.sca.proofs.sca_transmit.Reads as sca-transmit
 use Rattle.sca.proofs.sca_receiver_new.Kinds as sca-new-kinds

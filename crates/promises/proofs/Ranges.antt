@@ -6,9 +6,9 @@ use Prim.Native.Nat.{ℕ, _*_, _<_}
 use borrow.Author.Tests.{leb-true}
 use lib.Dec.{leb}
 use lib.ListN.{length, getD}
-use Rattle.link.specs.declared.Receiver.{Receiver}
-use Rattle.link.specs.Receiver.{view, image, inRange}
-use Rattle.link.specs.Receive.{received}
+use Rattle.receiver.specs.declared.Receiver.{Receiver}
+use Rattle.receiver.specs.Receiver.{view, image, inRange}
+use Rattle.receiver.specs.Receive.{received}
 use Rattle.promises.proofs.Steps.{split}
 use Rattle.promises.proofs.States.{image-view}
 use Rattle.promises.proofs.Called.{returned-inRange}

@@ -11,13 +11,13 @@ use lib.Dec.{eqb, ltb, leb, lit≤}
 use lib.ListN.{length, take, drop, getD, replicate, length-take}
 use lib.Seq.{take-length, take-suc, drop-append-add}
 use Rattle.numbers.specs.Numbers as number
-use Rattle.link.specs.Bits.{pack}
-use Rattle.link.specs.Fcs.{register, preset, residue}
-use Rattle.link.specs.Frame.{flag}
-use Rattle.link.specs.Receiver.{State, Stop, hunting, opened, next, decides, ended, runs}
-use Rattle.link.specs.Receive.{bare, atFlag, concluded, reading}
-use Rattle.link.proofs.Bits.{length-pack, AreBits, none, more}
-use Rattle.link.proofs.Machine.{runs-go, runs-end}
+use Rattle.wire.specs.Bits.{pack}
+use Rattle.wire.specs.Fcs.{register, preset, residue}
+use Rattle.wire.specs.Frame.{flag}
+use Rattle.receiver.specs.Receiver.{State, Stop, hunting, opened, next, decides, ended, runs}
+use Rattle.receiver.specs.Receive.{bare, atFlag, concluded, reading}
+use Rattle.wire.proofs.Bits.{length-pack, AreBits, none, more}
+use Rattle.receiver.proofs.Machine.{runs-go, runs-end}
 use Rattle.promises.specs.Wire.{absent, sixOnes, sevenOnes, destuff, atAbort, after, hunter, seen}
 use Rattle.promises.specs.Calls.{Sized}
 use Rattle.promises.proofs.Steps.{split, and-right, absent-drop, ones-on, runs-append, run, within, Ran, ran, at-flag-answers, five, six-ones, goes-on, closing, aborting}

@@ -7,18 +7,18 @@ use mathlib.Core.Bool.{Bool, true, false, not, cond, _&&_, false≢true}
 use lib.ListN.{length, take, drop}
 use lib.Dec.{eqb, ltb, leb}
 use Rattle.parts.specs.Parts.{put}
-use Rattle.link.specs.Bits.{wire, pack}
-use Rattle.link.specs.Fcs.{register, preset, residue}
-use Rattle.link.specs.Frame.{framed}
-use Rattle.link.specs.Receiver.{State, Stop, runs, ended, view}
-use Rattle.link.specs.Receiver as receiver
-use Rattle.link.specs.Receive.{atFlag, Reading, reading, concluded, readFrom, receivedAs, received}
-use Rattle.link.specs.Receive as receive
-use Rattle.link.specs.Transmit.{transmitted}
-use Rattle.link.specs.Transmit as transmit
-use Rattle.link.specs.declared.Sent.{Sent}
-use Rattle.link.specs.declared.Receiver.{Receiver}
-use Rattle.link.specs.declared.Received.{Received}
+use Rattle.wire.specs.Bits.{wire, pack}
+use Rattle.wire.specs.Fcs.{register, preset, residue}
+use Rattle.transmitter.specs.Frame.{framed}
+use Rattle.receiver.specs.Receiver.{State, Stop, runs, ended, view}
+use Rattle.receiver.specs.Receiver as receiver
+use Rattle.receiver.specs.Receive.{atFlag, Reading, reading, concluded, readFrom, receivedAs, received}
+use Rattle.receiver.specs.Receive as receive
+use Rattle.transmitter.specs.Transmit.{transmitted}
+use Rattle.transmitter.specs.Transmit as transmit
+use Rattle.transmitter.specs.declared.Sent.{Sent}
+use Rattle.receiver.specs.declared.Receiver.{Receiver}
+use Rattle.receiver.specs.declared.Received.{Received}
 use Rattle.chip.specs.declared.Adapter.{Adapter}
 use Rattle.chip.specs.Event.{Event}
 use Rattle.chip.specs.State.{powerOn, inRange}

@@ -12,15 +12,16 @@ use lib.ListN.{length, take, drop, getD, replicate, length-append, length-drop, 
 use lib.Seq.{take-at}
 use Rattle.numbers.specs.Numbers as number
 use Rattle.parts.specs.Parts.{put}
-use Rattle.link.specs.Bits.{wire, pack}
-use Rattle.link.specs.Fcs.{register, preset, residue, fcs}
-use Rattle.link.specs.Frame.{flag, stuff, contentOf, frame, filled, framed}
-use Rattle.link.specs.Transmit as transmit
-use Rattle.link.specs.declared.Receiver.{Receiver}
-use Rattle.link.specs.Receiver.{hunting, opened, runs, view, image}
-use Rattle.link.specs.Receive.{atFlag, reading, outputAfter}
-use Rattle.link.proofs.Bits.{AreBits, AreBytes, none, more, bits-append, bits-wire, length-wire, wire-append, length-pack, pack-wire, wire-pack}
-use Rattle.link.proofs.Check.{good-residue}
+use Rattle.wire.specs.Bits.{wire, pack}
+use Rattle.wire.specs.Fcs.{register, preset, residue, fcs}
+use Rattle.wire.specs.Frame.{flag, stuff, contentOf}
+use Rattle.transmitter.specs.Frame.{frame, filled, framed}
+use Rattle.transmitter.specs.Transmit as transmit
+use Rattle.receiver.specs.declared.Receiver.{Receiver}
+use Rattle.receiver.specs.Receiver.{hunting, opened, runs, view, image}
+use Rattle.receiver.specs.Receive.{atFlag, reading, outputAfter}
+use Rattle.wire.proofs.Bits.{AreBits, AreBytes, none, more, bits-append, bits-wire, length-wire, wire-append, length-pack, pack-wire, wire-pack}
+use Rattle.wire.proofs.Check.{good-residue}
 use Rattle.promises.specs.Wire.{found}
 use Rattle.promises.specs.Calls.{Accepted, Gives}
 use Rattle.promises.proofs.Steps.{goes-on}

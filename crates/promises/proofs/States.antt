@@ -10,12 +10,13 @@ use borrow.Author.Tests.{le-leb, eqb-true, ltb-true, ltb-false}
 use lib.Dec.{eqb, ltb, lit≤}
 use lib.ListN.{length, take, drop, replicate, length-append, length-take, length-drop, length-replicate, take-append-drop}
 use lib.Seq.{take-at, drop-at}
-use Rattle.link.specs.Bits.{wire, num, pack}
-use Rattle.link.specs.Receiver.{State, push, next, view, image, fieldsFit, inRange}
-use Rattle.link.specs.Receive.{reading}
-use Rattle.link.specs.declared.Receiver.{Receiver}
-use Rattle.link.proofs.Bits.{Bit, AreBits, AreBytes, none, more, bits-append, bits-take, bits-drop, bits-wire, bits-zeros, length-wire, length-pack, pack-wire, wire-pack}
-use Rattle.link.proofs.Fields.{both, Fields, fields}
+use Rattle.wire.specs.Bits.{wire, num, pack}
+use Rattle.receiver.specs.Receiver.{State, push, next, view, image, fieldsFit, inRange}
+use Rattle.receiver.specs.Receive.{reading}
+use Rattle.receiver.specs.declared.Receiver.{Receiver}
+use Rattle.wire.proofs.Bits.{Bit, AreBits, AreBytes, none, more, bits-append, bits-take, bits-drop, bits-wire, bits-zeros, length-wire, length-pack, pack-wire, wire-pack}
+use Rattle.wire.proofs.Tests.{both}
+use Rattle.receiver.proofs.Fields.{Fields, fields}
 use Rattle.promises.specs.Wire.{hunter}
 use Rattle.promises.proofs.Steps.{split}
 use Rattle.promises.proofs.Calls.{call-state}

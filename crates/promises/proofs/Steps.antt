@@ -11,12 +11,12 @@ use lib.Dec.{eqb, ltb, lit<, lit≤}
 use lib.ListN.{length, take, drop, replicate, length-append, length-take}
 use lib.Seq.{take-all, take-append-le, take-take, take-at, drop-drop}
 use Rattle.numbers.specs.Numbers as number
-use Rattle.link.specs.Fcs.{register, preset, residue}
-use Rattle.link.specs.Frame.{flag}
-use Rattle.link.specs.Receiver.{State, Stop, hunting, opened, push, next, decides, runs}
-use Rattle.link.specs.Receive.{bare, atFlag, concluded, reading}
-use Rattle.link.proofs.Bits.{AreBits, none, more}
-use Rattle.link.proofs.Machine.{runs-go, runs-stop}
+use Rattle.wire.specs.Fcs.{register, preset, residue}
+use Rattle.wire.specs.Frame.{flag}
+use Rattle.receiver.specs.Receiver.{State, Stop, hunting, opened, push, next, decides, runs}
+use Rattle.receiver.specs.Receive.{bare, atFlag, concluded, reading}
+use Rattle.wire.proofs.Bits.{AreBits, none, more}
+use Rattle.receiver.proofs.Machine.{runs-go, runs-stop}
 use Rattle.promises.specs.Wire.{absent, sixOnes, sevenOnes, unstuff, atAbort, after}
 
 -- a test is true or false

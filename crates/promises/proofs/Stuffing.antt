@@ -10,8 +10,8 @@ use borrow.Author.Tests.{ne-eqb}
 use lib.Dec.{eqb, lit≤}
 use lib.ListN.{length, take, getD, replicate, length-append, length-take, length-drop, length-replicate, getD-replicate}
 use lib.Seq.{getD-take, getD-at}
-use Rattle.link.specs.Frame.{stuff}
-use Rattle.link.proofs.Bits.{AreBits, none, more}
+use Rattle.wire.specs.Frame.{stuff}
+use Rattle.wire.proofs.Bits.{AreBits, none, more}
 use Rattle.promises.specs.Wire.{absent, sixOnes, unstuff}
 use Rattle.promises.proofs.Steps.{ones-on}
 

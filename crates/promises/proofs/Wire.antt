@@ -8,13 +8,13 @@ use native.Mathlib.Omega.{arith}
 use lib.ListN.{length, take, drop, getD, replicate}
 use lib.Seq.{drop-drop, drop-append-add}
 use Rattle.numbers.specs.Numbers as number
-use Rattle.link.specs.Bits.{wire}
-use Rattle.link.specs.Frame.{flag}
-use Rattle.link.specs.declared.Receiver.{Receiver}
-use Rattle.link.specs.Receiver.{State, hunting, opened, view}
-use Rattle.link.specs.declared.Received.{Received}
-use Rattle.link.specs.Receive.{Answer, bare, atFlag, reading, readFrom, received}
-use Rattle.link.proofs.Bits.{bits-wire, bits-drop}
+use Rattle.wire.specs.Bits.{wire}
+use Rattle.wire.specs.Frame.{flag}
+use Rattle.receiver.specs.declared.Receiver.{Receiver}
+use Rattle.receiver.specs.Receiver.{State, hunting, opened, view}
+use Rattle.receiver.specs.declared.Received.{Received}
+use Rattle.receiver.specs.Receive.{Answer, bare, atFlag, reading, readFrom, received}
+use Rattle.wire.proofs.Bits.{bits-wire, bits-drop}
 use Rattle.promises.specs.Wire.{absent, sixOnes, sevenOnes, destuff, atAbort, after, hunter, seen}
 use Rattle.promises.specs.Calls.{Accepted, Gives, StillHunts, receives}
 use Rattle.promises.proofs.Readings.{frame-unended, six-unended, frame-read, shared-zero, abort-read, StillHunting, hunts, first-flag, begun-flag}

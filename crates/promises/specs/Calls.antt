@@ -8,11 +8,11 @@ use lib.ListN.{length, take, drop}
 use Rattle.promises.specs.Wire.{hunter}
 use Rattle.numbers.specs.Numbers as number
 use Rattle.parts.specs.Parts.{put}
-use Rattle.link.specs.declared.Receiver.{Receiver}
-use Rattle.link.specs.declared.Received.{Received}
-use Rattle.link.specs.Bits.{wire}
-use Rattle.link.specs.Receiver.{State, next, ended, decides, inRange}
-use Rattle.link.specs.Receive.{Answer, bare, atFlag, Reading, received, receivedAs, outputAfter}
+use Rattle.receiver.specs.declared.Receiver.{Receiver}
+use Rattle.receiver.specs.declared.Received.{Received}
+use Rattle.wire.specs.Bits.{wire}
+use Rattle.receiver.specs.Receiver.{State, next, ended, decides, inRange}
+use Rattle.receiver.specs.Receive.{Answer, bare, atFlag, Reading, received, receivedAs, outputAfter}
 
 -- a call that is not refused
 pub record Accepted (rx : Receiver) (input : List ℕ) (start : ℕ) (output : List ℕ) : Type 0 where

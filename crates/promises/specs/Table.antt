@@ -6,8 +6,8 @@ use mathlib.Core.Bool.{cond}
 use mathlib.Core.List.{List, [], _∷_}
 use lib.ListN.{length, take, getD, replicate}
 use lib.Dec.{eqb}
-use Rattle.link.specs.Bits.{wire}
-use Rattle.link.specs.Frame.{stuff}
+use Rattle.wire.specs.Bits.{wire}
+use Rattle.wire.specs.Frame.{stuff}
 use Prim.Native.String.{String}
 use Rattle.chip.specs.Event.{Event, frame, sample, upset}
 use Rattle.chip.specs.State.{powerOn}

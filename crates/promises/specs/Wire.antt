@@ -6,9 +6,9 @@ use Prim.Native.Nat.{ℕ, _+_, _-_}
 use lib.Dec.{eqb, ltb}
 use lib.ListN.{length, take, drop, getD, replicate}
 use Rattle.numbers.specs.Numbers as number
-use Rattle.link.specs.Frame.{flag}
-use Rattle.link.specs.Receiver.{State, opened}
-use Rattle.link.specs.Receive.{Answer, bare, Reading, reading}
+use Rattle.wire.specs.Frame.{flag}
+use Rattle.receiver.specs.Receiver.{State, opened}
+use Rattle.receiver.specs.Receive.{Answer, bare, Reading, reading}
 
 -- p stands nowhere in bits
 abbrev pub absent : List ℕ → List ℕ → Type 0

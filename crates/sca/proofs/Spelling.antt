@@ -10,9 +10,9 @@ use borrow.Author.Tests.{eq-eqb, ne-eqb}
 use Rattle.numbers.specs.Numbers as number
 use Rattle.parts.specs.Parts.{part, put}
 use Rattle.parts.proofs.Laws.{put-put, copied-more}
-use Rattle.link.specs.Receive.{received, outputAfter}
-use Rattle.link.specs.declared.Receiver.{Receiver}
-use Rattle.link.specs.declared.Received.{Received}
+use Rattle.receiver.specs.Receive.{received, outputAfter}
+use Rattle.receiver.specs.declared.Receiver.{Receiver}
+use Rattle.receiver.specs.declared.Received.{Received}
 use Rattle.sca.specs.Link.{receiverBytes, receiverOf, packReceived, receiveResult, receiveReceiver, receiveOutput}
 
 -- a list written over from its front to its end is what was written

@@ -28,7 +28,7 @@ use Rattle.adapter.specs.Calls as Calls
 use Rattle.adapter.specs.Calls.{Outcome, Stepped, Cleared}
 use Rattle.adapter.specs.declared.Answer.{Answer}
 use Rattle.adapter.specs.declared.Created.{Created}
-use Rattle.link.proofs.Fields.{both}
+use Rattle.chip.proofs.Steps.{and-left}
 use Rattle.sca.specs.Adapter.{stateBytes, stateIn, isState, packAnswer, Left, left, happened, Backed, backed, steppedBack, Gave, gave, created, emptied}
 use Rattle.sca.proofs.Spelling.{put-all}
 
@@ -36,7 +36,7 @@ use Rattle.sca.proofs.Spelling.{put-all}
 
 pub its-length : (s : List ℕ) → isState s ≡ true → length s ≡ 76
 unfolding isState
-its-length s h = eqb-true (length s) 76 (both (eqb (length s) 76) (spelled (wordsOf 18 s)) h .0)
+its-length s h = eqb-true (length s) 76 (and-left (eqb (length s) 76) (spelled (wordsOf 18 s)) h)
 
 pub is-a-state : (s ws : List ℕ) {r : Bool} → length s ≡ 76 → ws ≡ wordsOf 18 s → r ≡ spelled ws → r ≡ isState s
 unfolding isState

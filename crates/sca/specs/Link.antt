@@ -6,14 +6,14 @@ use lib.Dec.{eqb}
 use lib.ListN.{length, getD}
 use Rattle.numbers.specs.Numbers as number
 use Rattle.parts.specs.Parts.{part}
-use Rattle.link.specs.Transmit.{transmitted}
-use Rattle.link.specs.Transmit as Transmit
-use Rattle.link.specs.Receiver.{image, hunting}
-use Rattle.link.specs.Receive.{received}
-use Rattle.link.specs.Receive as Receive
-use Rattle.link.specs.declared.Sent.{Sent}
-use Rattle.link.specs.declared.Receiver.{Receiver}
-use Rattle.link.specs.declared.Received.{Received}
+use Rattle.transmitter.specs.Transmit.{transmitted}
+use Rattle.transmitter.specs.Transmit as Transmit
+use Rattle.receiver.specs.Receiver.{image, hunting}
+use Rattle.receiver.specs.Receive.{received}
+use Rattle.receiver.specs.Receive as Receive
+use Rattle.transmitter.specs.declared.Sent.{Sent}
+use Rattle.receiver.specs.declared.Receiver.{Receiver}
+use Rattle.receiver.specs.declared.Received.{Received}
 
 -- mode, ones, lead, count, then the content's 20 bytes
 abbrev pub receiverBytes : Receiver → List ℕ

@@ -1,15 +1,15 @@
 // What C and Rust link: every call on numbers and byte slices. include/sca.h is its manual.
-mod receiver;
+mod receiving;
 mod state;
 
 use adapter::Answer;
 use adapter::Created;
 use adapter::KeptNumber;
 use adapter::Verdict;
-use link::Received;
-use link::Sent;
 use numbers::BAD_STATE;
 use numbers::NO_FRAME;
+use receiver::Received;
+use transmitter::Sent;
 ghost use mathlib.Core.Path.{_≡_};
 ghost use Prim.Native.Nat.{_≤_, _<_};
 ghost use lib.ListN.{length};
@@ -46,7 +46,7 @@ pub extern "C" fn sca_transmit(body: &[u8], output: &mut [u8]) -> u64
     ensures { λ r. ⌜ r ≡ calls.transmitResult (now (body .entry)) (now (output .entry)) ⌝ }
     ensures { λ _. ⌜ now (output .exit) ≡ calls.transmitOutput (now (body .entry)) (now (output .entry)) ⌝ }
 {
-    pack_sent(link::transmit(body, output))
+    pack_sent(transmitter::transmit(body, output))
 }
 
 // Makes a receiver new.
@@ -55,8 +55,8 @@ pub extern "C" fn sca_receiver_new(rx: &mut [u8]) -> u64
     ensures { λ r. ⌜ r ≡ calls.newResult (now (rx .entry)) ⌝ }
     ensures { λ _. ⌜ now (rx .exit) ≡ calls.newReceiver (now (rx .entry)) ⌝ }
 {
-    if rx.len() == receiver::BYTES {
-        receiver::spell(link::Receiver::new(), rx);
+    if rx.len() == receiving::BYTES {
+        receiving::spell(receiver::Receiver::new(), rx);
         return wide(NO_FRAME);
     }
     wide(BAD_STATE)
@@ -69,9 +69,9 @@ pub extern "C" fn sca_receive(rx: &mut [u8], input: &[u8], start: usize, output:
     ensures { λ _. ⌜ now (rx .exit) ≡ calls.receiveReceiver (now (rx .entry)) (now (input .entry)) start (now (output .entry)) ⌝ }
     ensures { λ _. ⌜ now (output .exit) ≡ calls.receiveOutput (now (rx .entry)) (now (input .entry)) start (now (output .entry)) ⌝ }
 {
-    if rx.len() == receiver::BYTES {
-        let got = link::receive(receiver::spelled_by(rx), input, start, output);
-        receiver::spell(got.rx, rx);
+    if rx.len() == receiving::BYTES {
+        let got = receiver::receive(receiving::spelled_by(rx), input, start, output);
+        receiving::spell(got.rx, rx);
         return pack_received(got);
     }
     wide(BAD_STATE)

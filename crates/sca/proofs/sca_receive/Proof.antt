@@ -1,6 +1,6 @@
 -- What `receive` gives on the receiver that the bytes spell, spelled and packed.
 use borrow.Author.Needs.{needs}
-use Rattle.link.proofs.Bounds.{received-small}
+use Rattle.receiver.proofs.Bounds.{received-small}
 use Rattle.sca.proofs.Spelling.{read-bytes, read-refused}
 use Rattle.sca.proofs.sca_receive.Statement.{statement}
 use Rattle.sca.proofs.sca_receive.Tie as tie

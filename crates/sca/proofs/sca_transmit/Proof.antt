@@ -1,7 +1,7 @@
 -- What `transmit` gives, packed.
 use mathlib.Core.Path.{_∙_, ap}
 use borrow.Author.Needs.{needs}
-use Rattle.link.proofs.Bounds.{sent-small}
+use Rattle.transmitter.proofs.Bounds.{sent-small}
 use Rattle.sca.specs.Link.{packSent}
 use Rattle.sca.proofs.sca_transmit.Statement.{statement}
 use Rattle.sca.proofs.sca_transmit.Tie as tie

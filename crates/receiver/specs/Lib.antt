@@ -1,0 +1,3 @@
+pub mod Receiver
+pub mod Receive
+pub mod Inner

@@ -1,0 +1,3 @@
+pub mod Frame
+pub mod Transmit
+pub mod Inner

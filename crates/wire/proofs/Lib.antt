@@ -1,0 +1,4 @@
+pub mod Bits
+pub mod Tests
+pub mod Check
+pub mod OneOutcome
