@@ -14,7 +14,7 @@ use Rattle.journal.specs.Record.{sound}
 use Rattle.adapter.specs.Calls.{Stepped, steppedBack}
 use Rattle.listing.specs.Line as Line
 use Rattle.listing.specs.Answer.{answerText}
-use Rattle.listing.specs.Play.{noReply, heard, answerOf, Turn, turn, answers}
+use Rattle.player.specs.Play.{noReply, heard, answerOf, Turn, turn, answers}
 use Rattle.promises.specs.Runs.{Call, event, back, Given, Calls}
 use Rattle.promises.specs.Ours.{ours, handed}
 use Rattle.promises.specs.Table.{line, lines}
