@@ -29,6 +29,6 @@ part 'The chip' crates/bits/specs/*.antt crates/commands/specs/*.antt crates/reg
 part 'The calls and the journal' crates/adapter/specs/*.antt crates/journal/specs/*.antt
 part 'Demand 3' crates/promises/specs/Runs.antt crates/promises/specs/Ours.antt
 part 'The table' crates/promises/specs/Table.antt crates/promises/specs/Text.antt
-part 'The listing' crates/listing/specs/*.antt
+part 'The listing' crates/listing/specs/*.antt crates/player/specs/*.antt
 part 'The exports' crates/sca/specs/*.antt
 echo "$all in all"

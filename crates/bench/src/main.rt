@@ -1,11 +1,11 @@
-// The bench program: a listing on standard input, its answers on standard output. What matters is in `listing`; here it is only read,
+// The bench program: a listing on standard input, its answers on standard output. What matters is in `player`; here it is only read,
 // fed and written. The answers to what was read are written before the next read.
 use chip::Adapter;
 use libc::STDERR_FILENO;
 use libc::STDIN_FILENO;
 use libc::STDOUT_FILENO;
-use listing::play::ANSWER_ROOM;
-use listing::play::LINE_ROOM;
+use player::ANSWER_ROOM;
+use player::LINE_ROOM;
 ghost use Prim.Native.Nat.{_≤_};
 ghost use lib.ListN.{length};
 
@@ -47,7 +47,7 @@ fn feed(
     ensures { λ r. ⌜ r .count ≤ 81 ⌝ }
 {
     let a = b.adapter;
-    let r = listing::play::feed(a, b.count, journal, line, block, out);
+    let r = player::feed(a, b.count, journal, line, block, out);
     let more = flush(out, r.next);
     let next = r.adapter;
     Bench {
@@ -68,7 +68,7 @@ fn finish(
     ensures { λ r. ⌜ r .count ≤ 81 ⌝ }
 {
     let a = b.adapter;
-    let r = listing::play::finish(a, b.count, journal, line, out);
+    let r = player::finish(a, b.count, journal, line, out);
     flush(out, r.next);
     let next = r.adapter;
     Bench {
@@ -114,7 +114,7 @@ fn run(
     line: &mut [u8; LINE_ROOM],
     out: &mut [u8; OUTPUT_ROOM],
 ) {
-    let a = listing::play::start();
+    let a = player::start();
     let mut b = Bench {
         adapter: a,
         count: 0,

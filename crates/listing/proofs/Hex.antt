@@ -13,11 +13,11 @@ use Rattle.listing.specs.Characters.{between, isHex, hexValue, allHex, a
 
 -- ---- ranges of characters
 
-and-left : (x y : Bool) → (x && y) ≡ true → x ≡ true
+pub and-left : (x y : Bool) → (x && y) ≡ true → x ≡ true
 and-left true y h = refl
 and-left false y h = h
 
-and-right : (x y : Bool) → (x && y) ≡ true → y ≡ true
+pub and-right : (x y : Bool) → (x && y) ≡ true → y ≡ true
 and-right true y h = h
 and-right false y h = absurd-false y h
   where

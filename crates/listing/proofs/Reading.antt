@@ -7,12 +7,13 @@ use native.Mathlib.Omega.{arith}
 use lib.ListN.{length, take, drop, getD, length-drop}
 use lib.Seq.{take-all}
 use lib.Dec.{eqb, leb, ltb}
-use borrow.Author.Tests.{le-leb, lt-leb, eq-eqb, ne-eqb}
+use borrow.Author.Tests.{le-leb, lt-leb, leb-true, eq-eqb, ne-eqb, eqb-true}
 use Rattle.parts.specs.Words.{word}
 use Rattle.listing.specs.declared.Form.{Form}
 use Rattle.listing.specs.declared.Form.the-variants.{Frame, Completion, Sample, Upset, Back, Unreadable}
 use Rattle.listing.specs.Characters.{between, arePairs, pairBytes, frontPair}
 use Rattle.listing.specs.Line.{isFrame, isCompletion, isSample, isLetter, formOf, topFirst}
+use Rattle.listing.proofs.Hex.{and-left, and-right}
 
 -- a part that goes to the end
 pub to-end : (k : ℕ) (l : List ℕ) → take (length l - k) (drop k l) ≡ drop k l
@@ -108,3 +109,60 @@ module _ (l : List ℕ) (f : Bool) (ef : f ≡ isFrame l) where
           form-none h = simp (sym ef ∙ f-not, sym es ∙ s-not, sym ep ∙ p-not, sym eu ∙ u-not, sym eb ∙ h)
 
 pub ruleset forms = (form-frame, form-completion, form-sample, form-upset, form-back, form-none)
+
+-- ---- how long each form is
+
+chosen : (f s p u b : Bool) → Form
+chosen f s p u b = cond f Frame (cond s Completion (cond p Sample (cond u Upset (cond b Back Unreadable))))
+
+no : {A : Type 0} → _≡_ {A = ℕ} 0 1 → A
+no e = let f : ⊥ = omega arith in absurd f
+
+only-frame : (f s p u b : Bool) → chosen f s p u b ≡ Frame → f ≡ true
+unfolding chosen
+only-frame true s p u b h = refl
+only-frame false true p u b h = no (cc)
+only-frame false false true u b h = no (cc)
+only-frame false false false true b h = no (cc)
+only-frame false false false false true h = no (cc)
+only-frame false false false false false h = no (cc)
+
+only-completion : (f s p u b : Bool) → chosen f s p u b ≡ Completion → s ≡ true
+unfolding chosen
+only-completion f true p u b h = refl
+only-completion true false p u b h = no (cc)
+only-completion false false true u b h = no (cc)
+only-completion false false false true b h = no (cc)
+only-completion false false false false true h = no (cc)
+only-completion false false false false false h = no (cc)
+
+only-sample : (f s p u b : Bool) → chosen f s p u b ≡ Sample → p ≡ true
+unfolding chosen
+only-sample f s true u b h = refl
+only-sample true s false u b h = no (cc)
+only-sample false true false u b h = no (cc)
+only-sample false false false true b h = no (cc)
+only-sample false false false false true h = no (cc)
+only-sample false false false false false h = no (cc)
+
+module _ (l : List ℕ) (f : Form) (e : f ≡ formOf l) where
+  frame-between : f ≡ Frame → (leb 6 (length l) && leb (length l) 80) ≡ true
+  unfolding formOf chosen isFrame
+  frame-between h =
+      and-left _ _ (only-frame (isFrame l) (isCompletion l) (isSample l) (isLetter 85 l) (isLetter 66 l) (sym e ∙ h))
+
+  pub frame-six : f ≡ Frame → 6 ≤ length l
+  frame-six h = leb-true 6 (length l) (and-left _ (leb (length l) 80) (frame-between h))
+
+  pub frame-eighty : f ≡ Frame → length l ≤ 80
+  frame-eighty h = leb-true (length l) 80 (and-right (leb 6 (length l)) _ (frame-between h))
+
+  pub completion-fits : f ≡ Completion → length l ≡ 34
+  unfolding formOf chosen isCompletion
+  completion-fits h =
+      eqb-true (length l) 34 (and-left _ _ (only-completion (isFrame l) (isCompletion l) (isSample l) (isLetter 85 l) (isLetter 66 l) (sym e ∙ h)))
+
+  pub sample-fits : f ≡ Sample → length l ≡ 12
+  unfolding formOf chosen isSample
+  sample-fits h =
+      eqb-true (length l) 12 (and-left _ _ (only-sample (isFrame l) (isCompletion l) (isSample l) (isLetter 85 l) (isLetter 66 l) (sym e ∙ h)))

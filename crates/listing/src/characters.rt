@@ -24,7 +24,7 @@ fn is_hex(c: u8) -> bool
 }
 
 // The value of a hex digit, and 0 for any other character.
-pub(crate) fn hex_value(c: u8) -> u8
+pub fn hex_value(c: u8) -> u8
     ensures { λ r. ⌜ r ≡ hexValue c ⌝ }
 {
     if between(48, 57, c) {
@@ -72,7 +72,7 @@ fn pair_at(s: &[u8], at: usize) -> u8
 }
 
 // Reads as many bytes from the pairs at the front of s as there is room for.
-pub(crate) fn load_pairs(s: &[u8], bytes: &mut [u8])
+pub fn load_pairs(s: &[u8], bytes: &mut [u8])
     requires { ⌜ 2 * length (now bytes) ≤ length (now s) ⌝ }
     ensures { λ _. ⌜ now (bytes .exit) ≡ pairBytes (length (now (bytes .entry))) (now (s .entry)) ⌝ }
 {

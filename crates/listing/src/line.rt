@@ -78,7 +78,7 @@ pub fn form_of(l: &[u8]) -> Form
 }
 
 // The levels of a sample's line, the top digit first.
-pub(crate) fn levels(l: &[u8]) -> u32
+pub fn levels(l: &[u8]) -> u32
     requires { ⌜ length (now l) ≡ 12 ⌝ }
     ensures { λ r. ⌜ r ≡ topFirst (pairBytes 4 (drop 2 (now (l .entry)))) ⌝ }
 {

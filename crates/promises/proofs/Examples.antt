@@ -29,8 +29,8 @@ use Rattle.chip.specs.Chip.{reaction, onSample, onUpset}
 use Rattle.listing.specs.Characters.{isHex, hexValue, allHex, arePairs, pairBytes, hexDigit, hexText}
 use Rattle.listing.specs.Line as Line
 use Rattle.listing.specs.Answer.{decimal, frameText, answerText}
-use Rattle.listing.specs.Play as Listing
-use Rattle.listing.specs.Play.{linesFrom}
+use Rattle.player.specs.Play as Listing
+use Rattle.player.specs.Play.{linesFrom}
 use Rattle.promises.specs.Runs.{Call, event, back, empty, AllOfTheirTypes, atStart}
 use Rattle.promises.specs.Ours.{ours}
 use Rattle.promises.specs.Text.{text}

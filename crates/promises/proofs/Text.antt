@@ -13,7 +13,7 @@ use Rattle.adapter.specs.Refusals.{backVerdict}
 use Rattle.adapter.specs.Calls.{judgedBack, steppedBack}
 use Rattle.listing.specs.Line as Line
 use Rattle.listing.specs.Answer.{answerText}
-use Rattle.listing.specs.Play.{noReply, heard, answerOf, Turn, turn, answers}
+use Rattle.player.specs.Play.{noReply, heard, answerOf, Turn, turn, answers}
 use Rattle.promises.specs.Runs.{Call, event, back, Given, Calls}
 use Rattle.promises.specs.Ours.{ours, handed}
 use Rattle.promises.specs.Table.{line, lines}

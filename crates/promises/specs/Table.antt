@@ -12,7 +12,7 @@ use Prim.Native.String.{String}
 use Rattle.chip.specs.Event.{Event, frame, sample, upset}
 use Rattle.chip.specs.State.{powerOn}
 use Rattle.chip.specs.Chip.{reaction}
-use Rattle.listing.specs.Play as Listing
+use Rattle.player.specs.Play as Listing
 use Rattle.promises.specs.Text.{text}
 use Rattle.promises.specs.Runs.{Call, event, back, empty, Given, Calls}
 use Rattle.promises.specs.Ours.{ours}

@@ -28,7 +28,7 @@ use Rattle.adapter.specs.Calls as Calls
 use Rattle.adapter.specs.Calls.{Outcome, Stepped, Cleared}
 use Rattle.adapter.specs.declared.Answer.{Answer}
 use Rattle.adapter.specs.declared.Created.{Created}
-use Rattle.chip.proofs.Steps.{and-left}
+use Rattle.chip.proofs.Steps.{and-left, and-right}
 use Rattle.sca.specs.Adapter.{stateBytes, stateIn, isState, packAnswer, Left, left, happened, Backed, backed, steppedBack, Gave, gave, created, emptied}
 use Rattle.sca.proofs.Spelling.{put-all}
 
@@ -73,7 +73,7 @@ unfolding isState stateOf
 state-again s h b =
     let n = its-length s h in
     ap₂ (λ (x y : List ℕ). x ++ y)
-    (image-bytes (frontWord (drop 72 s)) s b (both (eqb (length s) 76) (spelled (wordsOf 18 s)) h .1) ∙ bytes-words 18 s b (omega arith))
+    (image-bytes (frontWord (drop 72 s)) s b (and-right (eqb (length s) 76) (spelled (wordsOf 18 s)) h) ∙ bytes-words 18 s b (omega arith))
     (id-bytes s b n)
     ∙ take-append-drop 72 s
 
@@ -170,7 +170,7 @@ module _ (s journal : List ℕ) (ranged : Bool) (in-range : ranged ≡ (isState 
       let g = granted q in
       let newest : List ℕ = past version1 journal 0 in
       let image = restored-bytes s newest (its-length s (g .0)) b (bytes-part _ 256 journal c)
-      (both (spelled (wordsOf 18 newest)) (inRange (restored (stateIn s) newest)) (g .1 .restorable) .0) in
+      (and-left (spelled (wordsOf 18 newest)) (inRange (restored (stateIn s) newest)) (g .1 .restorable)) in
       rw (g .0, ← a-state (g .0), q, image)
       (ap₂ (λ (x : ℕ) (y : List ℕ). backed x s′ y) e f ∙ ap (λ (y : List ℕ). backed 17 y (lowered journal)) d)
 

@@ -1,0 +1,4 @@
+pub mod Hearing
+pub mod Feeding
+pub mod Whole
+pub mod OneOutcome

@@ -1,0 +1,68 @@
+-- One line played, and a whole listing, from all input bytes to all output bytes.
+use Prim.Native.Nat.{ℕ}
+use mathlib.Core.Bool.{Bool, cond}
+use mathlib.Core.List.{List, [], _∷_, _++_}
+use lib.ListN.{take, replicate}
+use lib.Dec.{eqb}
+use Rattle.chip.specs.declared.Adapter.{Adapter}
+use Rattle.numbers.specs.Numbers as numbers
+use Rattle.journal.specs.Layout.{version1, sizeOf}
+use Rattle.adapter.specs.Calls.{Outcome, outcome, plain, called, steppedBack, keptIn, created, madeEmpty}
+use Rattle.listing.specs.Characters.{lineFeed}
+use Rattle.listing.specs.Line.{Line, happens, back, unreadable, read}
+use Rattle.listing.specs.Answer.{answerText}
+
+-- ---- one line
+
+-- what a line does: its event, a step back, or nothing and the answer 10
+abbrev pub heard : Adapter → List ℕ → Line → List ℕ → Outcome
+heard a journal (happens e) reply = called a journal e reply
+heard a journal back reply = outcome (steppedBack a journal .answer) (steppedBack a journal .journal) reply
+heard a journal unreadable reply = outcome (plain a numbers.unreadable) journal reply
+
+-- room for a body of 16 bytes
+abbrev pub noReply : List ℕ
+noReply = replicate 16 0
+
+-- the answer's line, with the kept number as it is after the call
+abbrev pub answerOf : Outcome → List ℕ
+answerOf o = answerText (o .answer .number) (keptIn (o .journal) .kept) (o .answer .port) (take (o .answer .length) (o .output))
+
+-- what a line leaves, and its output line
+pub record Turn : Type 0 where
+  pub adapter : Adapter
+  pub journal : List ℕ
+  pub text : List ℕ
+
+unfoldable pub turn : Adapter → List ℕ → List ℕ → Turn
+turn a journal line =
+    let o = heard a journal (read line) noReply in
+    record { adapter = o .answer .adapter; journal = o .journal; text = answerOf o }
+
+-- ---- a whole listing
+
+-- after the final LF no line follows
+abbrev pub lastLine : List ℕ → List (List ℕ)
+lastLine [] = []
+lastLine (c ∷ l) = (c ∷ l) ∷ []
+
+-- LF ends a line; the last may lack it. The line so far stands before the rest of the input.
+unfoldable pub linesFrom : List ℕ → List ℕ → List (List ℕ)
+linesFrom l [] = lastLine l
+linesFrom l (b ∷ s) = cond (eqb b lineFeed) (l ∷ linesFrom [] s) (linesFrom (l ++ (b ∷ [])) s)
+
+-- each line's answer, one after the other
+unfoldable pub answers : Adapter → List ℕ → List (List ℕ) → List ℕ
+answers a journal [] = []
+answers a journal (l ∷ ls) = turn a journal l .text ++ answers (turn a journal l .adapter) (turn a journal l .journal) ls
+
+-- the listing's chip ID
+abbrev pub chipId : ℕ
+chipId = 0x00000A
+
+-- a journal that the emptying call made of zeros
+abbrev pub emptyJournal : List ℕ
+emptyJournal = madeEmpty (replicate (sizeOf version1) 0) .journal
+
+unfoldable pub played : List ℕ → List ℕ
+played input = answers (created chipId .adapter) emptyJournal (linesFrom [] input)
