@@ -4,6 +4,8 @@ pub mod Text
 pub mod ShutOut
 pub mod Runs
 pub mod Refused
+pub mod Exported
+pub mod ExportsRefused
 pub mod Standing
 pub mod KeptNumber
 pub mod Wire

@@ -108,38 +108,43 @@ transmit-unchanged body output h = record { bytes = bytes-by fits room h; count 
     count-by true false q = refl
     count-by true true q = absurd (false≢true q)
 
--- what a reading answers is no refusal
-flag-answer : (long few whole good : Bool) (body : List ℕ)
-    → isRefusal (cond few (receive.bare 17) (cond long (receive.bare 21) (cond whole (cond good (record { number = 0; body = body }) (receive.bare 23)) (receive.bare 22))) .number) ≡ false
-flag-answer long true whole good body = refl
-flag-answer true false whole good body = refl
-flag-answer false false false good body = refl
-flag-answer false false true true body = refl
-flag-answer false false true false body = refl
+-- the numbers that a reading answers
+module _ (P : ℕ → Type 0) (p0 : P 0) (p17 : P 17) (p21 : P 21) (p22 : P 22) (p23 : P 23) (p24 : P 24) where
+  flag-number : (few long whole good : Bool) (body : List ℕ)
+      → P (cond few (receive.bare 17) (cond long (receive.bare 21) (cond whole (cond good (record { number = 0; body = body }) (receive.bare 23)) (receive.bare 22))) .number)
+  flag-number true long whole good body = p17
+  flag-number false true whole good body = p21
+  flag-number false false false good body = p22
+  flag-number false false true true body = p0
+  flag-number false false true false body = p23
 
-at-flag : (content : List ℕ) → isRefusal (atFlag content .number) ≡ false
-unfolding atFlag
-at-flag content =
-    flag-answer (ltb 144 (length content)) (ltb (length content) 32) (eqb (length content % 8) 0) (eqb (register preset content) residue)
-    (take (length content / 8 - 2) (pack content))
+  at-flag : (content : List ℕ) → P (atFlag content .number)
+  unfolding atFlag
+  at-flag content =
+      flag-number (ltb (length content) 32) (ltb 144 (length content)) (eqb (length content % 8) 0) (eqb (register preset content) residue)
+      (take (length content / 8 - 2) (pack content))
 
-read-answer : (p : Stop) → isRefusal (concluded p .answer .number) ≡ false
-read-answer p = go (eqb (p .hit) 0) (eqb (p .hit) 1)
-  where
-    stop : Bool → Bool → Reading
-    stop x y =
-        cond x (record { answer = receive.bare 17; state = p .state; consumed = p .used })
-        (cond y (record { answer = atFlag (take (ended (p .state) 0) (p .state .content)); state = receiver.opened; consumed = p .used })
-        (record { answer = receive.bare 24; state = receiver.hunting; consumed = p .used }))
+  stop-number : (p : Stop) → P (concluded p .answer .number)
+  stop-number p = go (eqb (p .hit) 0) (eqb (p .hit) 1)
+    where
+      stop : Bool → Bool → Reading
+      stop x y =
+          cond x (record { answer = receive.bare 17; state = p .state; consumed = p .used })
+          (cond y (record { answer = atFlag (take (ended (p .state) 0) (p .state .content)); state = receiver.opened; consumed = p .used })
+          (record { answer = receive.bare 24; state = receiver.hunting; consumed = p .used }))
 
-    go : (x y : Bool) → isRefusal (stop x y .answer .number) ≡ false
-    go true y = refl
-    go false true = at-flag _
-    go false false = refl
+      go : (x y : Bool) → P (stop x y .answer .number)
+      go true y = p17
+      go false true = at-flag _
+      go false false = p24
 
+  pub reading-number : (s : State) (bits : List ℕ) → P (reading s bits .answer .number)
+  unfolding reading
+  reading-number s bits = stop-number (runs s 0 bits)
+
+-- are no refusals
 reading-answer : (s : State) (bits : List ℕ) → isRefusal (reading s bits .answer .number) ≡ false
-unfolding reading
-reading-answer s bits = read-answer (runs s 0 bits)
+reading-answer s bits = reading-number (λ n. isRefusal n ≡ false) refl refl refl refl refl refl s bits
 
 -- a receiver: it and the output as they came, no bit consumed
 pub record Unmoved (rx : Receiver) (input : List ℕ) (start : ℕ) (output : List ℕ) : Type 0 where

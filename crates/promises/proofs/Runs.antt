@@ -509,3 +509,14 @@ enough-standing r = inv-end r .enough
 
 pub at-most-64 : (r : Run) → standing r .number ≤ 64
 at-most-64 r = subst (λ (n : ℕ). n ≤ 64) (inv-end r .number) (inv-end r .well .few)
+
+-- What a run leaves, and what a step back after it leaves, holds what the state's types hold.
+pub state-fits : (r : Run) → Fits (left ours r .adapter)
+unfolding pair
+state-fits r = rw (at-end r) (after-fits (r .id) (r .id-fits) (standing r .events) (inv-end r .fit))
+
+pub back-fits : (r : Run) → Fits (leavesOurs (left ours r) back .adapter)
+unfolding pair
+back-fits r =
+    let x = step (r .id) (r .id-fits) (standing r) (last r) (inv-end r) back tt in
+    rw (at-end r, x .leaves-eq) (after-fits (r .id) (r .id-fits) (keeps (standing r) back .events) (x .inv .fit))

@@ -7,18 +7,18 @@ use native.Mathlib.Omega.{arith}
 use borrow.Author.Tests.{eq-eqb, ne-eqb, eqb-true}
 use lib.Dec.{eqb}
 use lib.ListN.{length, take, drop, getD, length-append, length-drop, take-append-drop}
-use lib.Seq.{take-all}
+use lib.Seq.{take-all, drop-at}
 use Rattle.numbers.specs.Numbers as number
 use Rattle.parts.specs.Parts.{put}
 use Rattle.parts.specs.Words.{bytesOf, wordsOf, frontWord}
-use Rattle.parts.proofs.Laws.{put-put, length-bytes, AreBytes, bytes-drop, bytes-part, length-words, bytes-words}
+use Rattle.parts.proofs.Laws.{put-put, length-bytes, AreBytes, bytes-drop, bytes-part, length-words, bytes-words, words-bytes, none, more}
 use Rattle.chip.specs.Event.{Event}
 use Rattle.chip.specs.declared.Adapter.{Adapter}
 use Rattle.chip.specs.State.{powerOn, inRange}
 use Rattle.journal.specs.Image.{imageWords, stateOf, spelled}
 use Rattle.journal.specs.Layout.{version1, past, lowered}
 use Rattle.journal.specs.Record.{restored, sound}
-use Rattle.journal.proofs.Spelling.{image-bytes}
+use Rattle.journal.proofs.Spelling.{image-words, state-image, image-spelled, image-bytes}
 use Rattle.adapter.specs.Refusals.{backVerdict}
 use Rattle.adapter.specs.declared.Verdict.{Verdict}
 use Rattle.adapter.specs.declared.Verdict.the-variants.{Refused, Passed}
@@ -28,6 +28,7 @@ use Rattle.adapter.specs.Calls as Calls
 use Rattle.adapter.specs.Calls.{Outcome, Stepped, Cleared}
 use Rattle.adapter.specs.declared.Answer.{Answer}
 use Rattle.adapter.specs.declared.Created.{Created}
+use Rattle.chip.proofs.Fits.{Fits}
 use Rattle.chip.proofs.Steps.{and-left, and-right}
 use Rattle.sca.specs.Adapter.{stateBytes, stateIn, isState, packAnswer, Left, left, happened, Backed, backed, steppedBack, Gave, gave, created, emptied}
 use Rattle.sca.proofs.Spelling.{put-all}
@@ -86,6 +87,28 @@ restored-bytes s r n b c h =
     let k : 72 ≡ 0 + length (bytesOf (wordsOf 18 r)) = omega arith in
     ap₂ (λ (x y : List ℕ). x ++ y) (image-bytes (frontWord (drop 72 s)) r c h) (id-bytes s b n)
     ∙ ap (λ (x : ℕ). bytesOf (wordsOf 18 r) ++ drop x s) k
+
+-- a state is read back from its bytes
+module _ (a : Adapter) (f : Fits a) where
+  image-back : (rest : List ℕ) → wordsOf 18 (bytesOf (imageWords a) ++ rest) ≡ imageWords a
+  unfolding imageWords
+  image-back rest = words-bytes (image-words a f) rest
+
+  id-back : frontWord (drop 72 (stateBytes a)) ≡ a .id
+  unfolding wordsOf bytesOf
+  id-back =
+      ap frontWord (drop-at (bytesOf (imageWords a)) (bytesOf (a .id ∷ [])) 72 (length-image a))
+      ∙ ap (λ (l : List ℕ). getD l 0 0) (words-bytes (more (f .id) none) [])
+
+  pub state-back : stateIn (stateBytes a) ≡ a
+  state-back = ap₂ stateOf id-back (image-back (bytesOf (a .id ∷ []))) ∙ state-image a f (a .id) refl
+
+  pub state-bytes : isState (stateBytes a) ≡ true
+  unfolding isState
+  state-bytes =
+      let k : length (bytesOf (a .id ∷ [])) ≡ 4 = length-bytes (a .id ∷ []) in
+      let n : length (stateBytes a) ≡ 76 = simp length-append (omega (arith, length-image a)) in
+      rw (eq-eqb (length (stateBytes a)) 76 n, image-back (bytesOf (a .id ∷ []))) (image-spelled a f)
 
 -- one word
 pub first-word : (ws s : List ℕ) → ws ≡ wordsOf 1 s → getD ws 0 0 ≡ frontWord s
