@@ -1,6 +1,6 @@
 //! The calls of a stream, and their text: a stream that fails is printed so, and can be run again.
 
-use crate::hex::{bytes_in, Hex};
+use crate::harness::hex::{bytes_in, Hex};
 use std::fmt;
 
 /// Cable bytes: those written out, then zeros.

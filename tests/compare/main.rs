@@ -11,61 +11,27 @@
 
 mod bits;
 mod calls;
-mod chance;
 mod fault;
-mod hex;
-mod output;
+#[path = "../harness/mod.rs"]
+mod harness;
 mod receiver;
 mod run;
 mod shrink;
 mod streams;
 
 use calls::Call;
-use chance::Chance;
 use fault::{Fault, FAULTS};
+use harness::chance::Chance;
+use harness::options::Options;
+use harness::report::{all, list, say};
 use run::{Run, Tally};
 use std::process::ExitCode;
-
-struct Options {
-    seed: u64,
-    streams: u64,
-    only: Option<u64>,
-    replay: Option<String>,
-    faults: bool,
-}
-
-fn options() -> Option<Options> {
-    let mut options = Options {
-        seed: 1,
-        streams: 120_000,
-        only: None,
-        replay: None,
-        faults: false,
-    };
-    let mut words = std::env::args().skip(1);
-    while let Some(word) = words.next() {
-        match word.as_str() {
-            "--seed" => options.seed = words.next()?.parse().ok()?,
-            "--streams" => options.streams = words.next()?.parse().ok()?,
-            "--only" => options.only = Some(words.next()?.parse().ok()?),
-            "--replay" => options.replay = Some(words.next()?),
-            "--break" => options.faults = true,
-            _ => return None,
-        }
-    }
-    Some(options)
-}
 
 /// A stream's first difference, and whether the fault was laid in.
 fn run(calls: &[Call], fault: Option<Fault>, tally: &mut Tally) -> (Option<String>, bool) {
     let mut run = Run::new(tally, fault);
     let difference = run.all(calls).err();
     (difference, run.faulted)
-}
-
-fn say(holds: bool, what: &str) -> bool {
-    println!("{} {}", if holds { "ok  " } else { "FAIL" }, what);
-    holds
 }
 
 /// Prints a failing stream, made short.
@@ -81,10 +47,7 @@ fn show(calls: &[Call]) {
 
 fn compare(options: &Options) -> bool {
     let mut tally = Tally::new();
-    let numbers = match options.only {
-        Some(only) => only..only + 1,
-        None => 0..options.streams,
-    };
+    let numbers = options.numbers();
     println!(
         "seed {}, streams {} to {}",
         options.seed,
@@ -108,13 +71,6 @@ fn compare(options: &Options) -> bool {
 
 /// That the streams had in them what they are for.
 fn all_seen(tally: &Tally) -> bool {
-    let list = |counts: &[u64]| {
-        let seen = counts.iter().enumerate().filter(|(_, count)| **count > 0);
-        seen.map(|(number, count)| format!("{}: {}", number, count))
-            .collect::<Vec<_>>()
-            .join(", ")
-    };
-    let all = |counts: &[u64], numbers: &[usize]| numbers.iter().all(|number| counts[*number] > 0);
     let lengths: Vec<usize> = (2..=16).collect();
     let seen = |holds, what: &str, counts: &[u64]| say(holds, &format!("{} ({})", what, list(counts)));
     let results = [
@@ -190,7 +146,7 @@ fn replay(file: &str) -> bool {
 }
 
 fn main() -> ExitCode {
-    let options = match options() {
+    let options = match Options::given("--streams", 120_000, None) {
         Some(options) => options,
         None => {
             eprintln!("usage: compare [--seed N] [--streams N] [--only STREAM] [--replay FILE] [--break]");

@@ -4,7 +4,7 @@
 use crate::bits::{bits_of, buffer_of};
 use crate::calls::Call;
 use crate::fault::Fault;
-use crate::output::Output;
+use crate::harness::output::Output;
 use crate::receiver::{in_range, way_to};
 use boundary::{Received, Sent, RECEIVER_BYTES};
 use reference::link;

@@ -1,6 +1,6 @@
 //! The calls of a run, and their text: a run that fails is printed so, and can be run again.
 
-use crate::hex::{bytes_in, Hex};
+use crate::harness::hex::{bytes_in, Hex};
 use reference::adapter::State;
 use std::fmt;
 

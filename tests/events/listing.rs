@@ -1,7 +1,7 @@
 //! Random bench listings: the events of runs, with lines among them that cannot be read.
 
 use crate::calls::Call;
-use crate::chance::Chance;
+use crate::harness::chance::Chance;
 use crate::streams::stream;
 use reference::adapter::{self, Journal, State};
 

@@ -11,15 +11,11 @@
 #![forbid(unsafe_code)]
 
 mod calls;
-#[path = "../compare/chance.rs"]
-mod chance;
 mod fault;
-#[path = "../compare/hex.rs"]
-mod hex;
+#[path = "../harness/mod.rs"]
+mod harness;
 mod image;
 mod listing;
-#[path = "../compare/output.rs"]
-mod output;
 mod ring;
 mod run;
 mod shrink;
@@ -27,8 +23,10 @@ mod streams;
 mod tally;
 
 use calls::Call;
-use chance::Chance;
 use fault::{Fault, FAULTS};
+use harness::chance::Chance;
+use harness::options::Options;
+use harness::report::{all, list, say};
 use run::Run;
 use std::process::ExitCode;
 use tally::Tally;
@@ -38,49 +36,11 @@ const EVENTS: u64 = 1_000_000;
 /// The listings written.
 const LISTINGS: u64 = 60;
 
-struct Options {
-    seed: u64,
-    runs: u64,
-    only: Option<u64>,
-    replay: Option<String>,
-    listings: Option<String>,
-    faults: bool,
-}
-
-fn options() -> Option<Options> {
-    let mut options = Options {
-        seed: 1,
-        runs: 5_500,
-        only: None,
-        replay: None,
-        listings: None,
-        faults: false,
-    };
-    let mut words = std::env::args().skip(1);
-    while let Some(word) = words.next() {
-        match word.as_str() {
-            "--seed" => options.seed = words.next()?.parse().ok()?,
-            "--runs" => options.runs = words.next()?.parse().ok()?,
-            "--only" => options.only = Some(words.next()?.parse().ok()?),
-            "--replay" => options.replay = Some(words.next()?),
-            "--listings" => options.listings = Some(words.next()?),
-            "--break" => options.faults = true,
-            _ => return None,
-        }
-    }
-    Some(options)
-}
-
 /// A run's first difference, and whether the fault was laid in.
 fn run(calls: &[Call], fault: Option<Fault>, tally: &mut Tally) -> (Option<String>, bool) {
     let mut run = Run::new(tally, fault);
     let difference = run.all(calls).err();
     (difference, run.faulted)
-}
-
-fn say(holds: bool, what: &str) -> bool {
-    println!("{} {}", if holds { "ok  " } else { "FAIL" }, what);
-    holds
 }
 
 /// A failing run, made short: the difference, and its calls as the states found them.
@@ -101,10 +61,7 @@ fn shortest(calls: &[Call], fault: Option<Fault>) -> (String, Vec<Call>) {
 
 fn compare(options: &Options) -> bool {
     let mut tally = Tally::new();
-    let numbers = match options.only {
-        Some(only) => only..only + 1,
-        None => 0..options.runs,
-    };
+    let numbers = options.numbers();
     println!("seed {}, runs {} to {}", options.seed, numbers.start, numbers.end - 1);
     for number in numbers {
         let calls = streams::stream(&mut Chance::new(options.seed, number));
@@ -125,13 +82,6 @@ fn compare(options: &Options) -> bool {
 
 /// That the runs had in them what they are for.
 fn all_seen(tally: &Tally) -> bool {
-    let list = |counts: &[u64]| {
-        let seen = counts.iter().enumerate().filter(|(_, count)| **count > 0);
-        seen.map(|(number, count)| format!("{}: {}", number, count))
-            .collect::<Vec<_>>()
-            .join(", ")
-    };
-    let all = |counts: &[u64], numbers: &[usize]| numbers.iter().all(|number| counts[*number] > 0);
     let numbers = |what: &str, counts: &[u64], numbers: &[usize]| {
         say(
             all(counts, numbers),
@@ -224,14 +174,14 @@ fn write_listings(seed: u64, folder: &str) -> std::io::Result<()> {
 }
 
 fn main() -> ExitCode {
-    let options = match options() {
+    let options = match Options::given("--runs", 5_500, Some("--listings")) {
         Some(options) => options,
         None => {
             eprintln!("usage: events [--seed N] [--runs N] [--only RUN] [--replay FILE] [--break] [--listings FOLDER]");
             return ExitCode::from(2);
         }
     };
-    let good = match (&options.replay, &options.listings) {
+    let good = match (&options.replay, &options.own) {
         (Some(file), _) => replay(file),
         (_, Some(folder)) => write_listings(options.seed, folder).is_ok(),
         _ if options.faults => find_faults(options.seed),

@@ -3,8 +3,8 @@
 
 use crate::calls::Call;
 use crate::fault::Fault;
+use crate::harness::output::Output;
 use crate::image::{bytes_of, state_in};
-use crate::output::Output;
 use crate::ring::Ring;
 use crate::tally::Tally;
 use boundary::{Answer, JOURNAL_BYTES, STATE_BYTES};

@@ -1,7 +1,7 @@
 //! Random runs that reach deep states: phases, each about one thing.
 
 use crate::calls::{Call, Way};
-use crate::chance::Chance;
+use crate::harness::chance::Chance;
 use crate::image::bytes_of;
 use boundary::{JOURNAL_BYTES, STATE_BYTES};
 use reference::adapter::{Gpio, Spi, State};

@@ -1,6 +1,6 @@
 //! A lent output between bytes that nobody may touch.
 
-use crate::hex::Hex;
+use super::hex::Hex;
 use std::fmt;
 
 #[derive(Clone, PartialEq, Eq)]
