@@ -19,7 +19,8 @@ use Rattle.chip.specs.Frame.{controlOf}
 use Rattle.chip.specs.Chip.{reaction}
 use Rattle.chip.specs.declared.Adapter.{Adapter}
 use Rattle.chip.specs.declared.Reaction.{Reaction}
-use Rattle.chip.proofs.Steps.{cond-cases, Touched, refused, by-controller, by-spi, by-gpio, by-seu, by-id, by-dac, touched-link, step-cases}
+use Rattle.bits.proofs.Tests.{cond-cases}
+use Rattle.chip.proofs.Steps.{Touched, refused, by-controller, by-spi, by-gpio, by-seu, by-id, by-dac, touched-link, step-cases}
 use Rattle.chip.proofs.Replies.{ReplyBytes, control-reply, spi-reply, gpio-reply, seu-reply, id-reply, dac-reply}
 
 -- ---- the number

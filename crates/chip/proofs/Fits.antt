@@ -18,7 +18,8 @@ use Rattle.chip.specs.Chip.{receivedWords, reaction}
 use Rattle.chip.specs.declared.Adapter.{Adapter}
 use Rattle.chip.specs.declared.link.Link.{Link}
 use Rattle.chip.specs.declared.Reaction.{Reaction}
-use Rattle.chip.proofs.Steps.{cond-cases, Touched, refused, by-controller, by-spi, by-gpio, by-seu, by-id, by-dac, step-cases}
+use Rattle.bits.proofs.Tests.{cond-cases}
+use Rattle.chip.proofs.Steps.{Touched, refused, by-controller, by-spi, by-gpio, by-seu, by-id, by-dac, step-cases}
 use Rattle.registers.proofs.Fits.{RequestFits, ControlFits, SpiFits, GpioFits, DacFits, control-zero-fits, spi-zero-fits, gpio-zero-fits, dac-zero-fits, controller-fits, spi-fits, gpio-fits, seu-fits, dac-fits, completed-fits, sampled-fits}
 use Rattle.chip.proofs.Bodies.{Bytes, drop-bytes}
 

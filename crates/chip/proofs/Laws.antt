@@ -19,7 +19,8 @@ use Rattle.chip.specs.Chip.{reaction, acceptedReset}
 use Rattle.chip.specs.declared.Adapter.{Adapter}
 use Rattle.chip.specs.declared.link.Link.{Link}
 use Rattle.chip.specs.declared.Reaction.{Reaction}
-use Rattle.chip.proofs.Steps.{and-left, and-right, or-second, touched-link, touched-id, step-cases}
+use Rattle.bits.proofs.Tests.{and-left, and-right, or-second}
+use Rattle.chip.proofs.Steps.{touched-link, touched-id, step-cases}
 pub use Rattle.chip.proofs.Steps.{step-cases}
 pub use Rattle.chip.proofs.Bodies.{number-given, silent, sendable, sixteen, body-bytes, spelled}
 pub use Rattle.chip.proofs.Fits.{Fits, power-on-fits, fits-kept}

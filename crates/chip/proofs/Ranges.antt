@@ -20,7 +20,8 @@ use Rattle.chip.specs.Chip.{reaction}
 use Rattle.chip.specs.declared.Adapter.{Adapter}
 use Rattle.chip.specs.declared.link.Link.{Link}
 use Rattle.chip.specs.declared.Reaction.{Reaction}
-use Rattle.chip.proofs.Steps.{and-left, and-right, or-second, Touched, refused, by-controller, by-spi, by-gpio, by-seu, by-id, by-dac, step-cases}
+use Rattle.bits.proofs.Tests.{and-left, and-right, or-second}
+use Rattle.chip.proofs.Steps.{Touched, refused, by-controller, by-spi, by-gpio, by-seu, by-id, by-dac, step-cases}
 use Rattle.registers.proofs.Laws.{controller-in-range, spi-zero-is-zero, gpio-zero-is-zero, spi-zero-idle, spi-off, gpio-off, spi-is-zero, gpio-is-zero}
 use Rattle.chip.proofs.Fits.{Fits}
 

@@ -36,7 +36,7 @@ use Rattle.registers.specs.Gpio.{gpioAnswer, actGpio, doGpio}
 use Rattle.registers.specs.Seu.{seuAnswer, actSeu, doSeu}
 use Rattle.registers.specs.ChipId.{idAnswer, actId}
 use Rattle.registers.specs.Dac.{dacAnswer, actDac, doDac}
-use Rattle.chip.proofs.Steps.{cond-cases, and-left, and-right}
+use Rattle.bits.proofs.Tests.{cond-cases, and-left, and-right}
 
 abbrev pub ReplyBytes : Reply → Type 0
 ReplyBytes (Sent error length value) = (error < 256) × (length < 256)

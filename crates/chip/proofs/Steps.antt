@@ -7,6 +7,7 @@ use borrow.Author.Tests.{not-false}
 use lib.Dec.{eqb, lit≤, lit<}
 use lib.ListN.{length, getD, drop}
 use Rattle.bits.specs.Bits.{bitOf}
+use Rattle.bits.proofs.Tests.{cond-cases, and-left, and-right, or-second}
 use Rattle.commands.specs.declared.channel.Channel.{Channel}
 use Rattle.commands.specs.declared.channel.Channel.the-variants.{Controller, Spi, Gpio, Seu, Id, Dac, Unknown}
 use Rattle.commands.specs.declared.request.Request.{Request}
@@ -33,22 +34,6 @@ use Rattle.chip.specs.Chip.{receivedWords, onCompletion, onSample, onUps
 use Rattle.chip.specs.declared.Adapter.{Adapter}
 use Rattle.chip.specs.declared.Reaction.{Reaction}
 use Rattle.chip.specs.declared.request.Answered.{Answered}
-
-pub cond-cases : {A : Type 0} (P : A → Type 0) (b : Bool) {x y : A} → (b ≡ true → P x) → (b ≡ false → P y) → P (cond b x y)
-cond-cases P true f g = f refl
-cond-cases P false f g = g refl
-
-pub and-left : (a b : Bool) → (a && b) ≡ true → a ≡ true
-and-left true b h = refl
-and-left false b h = h
-
-pub and-right : (a b : Bool) → (a && b) ≡ true → b ≡ true
-and-right true b h = h
-and-right false b h = absurd (false≢true h)
-
-pub or-second : (a b : Bool) → (a || b) ≡ true → a ≡ false → b ≡ true
-or-second true b h e = absurd (true≢false e)
-or-second false b h e = h
 
 -- ---- how a request can change the state: one channel's registers, by that channel's own answer
 

@@ -12,6 +12,7 @@ use lib.ListN.{length, take, drop, getD, set, length-set}
 use lib.Seq.{getD-set-same, getD-set-other}
 use lib.Dec.{eqb, lit<}
 use borrow.Author.Tests.{eq-eqb, ne-eqb, eqb-true, le-leb, leb-true, lt-ltb, ltb-true}
+use Rattle.bits.proofs.Tests.{both, cond-cases}
 use Rattle.parts.specs.Parts.{part, put}
 use Rattle.parts.specs.Words.{wordsOf}
 use Rattle.parts.proofs.Laws.{length-put, part-put-front, part-put-before, part-put-after, getD-put-before, part-set}
@@ -28,10 +29,6 @@ pub record Well (f : Format) (j : List ℕ) : Type 0 where
   pub v1 : getD j 4 0 ≡ f .version / 256
   pub first : firstOf j < f .slots
   pub few : keptOf j ≤ f .slots
-
-pub both-true : (x y : Bool) → (x && y) ≡ true → (x ≡ true) × (y ≡ true)
-both-true true y h = (refl, h)
-both-true false y h = absurd (false≢true h)
 
 pub well-of : {f : Format} {j : List ℕ} → Well f j → wellFormed f j ≡ true
 unfolding wellFormed
@@ -50,13 +47,13 @@ well-of w =
 pub of-well : (f : Format) (j : List ℕ) → wellFormed f j ≡ true → Well f j
 unfolding wellFormed
 of-well f j h =
-    let p = both-true _ _ h in
-    let q6 = both-true _ _ (p .1) in
-    let q5 = both-true _ _ (q6 .0) in
-    let q4 = both-true _ _ (q5 .0) in
-    let q3 = both-true _ _ (q4 .0) in
-    let q2 = both-true _ _ (q3 .0) in
-    let q1 = both-true _ _ (q2 .0) in
+    let p = both _ _ h in
+    let q6 = both _ _ (p .1) in
+    let q5 = both _ _ (q6 .0) in
+    let q4 = both _ _ (q5 .0) in
+    let q3 = both _ _ (q4 .0) in
+    let q2 = both _ _ (q3 .0) in
+    let q1 = both _ _ (q2 .0) in
     record {
       size = eqb-true _ _ (p .0);
       m0 = eqb-true _ _ (q1 .0);
@@ -120,10 +117,6 @@ apart x y h = go (decLt x y)
 
 slot-small : (n x : ℕ) → 0 < n → 1024 + 256 * (x % n) + 256 ≤ 1024 + 256 * n
 slot-small n x h = let l = mod-lt x h in omega arith
-
-cond-cases : {A : Type 0} (P : A → Type 0) (b : Bool) {x y : A} → (b ≡ true → P x) → (b ≡ false → P y) → P (cond b x y)
-cond-cases P true f g = f refl
-cond-cases P false f g = g refl
 
 -- the slot of the i-th newest of a ring that has one record more, counted from the ring's start before
 counted : (n first k i : ℕ) → k ≤ n → i < min n (k + 1) → (cond (eqb k n) ((first + 1) % n) first + (min n (k + 1) - 1 - i)) % n ≡ (first + (k - i)) % n

@@ -15,7 +15,7 @@ use Rattle.chip.proofs.Fits.{Fits}
 use Rattle.parts.specs.Words.{word, bytesOf, wordsOf}
 use Rattle.parts.proofs.Laws.{Words, none, more, word-digits, word-small, byte0, byte1, byte2, byte3, over3, AreBytes, length-words, words-small}
 use Rattle.journal.specs.Image.{flags, halves, imageWords, linkOf, controlOf, spiOf, dacOf, stateOf, spelled}
-use Rattle.journal.proofs.Ring.{both-true}
+use Rattle.bits.proofs.Tests.{both}
 
 -- the n elements of a list from place i
 elements : List ℕ → ℕ → ℕ → List ℕ
@@ -202,7 +202,7 @@ ss-word w h = omega arith
 pub image-state : (id : ℕ) (ws : List ℕ) → length ws ≡ 18 → ((i : ℕ) → getD ws i 0 < 4294967296) → spelled ws ≡ true → imageWords (stateOf id ws) ≡ ws
 unfolding imageWords stateOf spelled elements
 image-state id ws n small s =
-    let p = both-true _ _ s in
+    let p = both _ _ s in
     simp (
       head-word (getD ws 0 0) (ltb-true _ 134217728 (p .0)),
       word-digits (getD ws 1 0) (small 1),

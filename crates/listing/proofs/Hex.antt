@@ -9,21 +9,10 @@ use lib.ListN.{length, take, drop, getD, set, drop-of-length-le}
 use lib.Seq.{drop-cons, take-suc-set, take-suc, take-all, drop-drop, length-take-le}
 use lib.Dec.{eqb, leb, ltb}
 use borrow.Author.Tests.{leb-true, lt-ltb, le-ltb}
+use Rattle.bits.proofs.Tests.{and-left, and-right}
 use Rattle.listing.specs.Characters.{between, isHex, hexValue, allHex, arePairs, frontPair, pairBytes, hexDigit, hexText}
 
 -- ---- ranges of characters
-
-pub and-left : (x y : Bool) → (x && y) ≡ true → x ≡ true
-and-left true y h = refl
-and-left false y h = h
-
-pub and-right : (x y : Bool) → (x && y) ≡ true → y ≡ true
-and-right true y h = h
-and-right false y h = absurd-false y h
-  where
-    absurd-false : (y : Bool) → false ≡ true → y ≡ true
-    absurd-false true h = refl
-    absurd-false false h = h
 
 pub low-end : (low high c : ℕ) (t : Bool) → t ≡ between low high c → t ≡ true → low ≤ c
 low-end low high c t e h = leb-true low c (and-left _ (leb c high) (sym e ∙ h))

@@ -13,7 +13,7 @@ use Rattle.listing.specs.declared.Form.{Form}
 use Rattle.listing.specs.declared.Form.the-variants.{Frame, Completion, Sample, Upset, Back, Unreadable}
 use Rattle.listing.specs.Characters.{between, arePairs, pairBytes, frontPair}
 use Rattle.listing.specs.Line.{isFrame, isCompletion, isSample, isLetter, formOf, topFirst}
-use Rattle.listing.proofs.Hex.{and-left, and-right}
+use Rattle.bits.proofs.Tests.{and-left, and-right}
 
 -- a part that goes to the end
 pub to-end : (k : ℕ) (l : List ℕ) → take (length l - k) (drop k l) ≡ drop k l

@@ -15,7 +15,7 @@ use Rattle.receiver.specs.Receiver.{State, push, next, view, image, fieldsFit, 
 use Rattle.receiver.specs.Receive.{reading}
 use Rattle.receiver.specs.declared.Receiver.{Receiver}
 use Rattle.wire.proofs.Bits.{Bit, AreBits, AreBytes, none, more, bits-append, bits-take, bits-drop, bits-wire, bits-zeros, length-wire, length-pack, pack-wire, wire-pack}
-use Rattle.wire.proofs.Tests.{both}
+use Rattle.bits.proofs.Tests.{both}
 use Rattle.receiver.proofs.Fields.{Fields, fields}
 use Rattle.promises.specs.Wire.{hunter}
 use Rattle.promises.proofs.Steps.{split}

@@ -12,24 +12,24 @@ use Rattle.receiver.specs.Receive.{Answer, Reading, atFlag, reading, rea
 use Rattle.receiver.specs.declared.Receiver.{Receiver}
 use Rattle.receiver.specs.declared.Received.{Received}
 use Rattle.wire.proofs.Bits.{length-wire}
-use Rattle.wire.proofs.Tests.{either}
+use Rattle.bits.proofs.Tests.{cond-cases}
 
 -- a reading consumes no more bits than there are
 used-most : (bits : List ℕ) (s : State) (n : ℕ) → runs s n bits .used ≤ n + length bits
 unfolding runs
 used-most [] s n = omega arith
 used-most (b ∷ bits) s n =
-    either (λ (p : Stop). p .used ≤ n + suc (length bits)) (decides s b) (λ q. omega arith) (λ q. omega (arith, used-most bits (next s b) (n + 1)))
+    cond-cases (λ (p : Stop). p .used ≤ n + suc (length bits)) (decides s b) (λ q. omega arith) (λ q. omega (arith, used-most bits (next s b) (n + 1)))
 
 -- a body has at most 16 bytes
 body-most : (content : List ℕ) → length (atFlag content .body) ≤ 16
 unfolding atFlag
 body-most content =
     let P : Answer → Type 0 = λ a. length (a .body) ≤ 16 in
-    either P (ltb (length content) 32) (λ q. omega arith)
-    (λ q. either P (ltb 144 (length content)) (λ s. omega arith)
-    (λ s. either P (eqb (length content % 8) 0)
-    (λ t. either P (eqb (register preset content) residue) (λ u. simp length-take (omega (arith, ltb-false 144 (length content) s))) (λ u. omega arith))
+    cond-cases P (ltb (length content) 32) (λ q. omega arith)
+    (λ q. cond-cases P (ltb 144 (length content)) (λ s. omega arith)
+    (λ s. cond-cases P (eqb (length content % 8) 0)
+    (λ t. cond-cases P (eqb (register preset content) residue) (λ u. simp length-take (omega (arith, ltb-false 144 (length content) s))) (λ u. omega arith))
     (λ t. omega arith)))
 
 -- a reading's body and the bits that it consumed
@@ -42,8 +42,8 @@ unfolding reading
 read-small rx input start =
     let p : Stop = runs (view rx) 0 (drop start (wire input)) in
     let h : p .used ≤ 8 * length input - start = omega (arith, used-most (drop start (wire input)) (view rx) 0, length-drop start (wire input), length-wire input) in
-    either (Small (8 * length input - start)) (eqb (p .hit) 0) (λ q. record { body = omega arith; bits = h })
-    (λ q. either (Small (8 * length input - start)) (eqb (p .hit) 1) (λ s. record { body = body-most _; bits = h }) (λ s. record { body = omega arith; bits = h }))
+    cond-cases (Small (8 * length input - start)) (eqb (p .hit) 0) (λ q. record { body = omega arith; bits = h })
+    (λ q. cond-cases (Small (8 * length input - start)) (eqb (p .hit) 1) (λ s. record { body = body-most _; bits = h }) (λ s. record { body = omega arith; bits = h }))
 
 -- what `receive` gives back, refused or not
 pub received-small : (rx : Receiver) (input : List ℕ) (start : ℕ) (o : List ℕ)
@@ -52,10 +52,10 @@ unfolding received
 received-small rx input start o =
     let P : Received → Type 0 = λ r. (r .length ≤ 16) × (r .consumed ≤ 524288) in
     let s = read-small rx input start in
-    either P (inRange rx)
-    (λ p. either P (leb (length input) 65536)
-    (λ q. either P (leb start (8 * length input))
-    (λ t. either P (leb 16 (length o)) (λ u. (s .body, omega (arith, s .bits, leb-true (length input) 65536 q))) (λ u. (omega arith, omega arith)))
+    cond-cases P (inRange rx)
+    (λ p. cond-cases P (leb (length input) 65536)
+    (λ q. cond-cases P (leb start (8 * length input))
+    (λ t. cond-cases P (leb 16 (length o)) (λ u. (s .body, omega (arith, s .bits, leb-true (length input) 65536 q))) (λ u. (omega arith, omega arith)))
     (λ t. (omega arith, omega arith)))
     (λ q. (omega arith, omega arith)))
     (λ p. (omega arith, omega arith))

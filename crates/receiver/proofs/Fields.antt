@@ -10,7 +10,7 @@ use Rattle.receiver.specs.Receiver.{fieldsFit, inRange}
 use Rattle.receiver.specs.Inner.{Good, controlOf}
 use Rattle.receiver.specs.declared.Receiver.{Receiver}
 use Rattle.wire.proofs.Bits.{AreBytes}
-use Rattle.wire.proofs.Tests.{both}
+use Rattle.bits.proofs.Tests.{both}
 use Rattle.receiver.proofs.Content.{clear-value}
 
 module _ (mode ones lead count : ℕ) (h : fieldsFit mode ones lead count ≡ true) where

@@ -29,7 +29,7 @@ use Rattle.adapter.specs.Calls.{Outcome, Stepped, Cleared}
 use Rattle.adapter.specs.declared.Answer.{Answer}
 use Rattle.adapter.specs.declared.Created.{Created}
 use Rattle.chip.proofs.Fits.{Fits}
-use Rattle.chip.proofs.Steps.{and-left, and-right}
+use Rattle.bits.proofs.Tests.{and-left, and-right}
 use Rattle.sca.specs.Adapter.{stateBytes, stateIn, isState, packAnswer, Left, left, happened, Backed, backed, steppedBack, Gave, gave, created, emptied}
 use Rattle.sca.proofs.Spelling.{put-all}
 

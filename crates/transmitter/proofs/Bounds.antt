@@ -13,7 +13,7 @@ use Rattle.transmitter.specs.Frame.{frame, filled, framed}
 use Rattle.transmitter.specs.Transmit.{transmitted}
 use Rattle.transmitter.specs.declared.Sent.{Sent}
 use Rattle.wire.proofs.Bits.{length-wire, length-pack}
-use Rattle.wire.proofs.Tests.{either, both}
+use Rattle.bits.proofs.Tests.{cond-cases, both}
 
 -- stuffing at most doubles
 stuff-twice : (bs : List ℕ) (k : ℕ) → length (stuff k bs) ≤ 2 * length bs
@@ -21,8 +21,8 @@ unfolding stuff
 stuff-twice [] k = omega arith
 stuff-twice (b ∷ bs) k =
     let P : List ℕ → Type 0 = λ l. length l ≤ 2 * suc (length bs) in
-    either P (eqb b 0) (λ q. omega (arith, stuff-twice bs 0))
-    (λ q. either P (eqb k 4) (λ t. omega (arith, stuff-twice bs 0)) (λ t. omega (arith, stuff-twice bs (k + 1))))
+    cond-cases P (eqb b 0) (λ q. omega (arith, stuff-twice bs 0))
+    (λ q. cond-cases P (eqb k 4) (λ t. omega (arith, stuff-twice bs 0)) (λ t. omega (arith, stuff-twice bs (k + 1))))
 
 filled-small : (bs : List ℕ) → length (filled bs) ≤ length bs + 7
 unfolding filled
@@ -46,6 +46,6 @@ pub sent-small : (body o : List ℕ) → transmitted body o .count ≤ 38
 unfolding transmitted
 sent-small body o =
     let P : Sent → Type 0 = λ r. r .count ≤ 38 in
-    either P (leb 2 (length body) && leb (length body) 16)
-    (λ p. either P (leb 24 (length o)) (λ q. framed-small body (leb-true (length body) 16 (both (leb 2 (length body)) (leb (length body) 16) p .1))) (λ q. omega arith))
+    cond-cases P (leb 2 (length body) && leb (length body) 16)
+    (λ p. cond-cases P (leb 24 (length o)) (λ q. framed-small body (leb-true (length body) 16 (both (leb 2 (length body)) (leb (length body) 16) p .1))) (λ q. omega arith))
     (λ p. omega arith)

@@ -1,6 +1,6 @@
--- Laws of tests: both halves of a conjunction, a choice, and a test that is computed at each number below another.
+-- A test that is computed at each number below another.
 use mathlib.Core.Path.{_≡_, refl, sym, subst}
-use mathlib.Core.Bool.{Bool, true, false, cond, _&&_}
+use mathlib.Core.Bool.{Bool, true, false, _&&_}
 use mathlib.Core.Logic.{_⊎_, inl, inr}
 use Prim.Native.Nat.{ℕ, zero, suc, _<_}
 use native.Mathlib.Nat.{not-suc-le-zero, le-of-suc-le-suc, eq-or-lt-of-le}
@@ -9,19 +9,6 @@ use lib.Dec.{T}
 
 pub apart : {A : Type 0} → false ≡ true → A
 apart h = absurd (let z : _≡_ {A = ℕ} 0 1 = cc in omega arith)
-
--- both halves of a conjunction
-pub both : (a b : Bool) → a && b ≡ true → (a ≡ true) × (b ≡ true)
-both true true h = (refl, refl)
-both true false h = apart h
-both false b h = apart h
-
--- what holds of both choices holds of the chosen one
-pub either : {A : Type 0} (P : A → Type 0) (t : Bool) {x y : A} → (t ≡ true → P x) → (t ≡ false → P y) → P (cond t x y)
-either P true f g = f refl
-either P false f g = g refl
-
--- ---- a test that is computed at each number below another
 
 abbrev pub below : (ℕ → Bool) → ℕ → Bool
 below f zero = true
