@@ -12,6 +12,7 @@ pub mod InParts
 pub mod Ranges
 pub mod RoundTrip
 pub mod AnyReceiver
+pub mod Fcs
 pub mod OneOutcome
 pub mod Called
 pub mod Calls

@@ -92,7 +92,7 @@ module _ (body : List ℕ) (small : (i : ℕ) → getD body i 0 < 256) (least : 
       let n : length (contentOf body) / 8 - 2 ≡ length body = omega arith in
       rw (n, pack-wire (body ++ fcs body) (bytes-append body (fcs body) small (bytes-fcs body))) (take-at body (fcs body) (length body) refl)
 
-  content-answer : atFlag (contentOf body) ≡ record { number = number.sent; body = body }
+  pub content-answer : atFlag (contentOf body) ≡ record { number = number.sent; body = body }
   unfolding atFlag
   content-answer =
       let l : length (contentOf body) ≡ 8 * (length body + 2) = content-length in

@@ -6,6 +6,8 @@ use Prim.Native.Nat.{ℕ, _+_, _-_}
 use lib.Dec.{eqb, ltb}
 use lib.ListN.{length, take, drop, getD, replicate}
 use Rattle.numbers.specs.Numbers as number
+use Rattle.wire.specs.Bits.{wire, pack}
+use Rattle.wire.specs.Fcs.{fcs}
 use Rattle.wire.specs.Frame.{flag}
 use Rattle.receiver.specs.Receiver.{State, opened}
 use Rattle.receiver.specs.Receive.{Answer, bare, Reading, reading}
@@ -27,6 +29,14 @@ unstuff k (b ∷ bs) = cond (eqb b 0) (cond (eqb k 5) (unstuff 0 bs) (0 ∷ unst
 
 abbrev pub destuff : List ℕ → List ℕ
 destuff raw = unstuff 0 raw
+
+-- the bytes of content before the last two
+abbrev pub bytesBefore : List ℕ → List ℕ
+bytesBefore content = pack (take (length content - 16) content)
+
+-- the last sixteen bits of content are the FCS of the bits before them
+abbrev pub FcsRight : List ℕ → Type 0
+FcsRight content = drop (length content - 16) content ≡ wire (fcs (bytesBefore content))
 
 -- at a seventh one: 24 with at least 32 content bits before the run of ones, else no answer
 abbrev pub atAbort : List ℕ → Answer
