@@ -2,6 +2,7 @@
 -- comes back is the one whose content stood there. `atFlag` tests the register's residue; these laws say that it is the same.
 use mathlib.Core.Path.{_≡_, refl, sym, ap, ap₂, _∙_}
 use mathlib.Core.Bool.{false}
+use mathlib.Core.Logic.{_↔_}
 use mathlib.Core.List.{List, _++_}
 use Prim.Native.Nat.{ℕ, _+_, _-_, _/_, _%_, _≤_}
 use native.Mathlib.Omega.{arith}
@@ -57,7 +58,7 @@ module _ {c : List ℕ} (bits : AreBits c) (least : 32 ≤ length c) (most : len
       rw (le-ltb (length c) 32 least, le-ltb 144 (length c) most, eq-eqb (length c % 8) 0 whole, r) refl
 
   -- and 23 is wrong.
-  pub wrong-exactly : (atFlag c .number ≡ number.wrongFcs → FcsRight c → ⊥) × ((FcsRight c → ⊥) → atFlag c .number ≡ number.wrongFcs)
+  pub wrong-exactly : (atFlag c .number ≡ number.wrongFcs) ↔ (FcsRight c → ⊥)
   wrong-exactly = (
     λ n r. let z : number.sent ≡ number.wrongFcs = sym (ap (λ (x : Answer). x .number) (right-fcs r)) ∙ n in omega arith,
     λ w. ap (λ (x : Answer). x .number) (wrong-fcs w),
@@ -98,8 +99,7 @@ module _ {rx : Receiver} {input output : List ℕ} {start : ℕ} (a : Accepted r
 
   -- THE CALL GIVES 23 EXACTLY WHERE THE FCS IS WRONG,
   pub wrong-received : length (destuff raw) ≤ 144 → length (destuff raw) % 8 ≡ 0
-      → (received rx input start output .number ≡ number.wrongFcs → FcsRight (destuff raw) → ⊥)
-      × ((FcsRight (destuff raw) → ⊥) → received rx input start output .number ≡ number.wrongFcs)
+      → (received rx input start output .number ≡ number.wrongFcs) ↔ (FcsRight (destuff raw) → ⊥)
   wrong-received most whole =
       let n : received rx input start output .number ≡ atFlag (destuff raw) .number = ap (λ (x : Answer). x .number) told-flag in
       let w = wrong-exactly (bits-unstuff raw 0) least most whole in

@@ -13,6 +13,7 @@ pub mod Ranges
 pub mod RoundTrip
 pub mod AnyReceiver
 pub mod Fcs
+pub mod Frames
 pub mod OneOutcome
 pub mod Called
 pub mod Calls

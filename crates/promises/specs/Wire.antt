@@ -1,14 +1,15 @@
 -- The standard's words that the promises on the wire use, over the receiver's reading of bits.
 use mathlib.Core.Path.{_≡_}
 use mathlib.Core.Bool.{cond}
-use mathlib.Core.List.{List, [], _∷_, _++_}
-use Prim.Native.Nat.{ℕ, _+_, _-_}
+use mathlib.Core.List.{List, [], _∷_, _++_, map, flatMap}
+use Prim.Native.Nat.{ℕ, _+_, _-_, _%_, _≤_, _<_}
 use lib.Dec.{eqb, ltb}
 use lib.ListN.{length, take, drop, getD, replicate}
 use Rattle.numbers.specs.Numbers as number
 use Rattle.wire.specs.Bits.{wire, pack}
 use Rattle.wire.specs.Fcs.{fcs}
 use Rattle.wire.specs.Frame.{flag}
+use Rattle.transmitter.specs.Frame.{frame, framed}
 use Rattle.receiver.specs.Receiver.{State, opened}
 use Rattle.receiver.specs.Receive.{Answer, bare, Reading, reading}
 
@@ -53,6 +54,30 @@ after a s n rest =
 -- the reading that finds a body, after so many bits
 abbrev pub found : List ℕ → ℕ → Reading
 found body n = record { answer = record { number = number.sent; body = body }; state = opened; consumed = n }
+
+-- ---- frames one after the other
+
+-- a body that can be sent: 2 to 16 bytes
+pub record Body (body : List ℕ) : Type 0 where
+  pub small : (i : ℕ) → getD body i 0 < 256
+  pub least : 2 ≤ length body
+  pub most : length body ≤ 16
+
+abbrev pub Bodies : List (List ℕ) → Type 0
+Bodies [] = Unit
+Bodies (body ∷ bodies) = Body body × Bodies bodies
+
+-- the ones that fill the last byte of a body's frame
+abbrev pub filling : List ℕ → ℕ
+filling body = (8 - length (frame body) % 8) % 8
+
+-- the bytes of their frames, each filled up with ones to whole bytes
+abbrev pub cable : List (List ℕ) → List ℕ
+cable bodies = flatMap framed bodies
+
+-- the answers that bring them back
+abbrev pub broughtBack : List (List ℕ) → List Answer
+broughtBack bodies = map (λ (body : List ℕ). record { number = number.sent; body = body }) bodies
 
 -- ---- after a flag
 
