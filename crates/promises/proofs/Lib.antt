@@ -4,6 +4,7 @@ pub mod Text
 pub mod ShutOut
 pub mod Runs
 pub mod Refused
+pub mod Leaves
 pub mod Standing
 pub mod KeptNumber
 pub mod Wire
