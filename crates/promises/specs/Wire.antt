@@ -102,3 +102,12 @@ hunter ones = record { mode = 0; ones = ones; lead = 0; content = [] }
 -- the bits that it has seen of what may become a flag
 unfoldable pub seen : ℕ → List ℕ
 seen ones = cond (eqb ones 7) [] (0 ∷ replicate ones 1)
+
+-- what bits may be
+pub data WhileHunting : ℕ → List ℕ → Type 0 where
+  -- no flag ends in them
+  flagless : {ones : ℕ} (bits : List ℕ) → absent flag (seen ones ++ bits) → WhileHunting ones bits
+  -- a flag ends that the bits before them began
+  ends-begun : {ones : ℕ} (rest : List ℕ) → ones ≤ 6 → WhileHunting ones (replicate (6 - ones) 1 ++ (0 ∷ rest))
+  -- they hold a flag, the first
+  holds-flag : {ones : ℕ} (p rest : List ℕ) → absent flag (seen ones ++ (p ++ take 7 flag)) → WhileHunting ones (p ++ (flag ++ rest))
