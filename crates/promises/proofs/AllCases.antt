@@ -1,18 +1,23 @@
--- ALL CASES: after a flag, any bits are of one of five kinds, and `Wire` has a law for each.
-use mathlib.Core.Path.{_≡_, refl, sym, ap, _∙_}
-use mathlib.Core.Logic.{⊎-elim, inl, inr}
+-- ALL CASES: after a flag, any bits are of one of five kinds, to a hunting receiver of one of three, and `Wire` has a law for each.
+use mathlib.Core.Path.{_≡_, refl, sym, ap, ap₂, _∙_}
+use mathlib.Core.Logic.{_⊎_, ⊎-elim, inl, inr}
 use mathlib.Core.List.{List, [], _∷_, _++_, append-assoc, append-nil}
 use Prim.Native.Nat.{ℕ, zero, suc, _+_, _-_, _≤_, _<_}
 use native.Mathlib.Nat.{eq-or-lt-of-le}
 use native.Mathlib.Omega.{arith}
-use borrow.Author.Tests.{leb-true, leb-false}
-use lib.Dec.{leb, lit≤}
-use lib.ListN.{length, take, drop, getD, replicate, length-append, length-take, length-drop, length-replicate, getD-replicate}
-use lib.Seq.{getD-take, getD-at, take-append-le}
+use borrow.Author.Tests.{leb-true, leb-false, eqb-true, eqb-false, ne-eqb}
+use lib.Dec.{eqb, leb, lit≤}
+use lib.ListN.{length, take, drop, getD, replicate, length-append, length-take, length-drop, length-replicate, getD-replicate, take-append-drop, List·getD-append}
+use lib.Seq.{getD-take, getD-at, take-at, drop-at, take-append-le, drop-append-le}
 use Rattle.wire.specs.Bits.{wire}
+use Rattle.wire.specs.Frame.{flag}
+use Rattle.receiver.specs.declared.Receiver.{Receiver}
+use Rattle.receiver.specs.Receiver.{State}
 use Rattle.wire.proofs.Bits.{AreBits, none, more, bits-wire, bits-drop}
-use Rattle.promises.specs.Wire.{absent, sixOnes, AfterFlag, unended, six-last, closes, shares, aborts}
+use Rattle.promises.specs.Wire.{absent, sixOnes, AfterFlag, unended, six-last, closes, shares, aborts, seen, WhileHunting, flagless, ends-begun, holds-flag}
+use Rattle.promises.specs.Calls.{Accepted}
 use Rattle.promises.proofs.Steps.{split, absent-drop, ones-on}
+use Rattle.promises.proofs.States.{Held, hunts-on, frames, view-held}
 
 -- ---- bits without six ones in a row, joined by a zero
 
@@ -86,6 +91,131 @@ scan {bits = b ∷ bits} (more (inl z) hb) pre k p hk =
     (scan hb ((pre ++ replicate k 1) ++ (0 ∷ [])) 0 (zeroed (pre ++ replicate k 1) (before-join p (replicate k 1) (short-run k hk))) (lit≤ tt))
 scan {bits = b ∷ bits} (more (inr z) hb) pre k p hk = one-found pre k bits b z hk p hb (λ h. scan hb pre (k + 1) p h)
 
--- THERE IS NO OTHER CASE on a cable.
+-- THERE IS NO OTHER CASE after a flag.
 pub all-cases : (input : List ℕ) (start : ℕ) → AfterFlag (drop start (wire input))
 all-cases input start = scan (bits-drop start (bits-wire input)) [] 0 nothing (lit≤ tt)
+
+-- ---- hunting: the first flag
+
+same : (l m : List ℕ) → (l ≡ m) ⊎ (l ≡ m → ⊥)
+same [] [] = inl refl
+same [] (y ∷ m) = inr (λ e. omega (arith, ap length e))
+same (x ∷ l) [] = inr (λ e. omega (arith, ap length e))
+same (x ∷ l) (y ∷ m) =
+    split (eqb x y)
+    (λ t. ⊎-elim (λ e. inl (ap₂ (λ (z : ℕ) (r : List ℕ). z ∷ r) (eqb-true x y t) e)) (λ n. inr (λ e. n (ap (drop 1) e))) (same l m))
+    (λ t. inr (λ e. eqb-false x y t (ap (λ (r : List ℕ). getD r 0 0) e)))
+
+record FirstFlag (l : List ℕ) : Type 0 where
+  before : List ℕ
+  rest : List ℕ
+  bits : l ≡ before ++ (flag ++ rest)
+  none-yet : absent flag (before ++ take 7 flag)
+
+under-eight : (l : List ℕ) → length l ≤ 7 → absent flag l
+under-eight l h i e = omega (arith, simp (length-take, length-drop) at (ap length e))
+
+absent-more : (b : ℕ) (l : List ℕ) → (take 8 (b ∷ l) ≡ flag → ⊥) → absent flag l → absent flag (b ∷ l)
+absent-more b l n h zero e = n e
+absent-more b l n h (suc i) e = h i e
+
+-- the bits before a flag's last see no further
+not-further : (p rest : List ℕ) → take 7 (p ++ (flag ++ rest)) ≡ take 7 (p ++ take 7 flag)
+not-further p rest =
+    let l : 7 ≤ length (p ++ take 7 flag) = rw (length-append p (take 7 flag)) (omega arith) in
+    ap (take 7) (sym (append-assoc p (take 7 flag) (0 ∷ rest))) ∙ take-append-le 7 (p ++ take 7 flag) (0 ∷ rest) l
+
+later : (b : ℕ) (l : List ℕ) → (take 8 (b ∷ l) ≡ flag → ⊥) → absent flag l ⊎ FirstFlag l → absent flag (b ∷ l) ⊎ FirstFlag (b ∷ l)
+later b l n (inl h) = inl (absent-more b l n h)
+later b l n (inr f) =
+    let same-front : take 7 l ≡ take 7 (f .before ++ take 7 flag) = ap (take 7) (f .bits) ∙ not-further (f .before) (f .rest) in
+    inr
+    (record {
+      before = b ∷ f .before;
+      rest = f .rest;
+      bits = ap (λ (r : List ℕ). b ∷ r) (f .bits);
+      none-yet =
+          absent-more b (f .before ++ take 7 flag) (λ e. n (ap (λ (r : List ℕ). b ∷ r) same-front ∙ e)) (f .none-yet);
+    })
+
+find : (l : List ℕ) → absent flag l ⊎ FirstFlag l
+find [] = inl (under-eight [] (lit≤ tt))
+find (b ∷ l) =
+    ⊎-elim
+    (λ (e : take 8 (b ∷ l) ≡ flag).
+    inr
+    (record {
+      before = [];
+      rest = drop 8 (b ∷ l);
+      bits = sym (take-append-drop 8 (b ∷ l)) ∙ ap (λ (r : List ℕ). r ++ drop 8 (b ∷ l)) e;
+      none-yet = under-eight (take 7 flag) (lit≤ tt);
+    }))
+    (λ (n : take 8 (b ∷ l) ≡ flag → ⊥). later b l n (find l)) (same (take 8 (b ∷ l)) flag)
+
+begun-end : (j : ℕ) (rest : List ℕ) → j ≤ 6 → drop j (sixOnes ++ (0 ∷ rest)) ≡ replicate (6 - j) 1 ++ (0 ∷ rest)
+begun-end zero rest h = refl
+begun-end (suc zero) rest h = refl
+begun-end (suc (suc zero)) rest h = refl
+begun-end (suc (suc (suc zero))) rest h = refl
+begun-end (suc (suc (suc (suc zero)))) rest h = refl
+begun-end (suc (suc (suc (suc (suc zero))))) rest h = refl
+begun-end (suc (suc (suc (suc (suc (suc zero)))))) rest h = refl
+begun-end (suc (suc (suc (suc (suc (suc (suc j))))))) rest h = absurd (omega arith)
+
+seen-none : (j : ℕ) → j ≡ 7 → length (seen j) ≡ 0
+unfolding seen
+seen-none j e = rw e refl
+
+seen-some : (j : ℕ) → j ≤ 6 → seen j ≡ 0 ∷ replicate j 1
+unfolding seen
+seen-some j h = rw (ne-eqb j 7 (λ e. omega arith)) refl
+
+module _ (j : ℕ) (bits : List ℕ) where
+  -- a flag that begins in what was seen begins with its zero
+  begun-before : (p rest : List ℕ) → j ≤ 6 → (0 ∷ replicate j 1) ++ bits ≡ p ++ (flag ++ rest) → length p ≤ j → WhileHunting j bits
+  begun-before [] rest h e l =
+      let b : bits ≡ replicate (6 - j) 1 ++ (0 ∷ rest) =
+      sym (drop-at (replicate j 1) bits j (length-replicate j 1)) ∙ ap (λ (r : List ℕ). drop j (drop 1 r)) e ∙ begun-end j rest h in
+      rw b (ends-begun rest h)
+  begun-before (x ∷ p) rest h e l =
+      let one : getD (replicate j 1 ++ bits) (length p) 0 ≡ 1 =
+      List·getD-append (replicate j 1) bits 0 (length p) (rw (length-replicate {A = ℕ} j 1) (omega arith)) ∙ getD-replicate j (length p) 1 0 (omega arith) in
+      let none : getD (p ++ (flag ++ rest)) (length p) 0 ≡ 0 = getD-at p 0 (drop 1 flag ++ rest) 0 (length p) refl in
+      absurd (omega (arith, ap (λ (r : List ℕ). getD r (suc (length p)) 0) e))
+
+  -- another begins after it
+  begun-after : (f : FirstFlag (seen j ++ bits)) → length (seen j) ≤ length (f .before) → WhileHunting j bits
+  begun-after f h =
+      let k : ℕ = length (seen j) in
+      let p : List ℕ = drop k (f .before) in
+      let front : seen j ≡ take k (f .before) =
+      sym (take-at (seen j) bits k refl) ∙ ap (take k) (f .bits) ∙ take-append-le k (f .before) (flag ++ f .rest) h in
+      let b : bits ≡ p ++ (flag ++ f .rest) =
+      sym (drop-at (seen j) bits k refl) ∙ ap (drop k) (f .bits) ∙ drop-append-le k (f .before) (flag ++ f .rest) h in
+      let whole : f .before ++ take 7 flag ≡ seen j ++ (p ++ take 7 flag) =
+      ap (λ (r : List ℕ). r ++ take 7 flag) (sym (ap (λ (r : List ℕ). r ++ p) front ∙ take-append-drop k (f .before)))
+      ∙ append-assoc (seen j) p (take 7 flag) in
+      rw b (holds-flag p (f .rest) (rw whole at (f .none-yet)))
+
+  by-place : j ≤ 7 → absent flag (seen j ++ bits) ⊎ FirstFlag (seen j ++ bits) → WhileHunting j bits
+  by-place h (inl a) = flagless bits a
+  by-place h (inr f) =
+      split (leb (length (seen j)) (length (f .before))) (λ t. begun-after f (leb-true (length (seen j)) (length (f .before)) t))
+      (λ t.
+      let l : length (f .before) < length (seen j) = leb-false (length (seen j)) (length (f .before)) t in
+      ⊎-elim (λ (e : j ≡ 7). absurd (omega (arith, seen-none j e)))
+      (λ (e : j < 7).
+      let s : seen j ≡ 0 ∷ replicate j 1 = seen-some j (omega arith) in
+      let n : length (f .before) ≤ j = omega (arith, ap length s, length-replicate {A = ℕ} j 1) in
+      begun-before (f .before) (f .rest) (omega arith) (ap (λ (r : List ℕ). r ++ bits) (sym s) ∙ f .bits) n)
+      (eq-or-lt-of-le h))
+
+hunted-few : {s : State} → Held s → s .mode ≡ 0 → s .ones ≤ 7
+hunted-few (hunts-on h) m = h
+hunted-few (frames hk hl hc h bits) m = absurd (omega arith)
+
+-- NOR FOR A RECEIVER THAT HUNTS, whatever ones it has seen.
+pub all-cases-hunting : {rx : Receiver} {input output : List ℕ} {start : ℕ} → Accepted rx input start output → rx .mode ≡ 0
+    → WhileHunting (rx .ones) (drop start (wire input))
+all-cases-hunting {rx} {input} {output} {start} a m =
+    by-place (rx .ones) (drop start (wire input)) (hunted-few (view-held rx (a .range) (a .size)) m) (find (seen (rx .ones) ++ drop start (wire input)))

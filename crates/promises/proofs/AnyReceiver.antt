@@ -47,7 +47,7 @@ heard-abort {raw = raw} hb rest h last =
     heard-after opened (raw ++ (sevenOnes ++ rest)) (atAbort (destuff raw)) hunting (length raw + 7) rest (abort-read hb rest h last)
     (past raw sevenOnes rest 7 refl)
 
-frame-cut : (body rest : List ℕ) → frame body ++ rest ≡ flag ++ (stuff 0 (contentOf body) ++ (flag ++ rest))
+pub frame-cut : (body rest : List ℕ) → frame body ++ rest ≡ flag ++ (stuff 0 (contentOf body) ++ (flag ++ rest))
 unfolding frame
 frame-cut body rest = simp append-assoc refl
 

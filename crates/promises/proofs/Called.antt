@@ -79,7 +79,8 @@ module _ {rx : Receiver} {input output : List ℕ} {start : ℕ} (a : Accepted r
       ap₂ reading returned-view
       (ap (λ (n : ℕ). drop (start + n) (wire input)) k ∙ sym (drop-drop (readFrom rx input start .consumed) start (wire input)))
 
-  told-answer : told (received rx input start output) (outputAfter rx input start output) ≡ readFrom rx input start .answer
+  -- the answer told is the reading's
+  pub told-answer : told (received rx input start output) (outputAfter rx input start output) ≡ readFrom rx input start .answer
   unfolding put
   told-answer =
       let body = readFrom rx input start .answer .body in

@@ -3,12 +3,17 @@ use Prim.Native.Nat.{ℕ, _+_, _-_, min}
 use mathlib.Core.Path.{_≡_, refl, sym, ap, _∙_}
 use mathlib.Core.List.{List, [], _∷_, foldl-append}
 use mathlib.Core.Bool.{true, false}
-use borrow.Author.Tests.{ne-eqb}
+use mathlib.Core.Logic.{_↔_}
+use native.Mathlib.Omega.{arith}
+use borrow.Author.Tests.{ne-eqb, eqb-true, eqb-false}
+use lib.Dec.{eqb}
+use Rattle.numbers.specs.Numbers as number
 use Rattle.chip.specs.Event.{Event}
 use Rattle.chip.specs.Chip.{acceptedReset}
 use Rattle.adapter.specs.declared.KeptNumber.{KeptNumber}
-use Rattle.promises.specs.Runs.{Call, event, back, empty, Calls, OfItsTypes, Run, left, refused, Standing, atStart, keeps, standing, Demand3}
+use Rattle.promises.specs.Runs.{Call, event, back, empty, Calls, Given, OfItsTypes, Run, left, refused, Standing, atStart, keeps, standing, Demand3}
 use Rattle.promises.proofs.Standing.{typed-more, further}
+use Rattle.promises.proofs.Steps.{split}
 
 -- the kept number after a run, and after one call more
 abbrev pub keptAfter : (c : Calls) → Run → ℕ
@@ -57,3 +62,14 @@ kept-rule c d =
           number-then c d r back tt ∙ simp (ne-eqb (standing r .number) 0 s) (ap (λ (n : ℕ). n - 1) (sym (number-after c d r)));
       stays = λ r e o t h. number-then c d r (event e o) t ∙ simp h (sym (number-after c d r));
     }
+
+-- A STEP BACK IS REFUSED (5) EXACTLY WHEN THE KEPT NUMBER IS ZERO.
+pub refused-exactly : (c : Calls) → Demand3 c → (r : Run) → (c .gives (left c r) back .number ≡ number.noneKept) ↔ (keptAfter c r ≡ 0)
+refused-exactly c d r = (
+  λ h.
+      split (eqb (keptAfter c r) 0) (λ t. eqb-true (keptAfter c r) 0 t)
+      (λ t.
+      let g : c .gives (left c r) back .number ≡ number.noFrame = ap (λ (x : Given). x .number) (d .takes-back r (eqb-false (keptAfter c r) 0 t) .0) in
+      absurd (omega arith)),
+  λ h. ap (λ (x : Given). x .number) (d .refused-at-zero r h .0),
+)

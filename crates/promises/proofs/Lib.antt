@@ -6,6 +6,7 @@ pub mod Runs
 pub mod Refused
 pub mod Exported
 pub mod ExportsRefused
+pub mod Leaves
 pub mod Standing
 pub mod KeptNumber
 pub mod Wire
@@ -14,6 +15,8 @@ pub mod InParts
 pub mod Ranges
 pub mod RoundTrip
 pub mod AnyReceiver
+pub mod Fcs
+pub mod Frames
 pub mod OneOutcome
 pub mod Called
 pub mod Calls

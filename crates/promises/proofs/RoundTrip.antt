@@ -58,20 +58,20 @@ opening : (r : List ℕ) → reading hunting (flag ++ r)
 unfolding reading runs
 opening r = goes-on opened 8 r
 
-new-accepted : (input output : List ℕ) → length input ≤ 65536 → 16 ≤ length output → Accepted (image hunting) input 0 output
+pub new-accepted : (input output : List ℕ) → length input ≤ 65536 → 16 ≤ length output → Accepted (image hunting) input 0 output
 new-accepted input output short room =
     let new : Held hunting = hunts-on {j = 7} (lit≤ tt) in
     record { range = image-inRange new; size = image-size new; short = short; inside = omega arith; room = room }
 
 module _ (bs : List ℕ) (h : AreBits bs) where
-  abbrev padding : List ℕ
+  abbrev pub padding : List ℕ
   padding = replicate ((8 - length bs % 8) % 8) 1
 
   filled-length : length (filled bs) ≡ 8 * ((length bs + 7) / 8)
   unfolding filled
   filled-length = rw (length-append bs padding, length-replicate) (omega arith)
 
-  wire-filled : wire (pack (filled bs)) ≡ bs ++ padding
+  pub wire-filled : wire (pack (filled bs)) ≡ bs ++ padding
   unfolding filled
   wire-filled =
       let e : length (filled bs) ≡ 8 * ((length bs + 7) / 8) = filled-length in
@@ -92,7 +92,7 @@ module _ (body : List ℕ) (small : (i : ℕ) → getD body i 0 < 256) (least : 
       let n : length (contentOf body) / 8 - 2 ≡ length body = omega arith in
       rw (n, pack-wire (body ++ fcs body) (bytes-append body (fcs body) small (bytes-fcs body))) (take-at body (fcs body) (length body) refl)
 
-  content-answer : atFlag (contentOf body) ≡ record { number = number.sent; body = body }
+  pub content-answer : atFlag (contentOf body) ≡ record { number = number.sent; body = body }
   unfolding atFlag
   content-answer =
       let l : length (contentOf body) ≡ 8 * (length body + 2) = content-length in
@@ -102,11 +102,11 @@ module _ (body : List ℕ) (small : (i : ℕ) → getD body i 0 < 256) (least : 
       let t₄ : eqb (register preset (contentOf body)) residue ≡ true = eq-eqb (register preset (contentOf body)) residue (good-residue body) in
       rw (t₁, t₂, t₃, t₄, content-body) refl
 
-  frame-length : length (frame body) ≡ length (stuff 0 (contentOf body)) + 16
+  pub frame-length : length (frame body) ≡ length (stuff 0 (contentOf body)) + 16
   unfolding frame
   frame-length = simp length-append (omega arith)
 
-  frame-bits : AreBits (frame body)
+  pub frame-bits : AreBits (frame body)
   unfolding frame
   frame-bits = bits-append bits-flag (bits-append (bits-stuff content-bits) bits-flag)
 
@@ -124,7 +124,7 @@ module _ (body : List ℕ) (small : (i : ℕ) → getD body i 0 < 256) (least : 
   pub read-opened : (rest : List ℕ) → reading opened (stuff 0 (contentOf body) ++ (flag ++ rest)) ≡ found body (length (stuff 0 (contentOf body)) + 8)
   read-opened rest = frame-read (bits-stuff content-bits) rest (no-six content-bits) ∙ rw (unstuff-stuff content-bits, content-answer) refl
 
-  read-hunting : (rest : List ℕ) → reading hunting (frame body ++ rest) ≡ found body (length (frame body))
+  pub read-hunting : (rest : List ℕ) → reading hunting (frame body ++ rest) ≡ found body (length (frame body))
   unfolding frame
   read-hunting rest =
       let n : 8 + (length (stuff 0 (contentOf body)) + 8) ≡ length (frame body) = omega (arith, frame-length) in

@@ -53,7 +53,7 @@ not-false true h = refl
 not-false false h = absurd (true≢false h)
 
 -- an event of its types that is not refused is one that fits
-fits : (e : Event) (output : List ℕ) → OfItsTypes (event e output) → refused e output ≡ false → EventFits e
+pub fits : (e : Event) (output : List ℕ) → OfItsTypes (event e output) → refused e output ≡ false → EventFits e
 fits (frame port body) output t h =
     let b = both-right (ltb (length output) 16) (wrongArgument (frame port body)) (wrongBody (frame port body)) h in
     let l = neither (ltb (length body) 2) (ltb 16 (length body)) (b .1) in

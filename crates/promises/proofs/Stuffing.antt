@@ -13,7 +13,7 @@ use lib.Seq.{getD-take, getD-at}
 use Rattle.wire.specs.Frame.{stuff}
 use Rattle.wire.proofs.Bits.{AreBits, none, more}
 use Rattle.promises.specs.Wire.{absent, sixOnes, unstuff}
-use Rattle.promises.proofs.Steps.{ones-on}
+use Rattle.promises.proofs.Steps.{split, ones-on}
 
 -- ---- one bit of content at a time
 
@@ -87,3 +87,12 @@ stuff-most {bs = bs} hb =
     by-bits (λ (k : ℕ) (bs r : List ℕ). 5 * length r ≤ k + 6 * length bs) (λ k h. omega arith) (λ k bs r h m. omega arith)
     (λ bs r m. omega arith) (λ k bs r h m. omega arith) hb 0 (lit≤ tt) in
     omega arith
+
+-- what is left when stuffed zeros are taken out is bits
+pub bits-unstuff : (raw : List ℕ) (k : ℕ) → AreBits (unstuff k raw)
+unfolding unstuff
+bits-unstuff [] k = none
+bits-unstuff (b ∷ bs) k =
+    split (eqb b 0)
+    (λ e. split (eqb k 5) (λ f. rw (e, f) (bits-unstuff bs 0)) (λ f. rw (e, f) (more (inl refl) (bits-unstuff bs 0))))
+    (λ e. rw e (more (inr refl) (bits-unstuff bs (k + 1))))

@@ -149,7 +149,7 @@ pub length-pack : (bs : List ℕ) → length (pack bs) ≡ length bs / 8
 unfolding pack
 length-pack bs = length-octets (length bs / 8) bs
 
-num-lt : {bs : List ℕ} → AreBits bs → num bs < 2 ^ length bs
+pub num-lt : {bs : List ℕ} → AreBits bs → num bs < 2 ^ length bs
 unfolding num
 num-lt none = omega arith
 num-lt {bs = b ∷ bs} (more (inl z) h) = omega (arith, num-lt h, pow-suc 2 (length bs))
@@ -190,3 +190,7 @@ bytes-octets (suc n) bs h e zero =
     let l8 : length (take 8 bs) ≡ 8 = length-take 8 bs ∙ omega arith in
     rw l8 at (num-lt (bits-take 8 h))
 bytes-octets (suc n) bs h e (suc i) = bytes-octets n (drop 8 bs) (bits-drop 8 h) (length-drop 8 bs ∙ omega arith) i
+
+pub bytes-pack : (bs : List ℕ) → AreBits bs → length bs % 8 ≡ 0 → AreBytes (pack bs)
+unfolding pack
+bytes-pack bs h e = bytes-octets (length bs / 8) bs h (omega arith)

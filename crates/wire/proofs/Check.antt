@@ -21,7 +21,7 @@ use Rattle.wire.proofs.Tests.{at-each}
 pub low-nibbles : (x : ℕ) → low 8 x ≡ low 4 (x % 16) ++ low 4 (x / 16)
 low-nibbles x = low-add 4 4 x ∙ ap (λ (l : List ℕ). l ++ low 4 (x / 16)) (sym (low-mod 4 x))
 
-register-bit-lt : (c b : ℕ) → c < 65536 → bitXor (c / 2) (polynomial * ((c % 2 + b) % 2)) < 65536
+pub register-bit-lt : (c b : ℕ) → c < 65536 → bitXor (c / 2) (polynomial * ((c % 2 + b) % 2)) < 65536
 register-bit-lt c b h = xor-lt 16 (c / 2) (polynomial * ((c % 2 + b) % 2)) (omega arith) (omega arith)
 
 pub register-append : (c : ℕ) (l m : List ℕ) → register c (l ++ m) ≡ register (register c l) m
@@ -57,7 +57,7 @@ xor-half a b = omega (arith, xor-step a b, differ-lt (a % 2) (b % 2) (omega arit
 xor-odd : (a b : ℕ) → bitXor a b % 2 ≡ differ (a % 2) (b % 2)
 xor-odd a b = omega (arith, xor-step a b, differ-lt (a % 2) (b % 2) (omega arith) (omega arith))
 
-xor-assoc : (a b c : ℕ) → bitXor (bitXor a b) c ≡ bitXor a (bitXor b c)
+pub xor-assoc : (a b c : ℕ) → bitXor (bitXor a b) c ≡ bitXor a (bitXor b c)
 xor-assoc =
     bin-ind (λ (a : ℕ). (b c : ℕ) → bitXor (bitXor a b) c ≡ bitXor a (bitXor b c)) (λ b c. refl)
     (λ a ih b c.
@@ -92,7 +92,7 @@ complement (suc n) a k h =
     rw (e, d, complement-step a k) (complement n (a / 2) (registerBit k 1) (omega (arith, pow-suc 2 n)))
 
 -- a register that takes its own complement
-own : (c : ℕ) → c < 65536 → register c (low 16 (preset - c)) ≡ residue
+pub own : (c : ℕ) → c < 65536 → register c (low 16 (preset - c)) ≡ residue
 unfolding register registerBit
 own c h = ap (λ (x : ℕ). register x (low 16 (preset - c))) (sym (xor-zero-r c)) ∙ complement 16 c 0 h
 
@@ -126,7 +126,7 @@ unfolding registerBit
 come-step c x =
     rw (xor-half c x, xor-odd c x, parity (c % 2) (x % 2) (omega arith) (omega arith)) (xor-swap (c / 2) (polynomial * ((c % 2 + x % 2) % 2)) (x / 2))
 
-come : (n c x : ℕ) → x < 2 ^ n → register c (low n x) ≡ register (bitXor c x) (low n 0)
+pub come : (n c x : ℕ) → x < 2 ^ n → register c (low n x) ≡ register (bitXor c x) (low n 0)
 unfolding register low
 come zero c x h = rw (lt-one h) (sym (xor-zero-r c))
 come (suc n) c x h =

@@ -1,0 +1,226 @@
+-- WHAT A CALL LEAVES, by the number that it gives: the column `leaves` of document 01's table, a theorem a row. 1 to 10 leave all
+-- unchanged (`Refused`). Assumes nothing.
+use Prim.Native.Nat.{ℕ, _+_, _*_, _≤_, _<_, min}
+use mathlib.Core.Path.{_≡_, refl, sym, ap, _∙_}
+use mathlib.Core.Bool.{Bool, true, false, true≢false}
+use mathlib.Core.List.{List, [], _∷_, foldl}
+use native.Mathlib.Omega.{arith}
+use borrow.Author.Tests.{leb-true, lt-leb, le-ltb}
+use lib.ListN.{length, take, drop, length-take}
+use lib.Seq.{drop-at}
+use lib.Dec.{leb}
+use Rattle.numbers.specs.Numbers as number
+use Rattle.parts.specs.Parts.{put}
+use Rattle.parts.proofs.Laws.{put-none, length-put}
+use Rattle.wire.specs.Bits.{wire}
+use Rattle.receiver.specs.declared.Receiver.{Receiver}
+use Rattle.receiver.specs.declared.Received.{Received}
+use Rattle.receiver.specs.Receiver as receiver
+use Rattle.receiver.specs.Receive.{reading, readFrom, receivedAs, received, outputAfter}
+use Rattle.chip.specs.declared.Adapter.{Adapter}
+use Rattle.chip.specs.declared.Reaction.{Reaction}
+use Rattle.chip.specs.Event.{Event, frame, completion, sample, upset, EventFits}
+use Rattle.chip.specs.Chip.{reaction, acceptedReset}
+use Rattle.chip.specs.State.{inRange}
+use Rattle.chip.proofs.Ranges.{of-in-range}
+use Rattle.chip.proofs.Laws.{dropped-keeps, accepted-reset, sixteen, sendable}
+use Rattle.journal.specs.Layout.{version1, pushed}
+use Rattle.journal.specs.Record.{before}
+use Rattle.journal.proofs.Ring.{Well, well-of, of-well}
+use Rattle.adapter.specs.declared.Verdict.the-variants.{Passed}
+use Rattle.adapter.specs.Refusals.{inOrder, verdict}
+use Rattle.adapter.specs.Calls.{Outcome, recorded, done, judged, called, keptIn}
+use Rattle.adapter.proofs.Cases.{Passing, passing}
+use Rattle.adapter.proofs.Laws.{called-done, unsent, recorded-well, recorded-kept}
+use Rattle.promises.specs.Runs.{event, OfItsTypes, isRefusal}
+use Rattle.promises.specs.Calls.{Accepted}
+use Rattle.promises.proofs.Runs.{fits}
+use Rattle.promises.proofs.Refused.{receive-unchanged, event-unchanged}
+use Rattle.promises.proofs.Steps.{split}
+use Rattle.promises.proofs.Readings.{reading-sized}
+use Rattle.promises.proofs.Calls.{call-state, call-least}
+use Rattle.promises.proofs.Called.{accepted, returned-view}
+
+-- n bytes, 2 to 16, at the front of an output changed, and no other
+pub record FrontAlone (n : ℕ) (output after : List ℕ) : Type 0 where
+  pub least : 2 ≤ n
+  pub most : n ≤ 16
+  pub size : length after ≡ length output
+  pub rest : drop n after ≡ drop n output
+
+front-alone : (n : ℕ) (body output : List ℕ) → length body ≡ n → 2 ≤ n → n ≤ 16 → 16 ≤ length output → FrontAlone n output (put 0 body output)
+unfolding put
+front-alone n body output l least most room =
+    let e : 0 + length body ≡ n = omega arith in
+    record {
+      least = least;
+      most = most;
+      size = length-put 0 body output (omega arith);
+      rest = drop-at body (drop (0 + length body) output) n l ∙ ap (λ (k : ℕ). drop k output) e;
+    }
+
+-- ---- the receiver
+
+module _ (rx : Receiver) (input : List ℕ) (start : ℕ) (output : List ℕ) where
+  -- a call that is done
+  record Done : Type 0 where
+    result : received rx input start output ≡ receivedAs (readFrom rx input start)
+    bytes : outputAfter rx input start output ≡ put 0 (readFrom rx input start .answer .body) output
+    room : 16 ≤ length output
+
+  is-done : isRefusal (received rx input start output .number) ≡ false → Done
+  unfolding received outputAfter
+  is-done h =
+      split (receiver.inRange rx)
+      (λ r. split (leb (length input) 65536)
+      (λ i. split (leb start (8 * length input))
+      (λ s. split (leb 16 (length output))
+      (λ o. record { result = rw (r, i, s, o) refl; bytes = rw (r, i, s, o) refl; room = leb-true 16 (length output) o })
+      (λ o. absurd (true≢false (rw (r, i, s, o) at h))))
+      (λ s. absurd (true≢false (rw (r, i, s) at h))))
+      (λ i. absurd (true≢false (rw (r, i) at h))))
+      (λ r. absurd (true≢false (rw r at h)))
+
+  -- Every number but 0 leaves every output byte.
+  pub receiver-other : (received rx input start output .number ≡ number.sent → ⊥) → outputAfter rx input start output ≡ output
+  receiver-other h =
+      split (isRefusal (received rx input start output .number)) (λ t. receive-unchanged rx input start output t .bytes)
+      (λ t.
+      let d : Done = is-done t in
+      let none : readFrom rx input start .answer .number ≡ number.sent → ⊥ = λ z. h (ap (λ (r : Received). r .number) (d .result) ∙ z) in
+      d .bytes ∙ rw (reading-sized (receiver.view rx) (drop start (wire input)) .other none) (sym (put-none 0 output)))
+
+  -- 0: A BODY AT THE FRONT OF THE OUTPUT, as many bytes as the call gives, 2 to 16; no other byte changes.
+  pub receiver-0 : received rx input start output .number ≡ number.sent
+      → FrontAlone (received rx input start output .length) output (outputAfter rx input start output)
+  receiver-0 h =
+      let d : Done = is-done (rw h refl) in
+      let sent : readFrom rx input start .answer .number ≡ number.sent = sym (ap (λ (r : Received). r .number) (d .result)) ∙ h in
+      let sized = reading-sized (receiver.view rx) (drop start (wire input)) in
+      let f : FrontAlone (length (readFrom rx input start .answer .body)) output (put 0 (readFrom rx input start .answer .body) output) =
+      front-alone _ (readFrom rx input start .answer .body) output refl (sized .least sent) (sized .most) (d .room) in
+      rw (d .result, d .bytes) f
+
+  -- 17: OUTPUT UNCHANGED.
+  pub receiver-17 : received rx input start output .number ≡ number.noFrame → outputAfter rx input start output ≡ output
+  receiver-17 h = receiver-other (λ z. omega arith)
+
+  -- 21 TO 24: OUTPUT UNCHANGED,
+  pub receiver-21-to-24 : 21 ≤ received rx input start output .number → received rx input start output .number ≤ 24
+      → outputAfter rx input start output ≡ output
+  receiver-21-to-24 h k = receiver-other (λ z. omega arith)
+
+-- and the receiver moved on: it stands for what the bits consumed made of it, and there were some
+pub record MovedOn (rx : Receiver) (input : List ℕ) (start : ℕ) (output : List ℕ) : Type 0 where
+  pub some : 0 < received rx input start output .consumed
+  pub state : receiver.view (received rx input start output .rx)
+      ≡ foldl receiver.next (receiver.view rx) (take (received rx input start output .consumed) (drop start (wire input)))
+
+no-bits : (s : receiver.State) (bits : List ℕ) → length bits ≡ 0 → reading s bits .answer .number ≡ number.noFrame
+unfolding reading receiver.runs
+no-bits s [] h = refl
+no-bits s (b ∷ bits) h = absurd (omega arith)
+
+pub receiver-moved-on : {rx : Receiver} {input output : List ℕ} {start : ℕ} → Accepted rx input start output
+    → 21 ≤ received rx input start output .number → MovedOn rx input start output
+receiver-moved-on {rx} {input} {output} {start} a h =
+    let k : received rx input start output .consumed ≡ readFrom rx input start .consumed = ap (λ (r : Received). r .consumed) (accepted a .result) in
+    let n : received rx input start output .number ≡ readFrom rx input start .answer .number = ap (λ (r : Received). r .number) (accepted a .result) in
+    let left : length (drop start (wire input)) ≡ 0 → ⊥ = λ z. omega (arith, no-bits (receiver.view rx) (drop start (wire input)) z) in
+    record {
+      some = rw k (call-least (receiver.view rx) (drop start (wire input)) (omega arith));
+      state = returned-view a ∙ rw k (call-state (receiver.view rx) (drop start (wire input)));
+    }
+
+-- ---- an event
+
+by-verdict : (s f o g b : Bool) (a : Adapter) (j : List ℕ) (e : Event) (output : List ℕ)
+    → isRefusal (judged (inOrder s f o g b) a j e output .answer .number) ≡ false → inOrder s f o g b ≡ Passed
+unfolding inOrder
+by-verdict true f o g b a j e output h = absurd (true≢false h)
+by-verdict false true o g b a j e output h = absurd (true≢false h)
+by-verdict false false true g b a j e output h = absurd (true≢false h)
+by-verdict false false false true b a j e output h = absurd (true≢false h)
+by-verdict false false false false true a j e output h = absurd (true≢false h)
+by-verdict false false false false false a j e output h = refl
+
+-- an accepted RESET is answered
+reset-answered : (a : Adapter) (e : Event) → acceptedReset e ≡ true → reaction a e .number ≡ number.sent
+reset-answered a (frame port body) h = ap (λ (r : Reaction). r .number) (accepted-reset a port body h)
+reset-answered a (completion received) h = absurd (true≢false (sym h))
+reset-answered a (sample levels kind) h = absurd (true≢false (sym h))
+reset-answered a upset h = absurd (true≢false (sym h))
+
+kept-number : (a : Adapter) (e : Event) (j : List ℕ) → Well version1 j → acceptedReset e ≡ false
+    → keptIn (recorded a e j) ≡ record { number = number.noFrame; kept = min 64 (keptIn j .kept + 1) }
+unfolding keptIn
+kept-number a e j w other = rw (well-of (recorded-well a e j w), well-of w, recorded-kept a e j w, other) refl
+
+over-ten : (n : ℕ) → 11 ≤ n → isRefusal n ≡ false
+over-ten n h = split (leb 1 n) (λ t. rw (t, lt-leb n 10 h) refl) (λ t. rw t refl)
+
+module _ (a : Adapter) (j : List ℕ) (e : Event) (output : List ℕ) where
+  -- an event that is done
+  record Happened : Type 0 where
+    passes : Passing a j e output
+    call : called a j e output ≡ done a j e output
+    answer : called a j e output .answer .number ≡ reaction a e .number
+
+  happened : isRefusal (called a j e output .answer .number) ≡ false → Happened
+  unfolding called verdict done
+  happened h =
+      let v : verdict a j e output ≡ Passed = by-verdict _ _ _ _ _ a j e output h in
+      let c : called a j e output ≡ done a j e output = called-done a j e output v in
+      record { passes = passing a j e output (verdict a j e output) refl v; call = c; answer = ap (λ (x : Outcome). x .answer .number) c }
+
+  -- Every number but 0 leaves every output byte.
+  pub event-other : (called a j e output .answer .number ≡ number.sent → ⊥) → called a j e output .output ≡ output
+  unfolding done
+  event-other h =
+      split (isRefusal (called a j e output .answer .number))
+      (λ t. ap (λ (x : Outcome). x .output) (event-unchanged a j e output t))
+      (λ t.
+      let d : Happened = happened t in
+      ap (λ (x : Outcome). x .output) (d .call) ∙ unsent a e output (λ z. h (d .answer ∙ z)))
+
+  -- 0: A BODY AT THE FRONT OF THE OUTPUT, as many bytes as the call gives, 2 to 16; no other byte changes.
+  pub event-0 : OfItsTypes (event e output) → called a j e output .answer .number ≡ number.sent
+      → FrontAlone (called a j e output .answer .length) output (called a j e output .output)
+  unfolding done
+  event-0 types h =
+      let d : Happened = happened (rw h refl) in
+      let p : Passing a j e output = d .passes in
+      let f : EventFits e = fits e output types (rw (le-ltb (length output) 16 (p .room), p .argument, p .body) refl) in
+      let s = sendable a e (of-in-range a (p .ranged) .port) f (sym (d .answer) ∙ h) in
+      let l : length (take (reaction a e .length) (reaction a e .body)) ≡ reaction a e .length =
+      length-take (reaction a e .length) (reaction a e .body) ∙ omega (arith, sixteen a e f, s .1) in
+      rw (d .call) (front-alone (reaction a e .length) (take (reaction a e .length) (reaction a e .body)) output l (s .0) (s .1) (p .room))
+
+  -- 11 TO 16: OUTPUT AND REGISTERS UNCHANGED, EVENT KEPT. The whole state stays, the event's record joins the journal, and the kept
+  -- number goes up by one, to at most 64.
+  pub record Dropped : Type 0 where
+    pub state : called a j e output .answer .adapter ≡ a
+    pub bytes : called a j e output .output ≡ output
+    pub entry : called a j e output .journal ≡ pushed version1 (before a e) j
+    pub kept : keptIn (called a j e output .journal) ≡ record { number = number.noFrame; kept = min 64 (keptIn j .kept + 1) }
+
+  pub event-11-to-16 : 11 ≤ called a j e output .answer .number → called a j e output .answer .number ≤ 16 → Dropped
+  unfolding done
+  event-11-to-16 l u =
+      let d : Happened = happened (over-ten (called a j e output .answer .number) l) in
+      let n : called a j e output .answer .number ≡ reaction a e .number = d .answer in
+      let least : 11 ≤ reaction a e .number = omega arith in
+      let most : reaction a e .number ≤ 16 = omega arith in
+      let other : acceptedReset e ≡ false =
+      split (acceptedReset e) (λ t. absurd (omega (arith, reset-answered a e t))) (λ t. t) in
+      let w : Well version1 j = of-well version1 j (d .passes .formed) in
+      record {
+        state = ap (λ (x : Outcome). x .answer .adapter) (d .call) ∙ dropped-keeps a e least most;
+        bytes = event-other (λ z. omega arith);
+        entry = ap (λ (x : Outcome). x .journal) (d .call) ∙ rw other refl;
+        kept = ap (λ (x : Outcome). keptIn (x .journal)) (d .call) ∙ kept-number a e j w other;
+      }
+
+  -- 17: OUTPUT UNCHANGED.
+  pub event-17 : called a j e output .answer .number ≡ number.noFrame → called a j e output .output ≡ output
+  event-17 h = event-other (λ z. omega arith)
