@@ -1,3 +1,3 @@
--- The public calls: document 01's numbers, what refuses a call, and what each call gives and leaves.
+-- The public calls: what refuses a call, in which order, and what each call gives and leaves.
 pub mod Refusals
 pub mod Calls

@@ -11,7 +11,8 @@ use Rattle.commands.specs.declared.request.Request.{Request}
 use Rattle.commands.specs.declared.request.Reply.{Reply}
 use Rattle.registers.specs.Controller.{spiEnabled, gpioEnabled, seuEnabled, idEnabled}
 use Rattle.numbers.specs.Numbers.{noFrame}
-use Rattle.chip.specs.Event.{Event, EventFits}
+use Rattle.chip.specs.Event.{Event}
+use Rattle.chip.proofs.EventFits.{EventFits}
 use Rattle.chip.specs.Answer.{padded, sends, gives}
 use Rattle.chip.specs.Link.{acknowledgeControl, rejectControl, replyControl}
 use Rattle.chip.specs.Request.{replyBody, replies}

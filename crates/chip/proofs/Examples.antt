@@ -1,6 +1,7 @@
--- Worked examples, computed: document 01's listing, and the manual's tables with their codes and lengths.
+-- Worked examples, computed: document 01's listing, its table of commands row by row, its errors, frame checks, pins and transfers. The
+-- lengths of channels 0x00, 0x13 and 0x14 are document 01's house lengths: the manual's Table 5.7 prints none.
 use Prim.Native.Nat.{ℕ, _*_}
-use mathlib.Core.List.{List, [], _∷_}
+use mathlib.Core.List.{List, [], _∷_, map}
 use mathlib.Core.Path.{_≡_, refl}
 use lib.ListN.{length, take, getD}
 use Rattle.bits.specs.Bits.{word}
@@ -19,7 +20,7 @@ use Rattle.registers.specs.ChipId.{idAnswer, actId}
 use Rattle.commands.specs.Dac.{dacCommand}
 use Rattle.registers.specs.Dac.{dacAnswer, actDac}
 use Rattle.chip.specs.Event.{Event, frame, completion, sample, upset}
-use Rattle.chip.specs.State.{poweredOn, powerOn}
+use Rattle.chip.specs.State.{poweredOn, powerOn, withSeu}
 use Rattle.chip.specs.Answer.{padded}
 use Rattle.chip.specs.Request.{byteOf, fourBytes, onChannel, answered, replies, requested}
 use Rattle.chip.specs.Frame.{commanded, numbered, carried, onFrame}
@@ -94,6 +95,30 @@ abbrev left : Adapter → List Ask → Adapter
 left a [] = a
 left a (q ∷ qs) = left (reaction a (framed (a .link .receive .0) 0x01 q) .adapter) qs
 
+-- ---- rows of document 01's table of commands
+
+-- a request to a channel, and what is told of its answer
+pub record Line : Type 0 where
+  pub asks : ℕ → Ask
+  pub gives : List ℕ
+
+-- CMD, LEN request/reply, D: sent and kept by a write, given by a read; ERR is 0
+abbrev write : ℕ → ℕ → ℕ → ℕ → Line
+write cmd len given d = record { asks = λ ch. ask ch len cmd d; gives = 0 ∷ 0 ∷ given ∷ 0 ∷ [] }
+
+abbrev read : ℕ → ℕ → ℕ → ℕ → Line
+read cmd len given d = record { asks = λ ch. ask ch len cmd 0xFFFFFFFF; gives = 0 ∷ 0 ∷ given ∷ d ∷ [] }
+
+-- GO: no reply yet
+abbrev start : ℕ → ℕ → Line
+start cmd len = record { asks = λ ch. ask ch len cmd 0xFFFFFFFF; gives = 17 ∷ 0 ∷ 0 ∷ 0 ∷ [] }
+
+-- the channel's requests, one after the other from this state, have these answers
+abbrev Rows : Adapter → ℕ → List Line → Type 0
+Rows a ch rows = asked a (map (λ (l : Line). l .asks ch) rows) ≡ map (λ (l : Line). l .gives) rows
+
+-- ---- states
+
 -- SPI and GPIO, and the channels 0x13 and 0x14, enabled
 abbrev enabled : Adapter
 enabled = left fresh (ask 0x00 4 0x02 0x06000000 ∷ ask 0x00 4 0x06 0x18000000 ∷ [])
@@ -102,9 +127,37 @@ enabled = left fresh (ask 0x00 4 0x02 0x06000000 ∷ ask 0x00 4 0x06 0x18000000 
 abbrev busy : Adapter
 busy = left enabled (ask 0x01 6 0x40 0x00000008 ∷ ask 0x01 6 0x00 0x11223344 ∷ ask 0x01 2 0x72 0 ∷ [])
 
--- line 0 with an interrupt on rising
+-- SPI disabled, and enabled again
+abbrev off : Adapter
+off = left busy (ask 0x00 4 0x02 0 ∷ [])
+
+abbrev again : Adapter
+again = left off (ask 0x00 4 0x02 0x02000000 ∷ [])
+
+-- a GO of length 0, which is 128 bits, open over words of ones
+abbrev whole : Adapter
+whole =
+    left enabled
+    (ask 0x01 6 0x00 0xFFFFFFFF ∷ ask 0x01 6 0x10 0xFFFFFFFF ∷ ask 0x01 6 0x20 0xFFFFFFFF ∷ ask 0x01 6 0x30 0xFFFFFFFF ∷ ask 0x01 2 0x72 0 ∷ [])
+
+-- 16 received bytes
+abbrev received : Event
+received =
+    completion (0xAA ∷ 0xBB ∷ 0xCC ∷ 0xDD ∷ 0x11 ∷ 0x22 ∷ 0x33 ∷ 0x44 ∷ 0x55 ∷ 0x66 ∷ 0x77 ∷ 0x88 ∷ 0x01 ∷ 0x02 ∷ 0x03 ∷ 0x04 ∷ [])
+
+-- line 0 with an interrupt on rising; on falling; and with interrupts off
 abbrev armed : Adapter
 armed = left enabled (ask 0x02 4 0x30 0x00000001 ∷ ask 0x02 4 0x60 0x00000001 ∷ [])
+
+abbrev falling : Adapter
+falling = left armed (ask 0x02 4 0x40 0x00000001 ∷ [])
+
+abbrev silent : Adapter
+silent = left enabled (ask 0x02 4 0x30 0x00000001 ∷ [])
+
+-- line 0 with the system clock, line 1 with the strobe rising, line 2 with it falling, line 3 an output
+abbrev clocked : Adapter
+clocked = left enabled (ask 0x02 4 0x20 0x00000008 ∷ ask 0x02 4 0x80 0x00000006 ∷ ask 0x02 4 0x90 0x00000004 ∷ [])
 
 -- ---- the tables
 
@@ -131,33 +184,63 @@ pub record Tables : Type 0 where
       ≡ (0 ∷ 0x20 ∷ 2 ∷ 0 ∷ []) ∷ (0 ∷ 0x20 ∷ 2 ∷ 0 ∷ []) ∷ (0 ∷ 0x20 ∷ 2 ∷ 0 ∷ []) ∷ (0 ∷ 0x20 ∷ 2 ∷ 0 ∷ []) ∷ []
   pub is-busy : asked busy (ask 0x01 9 0xEE 0 ∷ ask 0x01 2 0x41 0 ∷ []) ≡ (0 ∷ 0x40 ∷ 2 ∷ 0 ∷ []) ∷ (0 ∷ 0x40 ∷ 2 ∷ 0 ∷ []) ∷ []
   pub unknown-command : asked enabled (ask 0x02 9 0xEE 0 ∷ ask 0x02 2 0x11 0 ∷ []) ≡ (0 ∷ 0x04 ∷ 2 ∷ 0 ∷ []) ∷ (0 ∷ 0x10 ∷ 2 ∷ 0 ∷ []) ∷ []
-  -- Table 5.7: values in D[31:24]; CRB bit 0 and CRD bits 7 to 5 read 0
-  pub controller : asked fresh
-      (ask 0x00 4 0x02 0xFF000000 ∷ ask 0x00 2 0x03 0 ∷ ask 0x00 4 0x04 0xFF000000 ∷ ask 0x00 2 0x05 0 ∷ ask 0x00 4 0x06 0xFF000000 ∷ ask 0x00 2 0x07 0 ∷ [])
-      ≡ (0 ∷ 0 ∷ 2 ∷ 0 ∷ []) ∷ (0 ∷ 0 ∷ 4 ∷ 0xFE000000 ∷ []) ∷ (0 ∷ 0 ∷ 2 ∷ 0 ∷ []) ∷ (0 ∷ 0 ∷ 4 ∷ 0xFF000000 ∷ [])
-      ∷ (0 ∷ 0 ∷ 2 ∷ 0 ∷ []) ∷ (0 ∷ 0 ∷ 4 ∷ 0x1F000000 ∷ []) ∷ []
-  pub seu-and-id : asked (after enabled (upset ∷ upset ∷ [])) (ask 0x13 4 0xF1 0 ∷ ask 0x13 4 0xF0 0 ∷ ask 0x13 4 0xF1 0 ∷ ask 0x14 4 0xD1 0 ∷ [])
-      ≡ (0 ∷ 0 ∷ 4 ∷ 2 ∷ []) ∷ (0 ∷ 0 ∷ 2 ∷ 0 ∷ []) ∷ (0 ∷ 0 ∷ 4 ∷ 0 ∷ []) ∷ (0 ∷ 0 ∷ 4 ∷ 0x0A ∷ []) ∷ []
-  -- Table 7.7: LEN 6 and 2; GO gives no reply, the completion gives it with its TRN and DATA[31:0], of which 8 bits are received
-  pub spi : asked enabled (ask 0x01 6 0x40 0x00001234 ∷ ask 0x01 2 0x41 0 ∷ ask 0x01 6 0x30 0x89ABCDEF ∷ ask 0x01 2 0x31 0 ∷ ask 0x01 2 0x72 0 ∷ [])
-      ≡ (0 ∷ 0 ∷ 2 ∷ 0 ∷ []) ∷ (0 ∷ 0 ∷ 6 ∷ 0x1234 ∷ []) ∷ (0 ∷ 0 ∷ 2 ∷ 0 ∷ []) ∷ (0 ∷ 0 ∷ 6 ∷ 0x89ABCDEF ∷ []) ∷ (17 ∷ 0 ∷ 0 ∷ 0 ∷ []) ∷ []
-  pub completed : told (reaction busy (completion (0xAA ∷ 0xBB ∷ 0 ∷ 0 ∷ 0 ∷ 0 ∷ 0 ∷ 0 ∷ 0 ∷ 0 ∷ 0 ∷ 0 ∷ 0 ∷ 0 ∷ 0 ∷ 0 ∷ []))) ≡ 0 ∷ 0 ∷ 6 ∷ 0x112233AA ∷ []
+  -- 0x00, values in D[31:24]; CRB bit 0 and CRD bits 7 to 5 read 0
+  pub controller : Rows fresh 0x00
+      (write 0x02 4 2 0xFF000000 ∷ write 0x04 4 2 0xC3FFFFFF ∷ write 0x06 4 2 0xFF000000
+      ∷ read 0x03 2 4 0xFE000000 ∷ read 0x05 2 4 0xC3000000 ∷ read 0x07 2 4 0x1F000000 ∷ [])
+  -- 0x01, Table 7.7: CONTROL and FREQ in D[15:0], SS in D[7:0], DATA words 0 to 3, GO
+  pub spi : Rows enabled 0x01
+      (write 0x40 6 2 0xFFFF1234 ∷ write 0x50 6 2 0xFFFF5678 ∷ write 0x60 6 2 0xFFFFFF9A
+      ∷ write 0x00 6 2 0x01020304 ∷ write 0x10 6 2 0x11121314 ∷ write 0x20 6 2 0x21222324 ∷ write 0x30 6 2 0x89ABCDEF
+      ∷ read 0x41 2 6 0x1234 ∷ read 0x51 2 6 0x5678 ∷ read 0x61 2 6 0x9A
+      ∷ read 0x01 2 6 0x01020304 ∷ read 0x11 2 6 0x11121314 ∷ read 0x21 2 6 0x21222324 ∷ read 0x31 2 6 0x89ABCDEF
+      ∷ start 0x72 2 ∷ [])
+  -- 0x02, Table 9.11: INTENABLE in D[0]; DATAIN is what the lines had
+  pub gpio : Rows (after enabled (sample 0x00C0FFEE 0 ∷ [])) 0x02
+      (write 0x10 4 2 0x00000010 ∷ write 0x20 4 2 0xF0000001 ∷ write 0x30 4 2 0x00000030 ∷ write 0x40 4 2 0x00000040
+      ∷ write 0x70 4 2 0x00000070 ∷ write 0x80 4 2 0x00000080 ∷ write 0x90 4 2 0x00000090 ∷ write 0x60 4 2 0xFFFFFFFF
+      ∷ read 0x11 1 4 0x00000010 ∷ read 0x21 1 4 0xF0000001 ∷ read 0x31 1 4 0x00000030 ∷ read 0x41 1 4 0x00000040
+      ∷ read 0x71 1 4 0x00000070 ∷ read 0x81 1 4 0x00000080 ∷ read 0x91 1 4 0x00000090 ∷ read 0x61 1 4 0x00000001
+      ∷ read 0x01 1 4 0x00C0FFEE ∷ [])
+  -- 0x13 after two upsets, with its clear
+  pub seu : Rows (after enabled (upset ∷ upset ∷ [])) 0x13 (read 0xF1 4 4 2 ∷ write 0xF0 4 2 0 ∷ read 0xF1 4 4 0 ∷ [])
+  -- 0x14
+  pub chip-id : Rows enabled 0x14 (read 0xD1 4 4 0x00000A ∷ [])
+  -- 0x15, Table 10.2: values in D[7:0]
+  pub dac : Rows fresh 0x15
+      (write 0x10 4 1 0x15A ∷ write 0x20 4 1 0x15B ∷ write 0x30 4 1 0x15C ∷ write 0x40 4 1 0x15D
+      ∷ read 0x11 1 4 0x5A ∷ read 0x21 1 4 0x5B ∷ read 0x31 1 4 0x5C ∷ read 0x41 1 4 0x5D ∷ [])
+  -- the counter wraps to 0
+  pub wraps : Rows (after (withSeu enabled 0xFFFFFFFF) (upset ∷ [])) 0x13 (read 0xF1 4 4 0 ∷ [])
+  -- a completion gives the GO's reply, LEN 6, with its TRN and DATA[31:0], of which 8 bits are received; then SPI is no more busy
+  pub completed : run busy (received ∷ []) ≡ (0 ∷ 0 ∷ 0x00 ∷ 0xA8 ∷ 0x01 ∷ 0x01 ∷ 0x00 ∷ 0x06 ∷ 0x22 ∷ 0x11 ∷ 0xAA ∷ 0x33 ∷ []) ∷ []
+  pub idle-again : Rows (after busy (received ∷ [])) 0x01 (read 0x01 2 6 0x112233AA ∷ [])
+  -- a length of 0: all 128 bits are received, byte 0 holding bits 7 to 0
+  pub all-bits : told (reaction whole received) ≡ 0 ∷ 0 ∷ 6 ∷ 0xDDCCBBAA ∷ []
+  pub four-words : Rows (after whole (received ∷ [])) 0x01
+      (read 0x01 2 6 0xDDCCBBAA ∷ read 0x11 2 6 0x44332211 ∷ read 0x21 2 6 0x88776655 ∷ read 0x31 2 6 0x04030201 ∷ [])
   -- Table 9.10: TRN 0xFF, CH 0x02, ERR 0, LEN 4, INTS
   pub interrupt : run armed (sample 0x00000003 0 ∷ []) ≡ (0 ∷ 0 ∷ 0x00 ∷ 0x88 ∷ 0xFF ∷ 0x02 ∷ 0x00 ∷ 0x04 ∷ 0x00 ∷ 0x00 ∷ 0x01 ∷ 0x00 ∷ []) ∷ []
-  -- Table 9.11: LEN 4/2 and 1/4; INTENABLE keeps D[0]
-  pub gpio : asked enabled (ask 0x02 4 0x20 0xF0000001 ∷ ask 0x02 1 0x21 0 ∷ ask 0x02 4 0x60 0xFFFFFFFF ∷ ask 0x02 1 0x61 0 ∷ ask 0x02 1 0x01 0 ∷ [])
-      ≡ (0 ∷ 0 ∷ 2 ∷ 0 ∷ []) ∷ (0 ∷ 0 ∷ 4 ∷ 0xF0000001 ∷ []) ∷ (0 ∷ 0 ∷ 2 ∷ 0 ∷ []) ∷ (0 ∷ 0 ∷ 4 ∷ 1 ∷ []) ∷ (0 ∷ 0 ∷ 4 ∷ 0 ∷ []) ∷ []
-  -- Table 10.2: LEN 4/1 and 1/4
-  pub dac : asked fresh (ask 0x15 4 0x10 0x5A ∷ ask 0x15 1 0x11 0 ∷ ask 0x15 4 0x40 0x1A5 ∷ ask 0x15 1 0x41 0 ∷ [])
-      ≡ (0 ∷ 0 ∷ 1 ∷ 0 ∷ []) ∷ (0 ∷ 0 ∷ 4 ∷ 0x5A ∷ []) ∷ (0 ∷ 0 ∷ 1 ∷ 0 ∷ []) ∷ (0 ∷ 0 ∷ 4 ∷ 0xA5 ∷ []) ∷ []
+  -- INTTRIG 1: no interrupt on rising (17), one on falling
+  pub on-falling : run falling (sample 0x00000001 0 ∷ sample 0x00000000 0 ∷ [])
+      ≡ (17 ∷ 0 ∷ []) ∷ (0 ∷ 0 ∷ 0x00 ∷ 0xAA ∷ 0xFF ∷ 0x02 ∷ 0x00 ∷ 0x04 ∷ 0x00 ∷ 0x00 ∷ 0x01 ∷ 0x00 ∷ []) ∷ []
+  -- INTENABLE 0: a line fires, no interrupt goes out and INTS stays; DATAIN has it
+  pub no-interrupt : run silent (sample 0x00000001 0 ∷ []) ≡ (17 ∷ 0 ∷ []) ∷ []
+  pub ints-stays : Rows (after silent (sample 0x00000001 0 ∷ [])) 0x02 (read 0x71 1 4 0 ∷ read 0x01 1 4 1 ∷ [])
+  -- CLKSEL, EDGESEL and DIRECTION: which of the lines 0 to 3, all high, a sample of kind 0, 1 and 2 takes
+  pub kinds : map (λ kind. after clocked (sample 0x0000000F kind ∷ []) .gpio .datain) (0 ∷ 1 ∷ 2 ∷ []) ≡ 0x01 ∷ 0x02 ∷ 0x04 ∷ []
   -- the frame checks: another address, a command with information, another odd control, the other port, a wrong length; the acknowledgements
   pub checks : run fresh (frame 0 (0x01 ∷ 0x00 ∷ []) ∷ frame 0 (0x00 ∷ 0x2F ∷ 0x00 ∷ []) ∷ frame 0 (0x00 ∷ 0x0D ∷ []) ∷ frame 1 (0x00 ∷ 0x00 ∷ []) ∷ frame 0 (0x00 ∷ 0x00 ∷ []) ∷ [])
       ≡ (11 ∷ 0 ∷ []) ∷ (14 ∷ 0 ∷ []) ∷ (13 ∷ 0 ∷ []) ∷ (12 ∷ 0 ∷ []) ∷ (14 ∷ 0 ∷ []) ∷ []
   pub commands : run fresh (frame 1 (0x00 ∷ 0x3F ∷ []) ∷ frame 0 (0x00 ∷ 0xE3 ∷ []) ∷ frame 0 (0x00 ∷ 0x00 ∷ 0x77 ∷ []) ∷ frame 1 (0x00 ∷ 0x8F ∷ []) ∷ [])
       ≡ (0 ∷ 1 ∷ 0x00 ∷ 0x73 ∷ []) ∷ (0 ∷ 0 ∷ 0x00 ∷ 0x63 ∷ []) ∷ (0 ∷ 0 ∷ 0x00 ∷ 0x00 ∷ 0x77 ∷ []) ∷ (0 ∷ 1 ∷ 0x00 ∷ 0x63 ∷ []) ∷ []
-  -- disabling drops an open GO: its completion is 15, and the registers read 0; CONNECT keeps it
-  pub dropped : run (left busy (ask 0x00 4 0x02 0 ∷ [])) (completion [] ∷ []) ≡ (15 ∷ 0 ∷ []) ∷ []
-  pub kept : told (reaction (after busy (frame 0 (0x00 ∷ 0x2F ∷ []) ∷ [])) (completion [])) ≡ 0 ∷ 0 ∷ 6 ∷ 0x11223300 ∷ []
+  -- disabling drops an open GO for good: its completion is 15, also when SPI is enabled again, and the registers read 0
+  pub dropped : run off (received ∷ []) ≡ (15 ∷ 0 ∷ []) ∷ []
+  pub dropped-for-good : run again (received ∷ []) ≡ (15 ∷ 0 ∷ []) ∷ []
+  pub registers-zero : Rows again 0x01 (read 0x41 2 6 0 ∷ read 0x01 2 6 0 ∷ [])
+  -- so does RESET; CONNECT keeps it
+  pub reset-drops : run (after busy (frame 0 (0x00 ∷ 0x8F ∷ []) ∷ [])) (received ∷ []) ≡ (15 ∷ 0 ∷ []) ∷ []
+  pub kept : told (reaction (after busy (frame 0 (0x00 ∷ 0x2F ∷ []) ∷ [])) received) ≡ 0 ∷ 0 ∷ 6 ∷ 0x112233AA ∷ []
 
 pub tables : Tables
 unfolding
@@ -177,14 +260,26 @@ tables =
       is-busy = refl;
       unknown-command = refl;
       controller = refl;
-      seu-and-id = refl;
       spi = refl;
-      completed = refl;
-      interrupt = refl;
       gpio = refl;
+      seu = refl;
+      chip-id = refl;
       dac = refl;
+      wraps = refl;
+      completed = refl;
+      idle-again = refl;
+      all-bits = refl;
+      four-words = refl;
+      interrupt = refl;
+      on-falling = refl;
+      no-interrupt = refl;
+      ints-stays = refl;
+      kinds = refl;
       checks = refl;
       commands = refl;
       dropped = refl;
+      dropped-for-good = refl;
+      registers-zero = refl;
+      reset-drops = refl;
       kept = refl;
     }

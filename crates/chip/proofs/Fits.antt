@@ -9,7 +9,8 @@ use Rattle.commands.specs.declared.request.Reply.{Reply}
 use Rattle.registers.specs.Controller.{controllerAnswer, spiEnabled, gpioEnabled, seuEnabled}
 use Rattle.registers.specs.Spi.{spiCompleted}
 use Rattle.registers.specs.Pins.{gpioSampled}
-use Rattle.chip.specs.Event.{Event, EventFits}
+use Rattle.chip.specs.Event.{Event}
+use Rattle.chip.proofs.EventFits.{EventFits}
 use Rattle.chip.specs.State.{poweredOn, powerOn, withLink, withSpi, withGpio}
 use Rattle.chip.specs.Link.{receiveUp, sendUp}
 use Rattle.chip.specs.Request.{requestOf, replies}

@@ -1,3 +1,4 @@
+pub mod EventFits
 pub mod Cases
 pub mod Answers
 pub mod Happens

@@ -12,7 +12,8 @@ use Rattle.registers.specs.declared.gpio.Gpio.{Gpio}
 use Rattle.registers.specs.Controller.{controllerAnswer, controlInRange, spiEnabled, gpioEnabled}
 use Rattle.registers.specs.Spi.{spiZero, spiIsZero, spiBusy, spiAnswer}
 use Rattle.registers.specs.Gpio.{gpioZero, gpioIsZero, gpioAnswer}
-use Rattle.chip.specs.Event.{Event, EventFits}
+use Rattle.chip.specs.Event.{Event}
+use Rattle.chip.proofs.EventFits.{EventFits}
 use Rattle.chip.specs.State.{poweredOn, powerOn, inRange, withLink, withSpi, withGpio}
 use Rattle.chip.specs.Link.{receiveUp, sendUp}
 use Rattle.chip.specs.Request.{replies}

@@ -1,4 +1,4 @@
--- Document 01's chip: what a reader believes. `Chip.reaction` is the machine; the other files hold its parts in document 01's order.
+-- Document 01's chip: what a reader believes. `Chip.reaction` is the machine; the other files hold its parts, each after those that it uses.
 pub mod Event
 pub mod Numbers
 pub mod State

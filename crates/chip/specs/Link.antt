@@ -45,11 +45,11 @@ numberIn control = control / 2 % 8
 
 -- twice the send number plus 32 times the receive number
 abbrev pub packed : ℕ → ℕ → ℕ
-packed send receive = 2 * (send % 8) + 32 * (receive % 8)
+packed send receive = 2 * send + 32 * receive
 
 -- a reply's or an interrupt's
 abbrev pub replyControl : Adapter → ℕ
-replyControl a = packed (a .link .send .0) (a .link .receive .0)
+replyControl a = packed (sendNumber a) (receiveNumber a)
 
 -- SREJ's: 0x0D plus 32 times the receive number
 abbrev pub rejectControl : Adapter → ℕ

@@ -1,4 +1,4 @@
--- Document 01's bytes of frames that stand in more than one place. The numbers given back are those of the crate numbers.
+-- Bytes of document 01's frames, by name. The numbers given back are those of the crate numbers.
 use Prim.Native.Nat.{ℕ}
 
 -- the chip's address

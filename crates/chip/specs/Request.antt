@@ -54,7 +54,8 @@ replyBody control trn ch err len d =
 
 -- ---- the answer
 
--- Each channel answers from its own registers; the controller's write switches SPI and GPIO.
+-- Each channel answers from its own registers. A controller's write switches SPI and GPIO (`withControl`); a read or an error leaves CRB as
+-- it was, and then `withControl` changes nothing, since in a state in range a disabled SPI or GPIO holds zeros already.
 unfoldable pub onChannel : Adapter → Request → Channel → Answered
 onChannel a q Controller =
     let x = controllerAnswer (a .control) q in record { adapter = withControl a (x .control); reply = x .reply }

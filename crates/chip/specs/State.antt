@@ -34,16 +34,21 @@ poweredOn port id =
 abbrev pub powerOn : ℕ → Adapter
 powerOn id = poweredOn 0 id
 
--- Not a link number over 7, port over 1, ID over 24 bits, a set bit that reads 0, a disabled SPI or GPIO register not 0, a GO open
--- with SPI disabled.
+-- Not one of these, which are what 6 means exactly:
 unfoldable pub inRange : Adapter → Bool
 inRange a =
+    -- a link number over 7
     leb (a .link .send .0) 7
     && leb (a .link .receive .0) 7
+    -- port over 1
     && leb (a .link .port) 1
+    -- ID over 24 bits
     && leb (a .id) 0xFFFFFF
+    -- a set bit that reads 0
     && controlInRange (a .control)
+    -- a disabled SPI register not 0, a GO open with SPI disabled
     && (spiEnabled (a .control) || spiIsZero (a .spi))
+    -- a disabled GPIO register not 0
     && (gpioEnabled (a .control) || gpioIsZero (a .gpio))
 
 -- ---- one part anew

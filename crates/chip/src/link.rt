@@ -1,4 +1,5 @@
 // The link: its numbers, its active port, the ports in loopback, its control field and commands.
+ghost use Prim.Native.Nat.{_%_};
 ghost use mathlib.Core.Path.{_≡_};
 ghost use Rattle.chip.specs.State.{freshLink};
 ghost use Rattle.chip.specs.Link.{sendUp, receiveUp, receiveNumber, numberIn, packed, replyControl, rejectControl, acknowledgeControl, connected, looped, inLoopback};
@@ -73,7 +74,7 @@ pub(crate) fn number_in(control: u8) -> u8
 
 // The control field of a reply or an interrupt.
 fn control_of(send: SendNumber, receive: ReceiveNumber) -> u8
-    ensures { λ r. ⌜ r ≡ packed (send .0) (receive .0) ⌝ }
+    ensures { λ r. ⌜ r ≡ packed (send .0 % 8) (receive .0 % 8) ⌝ }
 {
     ((send.0 & NUMBER_MASK) << SEND_SHIFT) | ((receive.0 & NUMBER_MASK) << RECEIVE_SHIFT)
 }

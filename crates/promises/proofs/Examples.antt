@@ -34,7 +34,7 @@ use Rattle.player.specs.Play.{linesFrom}
 use Rattle.promises.specs.Runs.{Call, event, back, empty, AllOfTheirTypes, atStart}
 use Rattle.promises.specs.Ours.{ours}
 use Rattle.promises.specs.Text.{text}
-use Rattle.promises.specs.Table.{played, listing, listingOutput, inputText, outputText, everything, everythingOutput, Table}
+use Rattle.promises.specs.Table.{listing, listingOutput, inputText, outputText, request, Give, everything, everythingOutput, Table}
 use Rattle.promises.proofs.Steps.{and-left, and-right}
 use Rattle.promises.proofs.Runs.{demand3}
 use Rattle.promises.proofs.Lines.{textLines, lines-told}
@@ -104,32 +104,30 @@ eight-text =
     ∙ ap joined (lines-told ours demand3 0x00000A (lit≤ tt) (replicate 17408 0) (length-replicate {A = ℕ} 17408 0) listing (typed listing refl) ∙ listing-text)
     ∙ listing-joined
 
+-- the answers due to calls are the lines that the delivered calls give
+give : (calls : List Call) (output : List (List ℕ)) → literal calls ≡ true → textLines 0x00000A atStart calls ≡ output → Give calls output
+give calls output t e b size = lines-told ours demand3 0x00000A (lit≤ tt) b size calls (typed calls t) ∙ e
+
 -- THE TABLE HOLDS.
 pub table : Table
 unfolding
-    reaction onFrame commanded carried numbered requested answered onChannel replies padded poweredOn channelOf controllerAnswer actControl
-    controllerCommand dacAnswer actDac dacCommand stuff wire low literal below
+    reaction onFrame commanded carried numbered requested answered onChannel replies padded poweredOn isResetFrame put channelOf
+    controllerAnswer actControl controllerCommand dacAnswer actDac dacCommand stuff wire low literal below
 table =
     record {
-      eight-lines = λ b size.
-          lines-told ours demand3 0x00000A (lit≤ tt) b size listing
-          (typed listing refl)
-          ∙ listing-text;
+      eight-lines = give listing listingOutput refl listing-text;
       eight-lines-as-text = eight-text;
       ff-stuffs = refl;
       7e-stuffs = refl;
-      trn-01 = refl;
-      trn-fe = refl;
-      trn-00 = refl;
-      trn-ff = refl;
-      ch-15 = refl;
-      ch-16 = refl;
+      trn-01 = give (request 0x01 0x00 2 0x03) _ refl refl;
+      trn-fe = give (request 0xFE 0x00 2 0x03) _ refl refl;
+      trn-00 = give (request 0x00 0x00 2 0x03) _ refl refl;
+      trn-ff = give (request 0xFF 0x00 2 0x03) _ refl refl;
+      ch-15 = give (request 0x01 0x15 1 0x11) _ refl refl;
+      ch-16 = give (request 0x01 0x16 1 0x11) _ refl refl;
     }
 
 -- A RUN OF EVERYTHING: refusals, a step back, an emptying and a RESET, with the answers due.
-pub every-sentence : (b : List ℕ) → length b ≡ 17408 → played b everything ≡ everythingOutput
+pub every-sentence : Give everything everythingOutput
 unfolding literal below
-every-sentence b size =
-    lines-told ours demand3 0x00000A (lit≤ tt) b size everything
-    (typed everything refl)
-    ∙ everything-text
+every-sentence = give everything everythingOutput refl everything-text

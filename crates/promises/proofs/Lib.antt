@@ -1,4 +1,6 @@
 pub mod Examples
+pub mod Errors
+pub mod Sentences
 pub mod Lines
 pub mod Text
 pub mod ShutOut

@@ -13,7 +13,8 @@ use lib.Dec.{eqb, ltb, leb, lit<}
 use borrow.Author.Tests.{eq-eqb, ne-eqb, eqb-true, eqb-false, ltb-false, le-ltb, leb-true}
 use Rattle.numbers.specs.Numbers as number
 use Rattle.chip.specs.declared.Adapter.{Adapter}
-use Rattle.chip.specs.Event.{Event, frame, completion, sample, upset, EventFits}
+use Rattle.chip.specs.Event.{Event, frame, completion, sample, upset}
+use Rattle.chip.proofs.EventFits.{EventFits}
 use Rattle.chip.specs.State.{poweredOn, powerOn, inRange}
 use Rattle.chip.specs.Chip.{reaction, acceptedReset}
 use Rattle.chip.proofs.Laws.{Fits, power-on-fits, fits-kept, power-on-in-range, range-kept, number-given, id-stays}

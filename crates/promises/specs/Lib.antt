@@ -1,5 +1,6 @@
 pub mod Wire
 pub mod Calls
+pub mod Errors
 pub mod Runs
 pub mod Ours
 pub mod Exported

@@ -4,14 +4,12 @@ use Prim.Native.Nat.{ℕ}
 use mathlib.Core.Path.{_≡_}
 use mathlib.Core.Bool.{cond}
 use mathlib.Core.List.{List, [], _∷_}
-use lib.ListN.{length, take, getD, replicate}
+use lib.ListN.{length, take, replicate}
 use lib.Dec.{eqb}
 use Rattle.wire.specs.Bits.{wire}
 use Rattle.wire.specs.Frame.{stuff}
 use Prim.Native.String.{String}
 use Rattle.chip.specs.Event.{Event, frame, sample, upset}
-use Rattle.chip.specs.State.{powerOn}
-use Rattle.chip.specs.Chip.{reaction}
 use Rattle.player.specs.Play as Listing
 use Rattle.promises.specs.Text.{text}
 use Rattle.promises.specs.Runs.{Call, event, back, empty, Given, Calls}
@@ -75,26 +73,38 @@ abbrev pub outputText : String
 outputText =
     "0 1 0 00200100000200000000\n0 2 0 00420202000200000000\n0 3 0 00640302000434127856\n0 4 0 00860401200200000000\n0 5 0 008d\n17 4\n17 3\n0 4 0 00860502000434127856\n"
 
--- ---- a request to a new adapter: TRN, CH, LEN, CMD
+-- ---- a request to a new adapter
 
--- its reply's ERR
-abbrev pub errOf : ℕ → ℕ → ℕ → ℕ → ℕ
-errOf trn ch len cmd =
-    getD (reaction (powerOn 0x00000A) (frame 0 (0x00 ∷ 0x00 ∷ trn ∷ ch ∷ len ∷ cmd ∷ 0x00 ∷ 0x00 ∷ 0x00 ∷ 0x00 ∷ [])) .body) 4 0
+-- TRN, CH, LEN, CMD, without data
+abbrev pub request : ℕ → ℕ → ℕ → ℕ → List Call
+request trn ch len cmd = F 0 (0x00 ∷ 0x00 ∷ trn ∷ ch ∷ len ∷ cmd ∷ 0x00 ∷ 0x00 ∷ 0x00 ∷ 0x00 ∷ []) ∷ []
+
+-- its line: answer 0, one event kept, port 0, and a reply with TRN, CH, ERR, LEN and zero data
+abbrev pub reply : ℕ → ℕ → ℕ → ℕ → List (List ℕ)
+reply trn ch err len =
+    (0 ∷ 1 ∷ 0 ∷ 0x00 ∷ 0x20 ∷ trn ∷ ch ∷ err ∷ len ∷ 0x00 ∷ 0x00 ∷ 0x00 ∷ 0x00 ∷ []) ∷ []
+
+-- ---- the claim
+
+-- the lines that calls give, whatever the journal's bytes were
+abbrev pub Give : List Call → List (List ℕ) → Type 0
+Give calls output = (bytes : List ℕ) → length bytes ≡ 17408 → played bytes calls ≡ output
 
 -- "Proved, as a single table under one claim: the eight lines; FF stuffs to 111110111; 7E to 011111010; TRN 01 and FE pass, 00 and FF
 -- give 0x08; CH 0x15 known, 0x16 not."
 pub record Table : Type 0 where
-  pub eight-lines : (bytes : List ℕ) → length bytes ≡ 17408 → played bytes listing ≡ listingOutput
+  pub eight-lines : Give listing listingOutput
   pub eight-lines-as-text : Listing.played (text inputText) ≡ text outputText
   pub ff-stuffs : stuff 0 (wire (0xFF ∷ [])) ≡ 1 ∷ 1 ∷ 1 ∷ 1 ∷ 1 ∷ 0 ∷ 1 ∷ 1 ∷ 1 ∷ []
   pub 7e-stuffs : stuff 0 (wire (0x7E ∷ [])) ≡ 0 ∷ 1 ∷ 1 ∷ 1 ∷ 1 ∷ 1 ∷ 0 ∷ 1 ∷ 0 ∷ []
-  pub trn-01 : errOf 0x01 0x00 2 0x03 ≡ 0x00
-  pub trn-fe : errOf 0xFE 0x00 2 0x03 ≡ 0x00
-  pub trn-00 : errOf 0x00 0x00 2 0x03 ≡ 0x08
-  pub trn-ff : errOf 0xFF 0x00 2 0x03 ≡ 0x08
-  pub ch-15 : errOf 0x01 0x15 1 0x11 ≡ 0x00
-  pub ch-16 : errOf 0x01 0x16 1 0x11 ≡ 0x02
+  -- CRB read: LEN 2/4
+  pub trn-01 : Give (request 0x01 0x00 2 0x03) (reply 0x01 0x00 0x00 4)
+  pub trn-fe : Give (request 0xFE 0x00 2 0x03) (reply 0xFE 0x00 0x00 4)
+  pub trn-00 : Give (request 0x00 0x00 2 0x03) (reply 0x00 0x00 0x08 2)
+  pub trn-ff : Give (request 0xFF 0x00 2 0x03) (reply 0xFF 0x00 0x08 2)
+  -- DAC A read: LEN 1/4
+  pub ch-15 : Give (request 0x01 0x15 1 0x11) (reply 0x01 0x15 0x00 4)
+  pub ch-16 : Give (request 0x01 0x16 1 0x11) (reply 0x01 0x16 0x02 2)
 
 -- ---- a run of everything
 

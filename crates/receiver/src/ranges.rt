@@ -71,7 +71,7 @@ fn clear_from(bytes: &[u8], count: u8) -> bool
     true
 }
 
-pub fn in_range(rx: Receiver) -> bool
+pub(crate) fn in_range(rx: Receiver) -> bool
     ensures { λ r. ⌜ (r ≡ inRange rx) × (r ≡ true → Good (controlOf rx) (rx .bytes)) ⌝ }
 {
     let c = Control {

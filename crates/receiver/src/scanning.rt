@@ -164,7 +164,7 @@ fn scan(start: Control, kept: [u8; 20], s: &[u8], from: usize) -> Scanned
 }
 
 // The same from any bit of a buffer: the rest of the cable bytes is handed on as a part.
-pub fn scan_from(start: Control, kept: [u8; 20], input: &[u8], bit: usize) -> Scanned
+pub(crate) fn scan_from(start: Control, kept: [u8; 20], input: &[u8], bit: usize) -> Scanned
     requires { ⌜ Good start kept ⌝ }
     requires { ⌜ (length (now input) ≤ 65536) × (bit ≤ 8 * length (now input)) ⌝ }
     ensures { λ r. ⌜ Scan start kept (drop bit (wire (now (input .entry)))) r ⌝ }

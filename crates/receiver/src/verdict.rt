@@ -37,7 +37,7 @@ fn at_opening() -> Receiver
 }
 
 // An answer with no body.
-pub fn bare(rx: Receiver, number: u8, consumed: usize) -> Received
+pub(crate) fn bare(rx: Receiver, number: u8, consumed: usize) -> Received
     ensures { λ r. ⌜ r ≡ barely rx number consumed ⌝ }
 {
     Received {
@@ -75,7 +75,7 @@ fn at_flag(kept: [u8; 20], bits: u8, used: usize, output: &mut [u8]) -> Received
     }
 }
 
-pub fn conclude(stop: Scanned, output: &mut [u8]) -> Received
+pub(crate) fn conclude(stop: Scanned, output: &mut [u8]) -> Received
     requires { ⌜ Good (stop .control) (stop .bytes) ⌝ }
     requires { ⌜ (stop .hit ≡ 1 → 37 + stop .control .lead ≤ stop .control .count) ⌝ }
     requires { ⌜ 16 ≤ length (now output) ⌝ }

@@ -31,15 +31,21 @@ readGpio g Clksel = g .clksel
 readGpio g Edgesel = g .edgesel
 readGpio g Intenable = digit (g .intenable)
 
+-- all registers, one after the other
+abbrev pub gpioOf : (dataout datain direction intsel inttrig ints clksel edgesel : ℕ) (intenable : Bool) → Gpio
+gpioOf dataout datain direction intsel inttrig ints clksel edgesel intenable =
+    record { dataout = dataout; datain = datain; direction = direction; intsel = intsel; inttrig = inttrig; ints = ints; clksel = clksel; edgesel = edgesel; intenable = intenable }
+
+-- A write gives one register its value; the others keep theirs, and DATAIN always does.
 abbrev pub writeGpio : Gpio → Register → ℕ → Gpio
-writeGpio g Dataout v = record { dataout = v; datain = g .datain; direction = g .direction; intsel = g .intsel; inttrig = g .inttrig; ints = g .ints; clksel = g .clksel; edgesel = g .edgesel; intenable = g .intenable }
-writeGpio g Direction v = record { dataout = g .dataout; datain = g .datain; direction = v; intsel = g .intsel; inttrig = g .inttrig; ints = g .ints; clksel = g .clksel; edgesel = g .edgesel; intenable = g .intenable }
-writeGpio g Intsel v = record { dataout = g .dataout; datain = g .datain; direction = g .direction; intsel = v; inttrig = g .inttrig; ints = g .ints; clksel = g .clksel; edgesel = g .edgesel; intenable = g .intenable }
-writeGpio g Inttrig v = record { dataout = g .dataout; datain = g .datain; direction = g .direction; intsel = g .intsel; inttrig = v; ints = g .ints; clksel = g .clksel; edgesel = g .edgesel; intenable = g .intenable }
-writeGpio g Ints v = record { dataout = g .dataout; datain = g .datain; direction = g .direction; intsel = g .intsel; inttrig = g .inttrig; ints = v; clksel = g .clksel; edgesel = g .edgesel; intenable = g .intenable }
-writeGpio g Clksel v = record { dataout = g .dataout; datain = g .datain; direction = g .direction; intsel = g .intsel; inttrig = g .inttrig; ints = g .ints; clksel = v; edgesel = g .edgesel; intenable = g .intenable }
-writeGpio g Edgesel v = record { dataout = g .dataout; datain = g .datain; direction = g .direction; intsel = g .intsel; inttrig = g .inttrig; ints = g .ints; clksel = g .clksel; edgesel = v; intenable = g .intenable }
-writeGpio g Intenable v = record { dataout = g .dataout; datain = g .datain; direction = g .direction; intsel = g .intsel; inttrig = g .inttrig; ints = g .ints; clksel = g .clksel; edgesel = g .edgesel; intenable = bitOf v 0 }
+writeGpio g Dataout v = gpioOf v (g .datain) (g .direction) (g .intsel) (g .inttrig) (g .ints) (g .clksel) (g .edgesel) (g .intenable)
+writeGpio g Direction v = gpioOf (g .dataout) (g .datain) v (g .intsel) (g .inttrig) (g .ints) (g .clksel) (g .edgesel) (g .intenable)
+writeGpio g Intsel v = gpioOf (g .dataout) (g .datain) (g .direction) v (g .inttrig) (g .ints) (g .clksel) (g .edgesel) (g .intenable)
+writeGpio g Inttrig v = gpioOf (g .dataout) (g .datain) (g .direction) (g .intsel) v (g .ints) (g .clksel) (g .edgesel) (g .intenable)
+writeGpio g Ints v = gpioOf (g .dataout) (g .datain) (g .direction) (g .intsel) (g .inttrig) v (g .clksel) (g .edgesel) (g .intenable)
+writeGpio g Clksel v = gpioOf (g .dataout) (g .datain) (g .direction) (g .intsel) (g .inttrig) (g .ints) v (g .edgesel) (g .intenable)
+writeGpio g Edgesel v = gpioOf (g .dataout) (g .datain) (g .direction) (g .intsel) (g .inttrig) (g .ints) (g .clksel) v (g .intenable)
+writeGpio g Intenable v = gpioOf (g .dataout) (g .datain) (g .direction) (g .intsel) (g .inttrig) (g .ints) (g .clksel) (g .edgesel) (bitOf v 0)
 
 abbrev pub refuseGpio : Gpio → ℕ → Answered
 refuseGpio g error = record { gpio = g; reply = refusal error }

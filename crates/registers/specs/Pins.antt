@@ -3,6 +3,7 @@ use Prim.Native.Nat.{ℕ}
 use mathlib.Core.Bool.{Bool, not, _&&_, _||_, cond}
 use lib.Dec.{eqb}
 use Rattle.bits.specs.Bits.{bitOf, word}
+use Rattle.registers.specs.Gpio.{gpioOf}
 use Rattle.registers.specs.declared.gpio.Gpio.{Gpio}
 use Rattle.registers.specs.declared.gpio.Sampled.{Sampled}
 
@@ -32,6 +33,6 @@ gpioSampled g levels kind =
     let fired = firingLines g after in
     let interrupt = g .intenable && not (eqb fired 0) in
     record {
-      gpio = record { dataout = g .dataout; datain = after; direction = g .direction; intsel = g .intsel; inttrig = g .inttrig; ints = cond interrupt fired (g .ints); clksel = g .clksel; edgesel = g .edgesel; intenable = g .intenable };
+      gpio = gpioOf (g .dataout) after (g .direction) (g .intsel) (g .inttrig) (cond interrupt fired (g .ints)) (g .clksel) (g .edgesel) (g .intenable);
       interrupt = interrupt;
     }

@@ -41,7 +41,7 @@ writeSpi s Data1 v = record { control = s .control; freq = s .freq; ss = s .ss; 
 writeSpi s Data2 v = record { control = s .control; freq = s .freq; ss = s .ss; words = set (s .words) 2 v; go = s .go }
 writeSpi s Data3 v = record { control = s .control; freq = s .freq; ss = s .ss; words = set (s .words) 3 v; go = s .go }
 
--- GO makes the channel busy, until its completion; it is told by its TRN.
+-- GO makes the channel busy, until its completion, or until SPI is disabled or the chip RESET, which drop it. It is told by its TRN.
 abbrev pub startedSpi : Spi → ℕ → Spi
 startedSpi s trn = record { control = s .control; freq = s .freq; ss = s .ss; words = s .words; go = trn }
 

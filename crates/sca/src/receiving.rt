@@ -7,7 +7,7 @@ ghost use Rattle.sca.specs.Link.{receiverOf, receiverBytes};
 pub const BYTES: usize = 24;
 
 // The receiver that bytes spell.
-pub fn spelled_by(s: &[u8]) -> Receiver
+pub(crate) fn spelled_by(s: &[u8]) -> Receiver
     requires { ⌜ length (now s) ≡ 24 ⌝ }
     ensures { λ r. ⌜ r ≡ receiverOf (now (s .entry)) ⌝ }
 {
@@ -27,7 +27,7 @@ pub fn spelled_by(s: &[u8]) -> Receiver
 }
 
 // Spells a receiver.
-pub fn spell(rx: Receiver, s: &mut [u8])
+pub(crate) fn spell(rx: Receiver, s: &mut [u8])
     requires { ⌜ length (now s) ≡ 24 ⌝ }
     ensures { λ _. ⌜ now (s .exit) ≡ receiverBytes rx ⌝ }
 {

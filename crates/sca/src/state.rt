@@ -22,7 +22,7 @@ fn image_in(s: &[u8]) -> [u32; 18]
 }
 
 // Whether bytes are as long as a state and no bit is set that no field has.
-pub fn is_state(s: &[u8]) -> bool
+pub(crate) fn is_state(s: &[u8]) -> bool
     ensures { λ r. ⌜ r ≡ isState (now (s .entry)) ⌝ }
 {
     if s.len() == BYTES {
@@ -32,7 +32,7 @@ pub fn is_state(s: &[u8]) -> bool
 }
 
 // The state that bytes spell.
-pub fn state_in(s: &[u8]) -> Adapter
+pub(crate) fn state_in(s: &[u8]) -> Adapter
     requires { ⌜ length (now s) ≡ 76 ⌝ }
     ensures { λ r. ⌜ r ≡ stateIn (now (s .entry)) ⌝ }
 {
@@ -44,7 +44,7 @@ pub fn state_in(s: &[u8]) -> Adapter
 }
 
 // Whether bytes spell a state in range.
-pub fn in_range(s: &[u8]) -> bool
+pub(crate) fn in_range(s: &[u8]) -> bool
     ensures { λ r. ⌜ r ≡ (isState (now (s .entry)) && inRange (stateIn (now (s .entry)))) ⌝ }
 {
     if is_state(s) {
@@ -54,7 +54,7 @@ pub fn in_range(s: &[u8]) -> bool
 }
 
 // Spells a state.
-pub fn spell(a: Adapter, s: &mut [u8])
+pub(crate) fn spell(a: Adapter, s: &mut [u8])
     requires { ⌜ length (now s) ≡ 76 ⌝ }
     ensures { λ _. ⌜ now (s .exit) ≡ stateBytes a ⌝ }
 {

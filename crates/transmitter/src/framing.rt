@@ -181,7 +181,7 @@ fn fill(output: &mut [u8], pen: Pen) -> usize
 }
 
 // A body as a frame, with ones to fill the last byte: how many bytes were written.
-pub fn write_frame(body: &[u8], output: &mut [u8]) -> usize
+pub(crate) fn write_frame(body: &[u8], output: &mut [u8]) -> usize
     requires { ⌜ (length (now body) ≤ 16) × (24 ≤ length (now output)) ⌝ }
     ensures { λ r. ⌜ Raw (now (output .entry)) 0 (filled (frame (now (body .entry)))) (now (output .exit)) (8 * r) ⌝ }
 {
