@@ -19,7 +19,8 @@ use Rattle.receiver.specs.Receiver as receiver
 use Rattle.receiver.specs.Receive.{reading, readFrom, receivedAs, received, outputAfter}
 use Rattle.chip.specs.declared.Adapter.{Adapter}
 use Rattle.chip.specs.declared.Reaction.{Reaction}
-use Rattle.chip.specs.Event.{Event, frame, completion, sample, upset, EventFits}
+use Rattle.chip.specs.Event.{Event, frame, completion, sample, upset}
+use Rattle.chip.proofs.EventFits.{EventFits}
 use Rattle.chip.specs.Chip.{reaction, acceptedReset}
 use Rattle.chip.specs.State.{inRange}
 use Rattle.chip.proofs.Ranges.{of-in-range}
