@@ -15,7 +15,8 @@ use Rattle.receiver.specs.Receive.{Answer, Reading, concluded, reading}
 use Rattle.receiver.proofs.Machine.{runs-go, runs-stop, runs-end}
 use Rattle.promises.specs.Wire.{after}
 use Rattle.promises.specs.Calls.{spoken, verdict, heard}
-use Rattle.promises.proofs.Steps.{split, and-right, at-flag-answers}
+use Rattle.bits.proofs.Tests.{and-right}
+use Rattle.promises.proofs.Steps.{split, at-flag-answers}
 use Rattle.promises.proofs.Calls.{calls, decided, concluded-consumed, Took, took, Consumed, calls-consumed}
 
 -- ---- a bit at a time

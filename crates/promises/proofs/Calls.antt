@@ -14,7 +14,8 @@ use Rattle.receiver.specs.Receiver.{State, Stop, opened, next, decides, runs}
 use Rattle.receiver.specs.Receive.{Answer, concluded, reading}
 use Rattle.receiver.proofs.Machine.{runs-go, runs-stop, runs-end}
 use Rattle.promises.specs.Wire.{after}
-use Rattle.promises.proofs.Steps.{split, and-left}
+use Rattle.bits.proofs.Tests.{and-left}
+use Rattle.promises.proofs.Steps.{split}
 use Rattle.promises.proofs.Readings.{read-split}
 
 -- ---- readings, each going on where the last one stopped

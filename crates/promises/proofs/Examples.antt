@@ -35,7 +35,7 @@ use Rattle.promises.specs.Runs.{Call, event, back, empty, AllOfTheirType
 use Rattle.promises.specs.Ours.{ours}
 use Rattle.promises.specs.Text.{text}
 use Rattle.promises.specs.Table.{listing, listingOutput, inputText, outputText, request, Give, everything, everythingOutput, Table}
-use Rattle.promises.proofs.Steps.{and-left, and-right}
+use Rattle.bits.proofs.Tests.{and-left, and-right}
 use Rattle.promises.proofs.Runs.{demand3}
 use Rattle.promises.proofs.Lines.{textLines, lines-told}
 use Rattle.promises.proofs.Text.{ofLine, joined, Says, none, happens, steps, answers-text}

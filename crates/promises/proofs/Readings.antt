@@ -20,7 +20,8 @@ use Rattle.wire.proofs.Bits.{length-pack, AreBits, none, more}
 use Rattle.receiver.proofs.Machine.{runs-go, runs-end}
 use Rattle.promises.specs.Wire.{absent, sixOnes, sevenOnes, destuff, atAbort, after, hunter, seen}
 use Rattle.promises.specs.Calls.{Sized}
-use Rattle.promises.proofs.Steps.{split, and-right, absent-drop, ones-on, runs-append, run, within, Ran, ran, at-flag-answers, five, six-ones, goes-on, closing, aborting}
+use Rattle.bits.proofs.Tests.{and-right}
+use Rattle.promises.proofs.Steps.{split, absent-drop, ones-on, runs-append, run, within, Ran, ran, at-flag-answers, five, six-ones, goes-on, closing, aborting}
 
 -- ---- in a frame
 

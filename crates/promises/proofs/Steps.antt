@@ -24,15 +24,6 @@ pub split : (t : Bool) {A : Type 0} → (t ≡ true → A) → (t ≡ false → 
 split true f g = f refl
 split false f g = g refl
 
-pub and-left : (a b : Bool) → a && b ≡ true → a ≡ true
-and-left true b e = refl
-and-left false b e = e
-
-pub and-right : (a b : Bool) → a && b ≡ true → b ≡ true
-and-right true b e = e
-and-right false true e = refl
-and-right false false e = e
-
 -- parts of bits are bits
 pub bits-front : (p q : List ℕ) → AreBits (p ++ q) → AreBits p
 bits-front [] q h = none
