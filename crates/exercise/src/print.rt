@@ -14,7 +14,7 @@ fn byte(b: u8) {
 }
 
 // The number in decimal; with a frame, the bytes of its body in hex.
-pub fn line(r: Reaction) {
+pub(crate) fn line(r: Reaction) {
     let number = [digit(r.number / 10 % 10), digit(r.number % 10)];
     io::write_all(STDOUT, &number);
     let body = r.body;

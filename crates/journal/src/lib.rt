@@ -119,7 +119,7 @@ fn newest(j: &[u8]) -> [u32; 18]
     words
 }
 
-// Whether a step back may restore the newest record: the ID, which a record does not have, is in range.
+// Whether the newest record is sound, for a chip whose ID, which a record does not have, is in range.
 pub fn is_sound(j: &[u8]) -> bool
     requires { ⌜ wellFormed version1 (now j) ≡ true ⌝ }
     requires { ⌜ 0 < keptOf (now j) ⌝ }

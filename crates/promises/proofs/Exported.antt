@@ -35,15 +35,15 @@ use Rattle.sca.specs.Adapter.{stateBytes, stateIn, isState, packAnswer, packKep
 use Rattle.sca.proofs.States.{state-back, state-bytes}
 use Rattle.promises.specs.Runs.{Call, event, back, empty, Given, AllOfTheirTypes, Run, left, bare, refuses, Demand3}
 use Rattle.promises.specs.Ours.{Handed, shown, givesOurs, leavesOurs, ours}
-use Rattle.promises.specs.Exported.{Lent, lending, unpacked, unpackedKept, givesExported, leavesExported, exported}
+use Rattle.promises.specs.Exported.{BytePair, bytePair, unpacked, unpackedKept, givesExported, leavesExported, exported}
 use Rattle.promises.proofs.Runs.{demand3, state-fits, back-fits, created-new}
 
 -- ---- packing loses nothing
 
-module _ (n l p : ℕ) (hn : n < 256) (hl : l < 256) (hp : p < 256) where
-  its-number : (n + 256 * l + 65536 * p) % 256 ≡ n
-  its-number = omega arith
+pub its-number : (n l p : ℕ) → n < 256 → (n + 256 * l + 65536 * p) % 256 ≡ n
+its-number n l p h = omega arith
 
+module _ (n l p : ℕ) (hn : n < 256) (hl : l < 256) (hp : p < 256) where
   its-length : (n + 256 * l + 65536 * p) / 256 % 256 ≡ l
   its-length = omega arith
 
@@ -58,7 +58,7 @@ pub record Small (x : Answer) : Type 0 where
 pub unpacked-answer : (x : Answer) (output : List ℕ) → Small x → unpacked (packAnswer x) output ≡ shown x output
 unpacked-answer x output s =
     simp (
-      its-number (x .number) (x .length) (x .port) (s .number) (s .length) (s .port),
+      its-number (x .number) (x .length) (x .port) (s .number),
       its-length (x .number) (x .length) (x .port) (s .number) (s .length) (s .port),
       its-port (x .number) (x .length) (x .port) (s .number) (s .length) (s .port),
     )
@@ -168,8 +168,8 @@ kept-unpacked j = go (wellFormed version1 j) refl
 
 -- ---- one call
 
-abbrev spell : Handed → Lent
-spell p = lending (stateBytes (p .adapter)) (p .journal)
+abbrev spell : Handed → BytePair
+spell p = bytePair (stateBytes (p .adapter)) (p .journal)
 
 module _ (p : Handed) (f : Fits (p .adapter)) where
   -- a call on the bytes of a state gives what the call on the state gives,
@@ -195,7 +195,7 @@ module _ (p : Handed) (f : Fits (p .adapter)) where
 leaves-all : (ks : List Call) (p : Handed) → ((n : ℕ) → Fits (foldl leavesOurs p (take n ks) .adapter)) → foldl leavesExported (spell p) ks ≡ spell (foldl leavesOurs p ks)
 leaves-all [] p f = refl
 leaves-all (k ∷ ks) p f =
-    ap (λ (q : Lent). foldl leavesExported q ks) (leaves-same p (f 0) k) ∙ leaves-all ks (leavesOurs p k) (λ n. f (suc n))
+    ap (λ (q : BytePair). foldl leavesExported q ks) (leaves-same p (f 0) k) ∙ leaves-all ks (leavesOurs p k) (λ n. f (suc n))
 
 front-typed : (n : ℕ) (ks : List Call) → AllOfTheirTypes ks → AllOfTheirTypes (take n ks)
 front-typed zero ks t = tt
@@ -213,17 +213,17 @@ module _ (new : List ℕ) (size : length new ≡ 76) (r : Run) where
 
   left-same : left (exported new) r ≡ spell (left ours r)
   unfolding front
-  left-same = ap (λ (p : Lent). foldl leavesExported p (r .calls)) start-same ∙ leaves-all (r .calls) (ours .start (r .id) (r .bytes)) (λ n. state-fits (front r n))
+  left-same = ap (λ (p : BytePair). foldl leavesExported p (r .calls)) start-same ∙ leaves-all (r .calls) (ours .start (r .id) (r .bytes)) (λ n. state-fits (front r n))
 
   gives-left : (k : Call) → givesExported (left (exported new) r) k ≡ givesOurs (left ours r) k
-  gives-left k = ap (λ (p : Lent). givesExported p k) left-same ∙ gives-same (left ours r) (state-fits r) k
+  gives-left k = ap (λ (p : BytePair). givesExported p k) left-same ∙ gives-same (left ours r) (state-fits r) k
 
   leaves-left : (k : Call) → leavesExported (left (exported new) r) k ≡ spell (leavesOurs (left ours r) k)
-  leaves-left k = ap (λ (p : Lent). leavesExported p k) left-same ∙ leaves-same (left ours r) (state-fits r) k
+  leaves-left k = ap (λ (p : BytePair). leavesExported p k) left-same ∙ leaves-same (left ours r) (state-fits r) k
 
   kept-left : exported new .kept (left (exported new) r) ≡ keptIn (left ours r .journal)
   unfolding kept
-  kept-left = ap (λ (p : Lent). unpackedKept (kept (p .journal))) left-same ∙ kept-unpacked (left ours r .journal)
+  kept-left = ap (λ (p : BytePair). unpackedKept (kept (p .journal))) left-same ∙ kept-unpacked (left ours r .journal)
 
   unmoved : (k : Call) → leavesOurs (left ours r) k ≡ left ours r → leavesExported (left (exported new) r) k ≡ left (exported new) r
   unmoved k e = leaves-left k ∙ ap spell e ∙ sym left-same
@@ -233,12 +233,12 @@ pub demand3-exported : (new : List ℕ) → length new ≡ 76 → Demand3 (expor
 demand3-exported new size =
     record {
       undamaged = λ r k. rw (gives-left new size r k) (demand3 .undamaged r k);
-      state = λ r. ap (λ (p : Lent). stateIn (p .state)) (left-same new size r) ∙ state-back (left ours r .adapter) (state-fits r) ∙ demand3 .state r;
+      state = λ r. ap (λ (p : BytePair). stateIn (p .state)) (left-same new size r) ∙ state-back (left ours r .adapter) (state-fits r) ∙ demand3 .state r;
       reply = λ r e output. gives-left new size r (event e output) ∙ demand3 .reply r e output;
       takes-back = λ r h.
           let d = demand3 .takes-back r (λ z. h (ap (λ (x : KeptNumber). x .kept) (kept-left new size r) ∙ z)) in (
             gives-left new size r back ∙ d .0,
-            ap (λ (p : Lent). stateIn (p .state)) (leaves-left new size r back) ∙ state-back (leavesOurs (left ours r) back .adapter) (back-fits r) ∙ d .1,
+            ap (λ (p : BytePair). stateIn (p .state)) (leaves-left new size r back) ∙ state-back (leavesOurs (left ours r) back .adapter) (back-fits r) ∙ d .1,
           );
       refused-at-zero = λ r z.
           let d = demand3 .refused-at-zero r (sym (ap (λ (x : KeptNumber). x .kept) (kept-left new size r)) ∙ z) in

@@ -26,22 +26,19 @@ use Rattle.sca.specs.Link.{receiverBytes, receiverOf, packReceived, transmitRes
 use Rattle.sca.proofs.States.{state-again}
 use Rattle.sca.proofs.Spelling.{spelled-again}
 use Rattle.promises.specs.Runs.{isRefusal}
-use Rattle.promises.specs.Exported.{numberIn}
-use Rattle.promises.proofs.Exported.{called-number, back-small}
+use Rattle.promises.specs.Exported.{resultNumber}
+use Rattle.promises.proofs.Exported.{its-number, called-number, back-small}
 use Rattle.promises.proofs.Refused.{event-unchanged, back-unchanged, transmit-unchanged, reading-number, receive-unchanged}
 
--- the number is below what is packed above it
-its-number : (n l p : ℕ) → n < 256 → (n + 256 * l + 65536 * p) % 256 ≡ n
-its-number n l p h = omega arith
-
-its-number-2 : (n c : ℕ) → n < 256 → (n + 256 * c) % 256 ≡ n
-its-number-2 n c h = omega arith
+-- the number is below the count that is packed above it
+sent-again : (n c : ℕ) → n < 256 → (n + 256 * c) % 256 ≡ n
+sent-again n c h = omega arith
 
 -- ---- the adapter's calls
 
 module _ (s journal : List ℕ) (bytes : AreBytes s) where
   -- sca_frame, sca_completion, sca_sample, sca_upset
-  pub event-keeps : (e : Event) (output : List ℕ) → isRefusal (numberIn (happened s journal e output .result)) ≡ true
+  pub event-keeps : (e : Event) (output : List ℕ) → isRefusal (resultNumber (happened s journal e output .result)) ≡ true
       → happened s journal e output ≡ left (happened s journal e output .result) s journal output
   unfolding happened
   event-keeps e output h = by (isState s) refl
@@ -57,7 +54,7 @@ module _ (s journal : List ℕ) (bytes : AreBytes s) where
       by false q = rw q refl
 
   -- sca_step_back
-  pub back-keeps : isRefusal (numberIn (steppedBack s journal .result)) ≡ true → steppedBack s journal ≡ backed (steppedBack s journal .result) s journal
+  pub back-keeps : isRefusal (resultNumber (steppedBack s journal .result)) ≡ true → steppedBack s journal ≡ backed (steppedBack s journal .result) s journal
   unfolding steppedBack
   back-keeps h = by (isState s) refl
     where
@@ -72,7 +69,7 @@ module _ (s journal : List ℕ) (bytes : AreBytes s) where
       by false q = rw q refl
 
 -- sca_create
-pub create-keeps : (s : List ℕ) (id : ℕ) → isRefusal (numberIn (created s id .result)) ≡ true → created s id .bytes ≡ s
+pub create-keeps : (s : List ℕ) (id : ℕ) → isRefusal (resultNumber (created s id .result)) ≡ true → created s id .bytes ≡ s
 unfolding created Calls.created
 create-keeps s id h = by (eqb (length s) 76) refl (ltb 0xFFFFFF id) refl
   where
@@ -82,7 +79,7 @@ create-keeps s id h = by (eqb (length s) 76) refl (ltb 0xFFFFFF id) refl
     by false q l k = rw q refl
 
 -- sca_empty
-pub empty-keeps : (journal : List ℕ) → isRefusal (numberIn (emptied journal .result)) ≡ true → emptied journal .bytes ≡ journal
+pub empty-keeps : (journal : List ℕ) → isRefusal (resultNumber (emptied journal .result)) ≡ true → emptied journal .bytes ≡ journal
 unfolding emptied Calls.madeEmpty
 empty-keeps journal h = by (eqb (length journal) 17408) refl
   where
@@ -116,16 +113,16 @@ received-number rx input start output =
         reading-number (λ n. n < 256) (lit< tt) (lit< tt) (lit< tt) (lit< tt) (lit< tt) (lit< tt) (view rx) (drop start (wire input))
 
 -- sca_transmit
-pub transmit-keeps : (body output : List ℕ) → isRefusal (numberIn (transmitResult body output)) ≡ true → transmitOutput body output ≡ output
+pub transmit-keeps : (body output : List ℕ) → isRefusal (resultNumber (transmitResult body output)) ≡ true → transmitOutput body output ≡ output
 unfolding transmitted
 transmit-keeps body output h =
-    transmit-unchanged body output (ap isRefusal (sym (its-number-2 (transmitted body output .number) (transmitted body output .count) small)) ∙ h) .bytes
+    transmit-unchanged body output (ap isRefusal (sym (sent-again (transmitted body output .number) (transmitted body output .count) small)) ∙ h) .bytes
   where
     small : transmitted body output .number < 256
     small = sent-number (leb 2 (length body) && leb (length body) 16) (leb 24 (length output)) (length (framed body))
 
 -- sca_receiver_new
-pub new-keeps : (rx : List ℕ) → isRefusal (numberIn (newResult rx)) ≡ true → newReceiver rx ≡ rx
+pub new-keeps : (rx : List ℕ) → isRefusal (resultNumber (newResult rx)) ≡ true → newReceiver rx ≡ rx
 new-keeps rx h = by (eqb (length rx) 24) refl
   where
     by : (t : Bool) → eqb (length rx) 24 ≡ t → newReceiver rx ≡ rx
@@ -133,7 +130,7 @@ new-keeps rx h = by (eqb (length rx) 24) refl
     by false q = rw q refl
 
 -- sca_receive
-pub receive-keeps : (rx input : List ℕ) (start : ℕ) (output : List ℕ) → isRefusal (numberIn (receiveResult rx input start output)) ≡ true
+pub receive-keeps : (rx input : List ℕ) (start : ℕ) (output : List ℕ) → isRefusal (resultNumber (receiveResult rx input start output)) ≡ true
     → (receiveReceiver rx input start output ≡ rx) × (receiveOutput rx input start output ≡ output)
 receive-keeps rx input start output h = by (eqb (length rx) 24) refl
   where

@@ -2,8 +2,10 @@
 use mathlib.Core.Path.{_≡_, refl, sym, ap, ap₂, _∙_}
 use mathlib.Core.Bool.{Bool, true, false, cond, _&&_}
 use mathlib.Core.List.{List, [], _∷_, _++_, append-nil}
-use Prim.Native.Nat.{ℕ, _+_, _*_, _-_, _≤_}
+use Prim.Native.Nat.{ℕ, _+_, _*_, _-_, _≤_, _<_}
 use native.Mathlib.Omega.{arith}
+use mir.Syntax.{w8}
+use mir.Val.{Fits as Fits8}
 use borrow.Author.Tests.{eq-eqb, ne-eqb, eqb-true}
 use lib.Dec.{eqb}
 use lib.ListN.{length, take, drop, getD, length-append, length-drop, take-append-drop}
@@ -16,7 +18,7 @@ use Rattle.chip.specs.Event.{Event}
 use Rattle.chip.specs.declared.Adapter.{Adapter}
 use Rattle.chip.specs.State.{powerOn, inRange}
 use Rattle.journal.specs.Image.{imageWords, stateOf, spelled}
-use Rattle.journal.specs.Layout.{version1, past, lowered}
+use Rattle.journal.specs.Layout.{version1, wellFormed, keptOf, past, lowered}
 use Rattle.journal.specs.Record.{restored, sound}
 use Rattle.journal.proofs.Spelling.{image-words, state-image, image-spelled, image-bytes}
 use Rattle.adapter.specs.Refusals.{backVerdict}
@@ -35,9 +37,12 @@ use Rattle.sca.proofs.Spelling.{put-all}
 
 -- ---- the bytes
 
-pub its-length : (s : List ℕ) → isState s ≡ true → length s ≡ 76
+its-length : (s : List ℕ) → isState s ≡ true → length s ≡ 76
 unfolding isState
 its-length s h = eqb-true (length s) 76 (and-left (eqb (length s) 76) (spelled (wordsOf 18 s)) h)
+
+pub of-its-length : (s : List ℕ) {t : Bool} → t ≡ isState s → t ≡ true → length s ≡ 76
+of-its-length s h k = its-length s (sym h ∙ k)
 
 pub is-a-state : (s ws : List ℕ) {r : Bool} → length s ≡ 76 → ws ≡ wordsOf 18 s → r ≡ spelled ws → r ≡ isState s
 unfolding isState
@@ -124,32 +129,40 @@ state-read s ws ids h e f g =
 -- ---- an event
 
 module _ (s journal output : List ℕ) (e : Event) where
-  pub event-done : {before : Adapter} {a : Answer} {j′ o′ s′ : List ℕ} {r : ℕ} → isState s ≡ true → before ≡ stateIn s
+  pub event-done : {t : Bool} {before : Adapter} {a : Answer} {j′ o′ s′ : List ℕ} {r : ℕ} → t ≡ isState s → t ≡ true → before ≡ stateIn s
       → Calls.outcome a j′ o′ ≡ Calls.called before journal e output → r ≡ packAnswer a → s′ ≡ stateBytes (a .adapter)
       → left r s′ j′ o′ ≡ happened s journal e output
   unfolding happened
-  event-done {before} {a} {j′} {o′} {s′} {r} h f d q p =
-      rw h
+  event-done {t} {before} {a} {j′} {o′} {s′} {r} h k f d q p =
+      rw (sym h ∙ k)
       (ap₂ (λ (x : ℕ) (y : List ℕ). left x y j′ o′) q p
       ∙ ap (λ (c : Outcome). left (packAnswer (c .answer)) (stateBytes (c .answer .adapter)) (c .journal) (c .output))
       (d ∙ ap (λ (x : Adapter). Calls.called x journal e output) f))
 
-  pub event-refused : {r : ℕ} → isState s ≡ false → r ≡ number.badState → left r s journal output ≡ happened s journal e output
+  pub event-refused : {t : Bool} {r : ℕ} → t ≡ isState s → t ≡ false → r ≡ number.badState → left r s journal output ≡ happened s journal e output
   unfolding happened
-  event-refused h q = rw h (ap (λ (x : ℕ). left x s journal output) q)
+  event-refused h k q = rw (sym h ∙ k) (ap (λ (x : ℕ). left x s journal output) q)
 
 -- ---- a step back
 
-pub ranged-state : (s : List ℕ) {a : Adapter} {r : Bool} → isState s ≡ true → a ≡ stateIn s → r ≡ inRange a → r ≡ (isState s && inRange (stateIn s))
-ranged-state s h e f = rw h (f ∙ ap inRange e)
+pub ranged-state : (s : List ℕ) {t : Bool} {a : Adapter} {r : Bool} → t ≡ isState s → t ≡ true → a ≡ stateIn s → r ≡ inRange a
+    → r ≡ (isState s && inRange (stateIn s))
+ranged-state s h k e f = rw (sym h ∙ k) (f ∙ ap inRange e)
 
-pub ranged-none : (s : List ℕ) → isState s ≡ false → false ≡ (isState s && inRange (stateIn s))
-ranged-none s h = rw h refl
+pub ranged-none : (s : List ℕ) {t : Bool} → t ≡ isState s → t ≡ false → false ≡ (isState s && inRange (stateIn s))
+ranged-none s h k = rw (sym h ∙ k) refl
+
+-- a slice of bytes, as the language says it
+abbrev Given8 : List ℕ → Type 0
+Given8 s = (i : ℕ) → Fits8 w8 (getD s i 0)
+
+of-u8 : (s : List ℕ) → Given8 s → AreBytes s
+of-u8 s f i = f i .fits
 
 -- a verdict's number, and an answer that has only a number
-numberIn : Verdict → ℕ
-numberIn (Refused n) = n
-numberIn Passed = number.noFrame
+verdictNumber : Verdict → ℕ
+verdictNumber (Refused n) = n
+verdictNumber Passed = number.noFrame
 
 only-number : (n : ℕ) → n ≡ n + 256 * 0 + 65536 * 0
 only-number n = omega arith
@@ -167,32 +180,38 @@ module _ (s journal : List ℕ) (ranged : Bool) (in-range : ranged ≡ (isState 
   a-state : isState s ≡ true → v ≡ backVerdict (stateIn s) journal
   a-state h = judged (stateIn s) (in-range ∙ rw h refl)
 
-  pub back-refused : {n r : ℕ} → AreBytes s → v ≡ Refused n → r ≡ n → backed r s journal ≡ steppedBack s journal
-  unfolding steppedBack Calls.steppedBack numberIn
+  pub back-refused : {n r : ℕ} → Given8 s → v ≡ Refused n → r ≡ n → backed r s journal ≡ steppedBack s journal
+  unfolding steppedBack Calls.steppedBack verdictNumber
   back-refused {n} {r} b q e = by (isState s) refl
     where
       by : (t : Bool) → isState s ≡ t → backed r s journal ≡ steppedBack s journal
       by true h =
           rw (h, ← a-state h, q)
-          (ap₂ (λ (x : ℕ) (y : List ℕ). backed x y journal) (e ∙ only-number n) (sym (state-again s h b)))
-      by false h = rw h (ap (λ (x : ℕ). backed x s journal) (e ∙ ap numberIn (sym q ∙ no-state h)))
+          (ap₂ (λ (x : ℕ) (y : List ℕ). backed x y journal) (e ∙ only-number n) (sym (state-again s h (of-u8 s b))))
+      by false h = rw h (ap (λ (x : ℕ). backed x s journal) (e ∙ ap verdictNumber (sym q ∙ no-state h)))
 
   -- what a verdict that refuses nothing tells
-  pub granted : v ≡ Passed → (isState s ≡ true) × PassingBack (stateIn s) journal
-  unfolding numberIn
+  granted : v ≡ Passed → (isState s ≡ true) × PassingBack (stateIn s) journal
+  unfolding verdictNumber
   granted q = by (isState s) refl
     where
       by : (t : Bool) → isState s ≡ t → (isState s ≡ true) × PassingBack (stateIn s) journal
       by true h = (h, passing-back (stateIn s) journal (sym q ∙ a-state h))
-      by false h = absurd (not-six (ap numberIn (sym q ∙ no-state h)))
+      by false h = absurd (not-six (ap verdictNumber (sym q ∙ no-state h)))
 
-  pub back-granted : {r : ℕ} {s′ j′ : List ℕ} → AreBytes s → AreBytes journal → v ≡ Passed → s′ ≡ put 0 (bytesOf (wordsOf 18 (past version1 journal 0))) s
+  pub copies : v ≡ Passed → (wellFormed version1 journal ≡ true) × ((0 < keptOf journal) × (72 ≤ length s))
+  copies q = let g = granted q in let n = its-length s (g .0) in (g .1 .formed, (g .1 .some, omega arith))
+
+  pub lowers : v ≡ Passed → (wellFormed version1 journal ≡ true) × (0 < keptOf journal)
+  lowers q = let g = granted q in (g .1 .formed, g .1 .some)
+
+  pub back-granted : {r : ℕ} {s′ j′ : List ℕ} → Given8 s → Given8 journal → v ≡ Passed → s′ ≡ put 0 (bytesOf (wordsOf 18 (past version1 journal 0))) s
       → j′ ≡ lowered journal → r ≡ number.noFrame → backed r s′ j′ ≡ steppedBack s journal
   unfolding steppedBack Calls.steppedBack sound past
   back-granted {r} {s′} {j′} b c q d f e =
       let g = granted q in
       let newest : List ℕ = past version1 journal 0 in
-      let image = restored-bytes s newest (its-length s (g .0)) b (bytes-part _ 256 journal c)
+      let image = restored-bytes s newest (its-length s (g .0)) (of-u8 s b) (bytes-part _ 256 journal (of-u8 journal c))
       (and-left (spelled (wordsOf 18 newest)) (inRange (restored (stateIn s) newest)) (g .1 .restorable)) in
       rw (g .0, ← a-state (g .0), q, image)
       (ap₂ (λ (x : ℕ) (y : List ℕ). backed x s′ y) e f ∙ ap (λ (y : List ℕ). backed 17 y (lowered journal)) d)
