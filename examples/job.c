@@ -20,17 +20,17 @@ static void show(const char *what, const uint8_t *bytes, size_t length) {
     printf("\n");
 }
 
-static void show_kept(const char *what) { printf("%-11s%u kept\n", what, SCA_KEPT(sca_kept(journal, sizeof journal))); }
+static void show_kept(const char *what) { printf("%-11s%u kept\n", what, sca_kept_in(sca_kept(journal, sizeof journal))); }
 
 /* A body that came on the primary port: it is answered, and the answer goes out on the cable. */
 static void answer(const uint8_t *body, size_t length) {
-    uint8_t output[SCA_OUTPUT_BYTES], cable[SCA_FRAME_MOST];
+    uint8_t output[SCA_OUTPUT_LEAST], cable[SCA_CABLE_MOST];
     uint64_t result = sca_frame(state, sizeof state, journal, sizeof journal, SCA_PRIMARY, body, length, output, sizeof output);
     show("request", body, length);
-    if (SCA_NUMBER(result) == SCA_FRAME) {
-        uint64_t sent = sca_transmit(output, SCA_LENGTH(result), cable, sizeof cable);
-        show("reply", output, SCA_LENGTH(result));
-        show("cable out", cable, SCA_COUNT(sent));
+    if (sca_number(result) == SCA_HAS_FRAME) {
+        uint64_t sent = sca_transmit(output, sca_length(result), cable, sizeof cable);
+        show("reply", output, sca_length(result));
+        show("cable out", cable, sca_count(sent));
     }
 }
 
@@ -40,15 +40,15 @@ static void hear(const uint8_t *cable, size_t length) {
     uint64_t result;
     show("cable in", cable, length);
     do {
-        uint8_t body[SCA_BODY_MOST];
+        uint8_t body[SCA_OUTPUT_LEAST];
         result = sca_receive(receiver, sizeof receiver, cable, length, start, body, sizeof body);
-        start += SCA_CONSUMED(result);
-        if (SCA_NUMBER(result) == SCA_FRAME) answer(body, SCA_LENGTH(result));
-    } while (SCA_NUMBER(result) != SCA_DONE && !SCA_REFUSED(result));
+        start += sca_consumed(result);
+        if (sca_number(result) == SCA_HAS_FRAME) answer(body, sca_length(result));
+    } while (sca_number(result) != SCA_NO_FRAME && !sca_refused(result));
 }
 
 int main(void) {
-    uint8_t output[SCA_OUTPUT_BYTES];
+    uint8_t output[SCA_OUTPUT_LEAST];
     sca_create(state, sizeof state, 0x00000A);
     sca_empty(journal, sizeof journal);
     sca_receiver_new(receiver, sizeof receiver);

@@ -5,25 +5,37 @@
  *     #include "sca.h"
  *     cc program.c libsca.a
  *
+ *     For x86-64 with the System V calling convention, as on Linux; for C99 and
+ *     later, and C++. Of the C library the archive needs memcpy and nothing else.
+ *
  * DESCRIPTION
+ *     The link reads frames from the bits of a cable (sca_receive) and writes
+ *     them (sca_transmit). The adapter is the chip: it takes events (sca_frame,
+ *     sca_completion, sca_sample, sca_upset), gives what the chip would send,
+ *     and can take events back (sca_step_back).
+ *
  *     The library keeps nothing: whatever lasts from call to call stands in
  *     bytes that the caller lends. It allocates nothing, opens nothing and
  *     holds no lock, so that calls on different buffers may run side by side.
  *
  *     A buffer is a pointer and its length in bytes. A pointer whose length
  *     is 0 is not read and may be NULL. The buffers of one call must not
- *     overlap. No call touches a byte outside of the buffers lent to it.
+ *     overlap. No call touches a byte outside of the buffers lent to it. Every
+ *     other argument may have any value, and every call ends.
  *
  *     Bits go least significant first: bit n of a cable buffer is bit n % 8
  *     of its byte n / 8.
  *
  * RETURN VALUE
- *     Each call gives one 64-bit value. Its lowest byte is the number of the
- *     table below, read by SCA_NUMBER; the call's own text says what stands
- *     above it and by which function it is read.
+ *     Each call but sca_version gives one 64-bit result. sca_number reads the
+ *     number in it, one of the table below, and sca_text has the number in
+ *     words. What else stands in a result, the call's own text says, with the
+ *     function that reads it.
  *
  *     A call whose number is 1 to 10 is refused: every byte that was lent is
- *     as it was, and all of the value above the number is 0.
+ *     as it was, and the result holds nothing beside the number. Of several
+ *     reasons to refuse, the number is of the one that the call's text names
+ *     first.
  */
 #ifndef SCA_H
 #define SCA_H
@@ -35,98 +47,175 @@
 extern "C" {
 #endif
 
+/* ------------------------------------------------------------------ version */
+
+/* The version that this header is of, 1.0.0: major << 16 | minor << 8 | patch. */
+#define SCA_VERSION 0x010000
+
 /* ------------------------------------------------------------------ numbers */
 
 enum {
-    SCA_FRAME = 0,               /* a frame was read or sent */
+    SCA_HAS_FRAME = 0,        /* a frame was read or sent: its bytes stand at the front of output */
 
     /* refused: nothing has changed */
-    SCA_OUTPUT_SHORT = 1,        /* output under 16 bytes (transmitter: 24) */
-    SCA_BODY_LENGTH = 2,         /* body not 2 to 16 bytes */
-    SCA_ARGUMENT = 3,            /* port not 0 or 1, edge kind over 2, or completion not 16 bytes */
-    SCA_JOURNAL_WRONG = 4,       /* journal length, mark, version or layout wrong */
-    SCA_NOTHING_KEPT = 5,        /* no event to step back over */
-    SCA_STATE_RANGE = 6,         /* receiver or state of another length, or a field out of range */
-    SCA_ID_RANGE = 7,            /* chip ID over 0xFFFFFF */
-    SCA_INPUT_LONG = 8,          /* receiver input over 65,536 bytes */
-    SCA_START_RANGE = 9,         /* start bit over 8 times the bytes of the input */
-    SCA_LINE_UNREADABLE = 10,    /* bench listing only; no call of this library gives it */
+    SCA_SHORT_OUTPUT = 1,     /* the output is under SCA_OUTPUT_LEAST (sca_transmit: SCA_CABLE_MOST) bytes */
+    SCA_BAD_BODY = 2,         /* the body is not SCA_BODY_LEAST to SCA_BODY_MOST bytes */
+    SCA_BAD_ARGUMENT = 3,     /* the port is not 0 or 1, the edge kind is over 2, or the completion is not 16 bytes */
+    SCA_BAD_JOURNAL = 4,      /* the journal's length, mark, version or layout is wrong */
+    SCA_NONE_KEPT = 5,        /* the kept number is 0: there is no event to take back */
+    SCA_BAD_STATE = 6,        /* the state or the receiver has another length, or a field out of range */
+    SCA_BAD_ID = 7,           /* the chip ID is over SCA_ID_MOST */
+    SCA_LONG_INPUT = 8,       /* the receiver's input is over SCA_INPUT_MOST bytes */
+    SCA_BAD_START = 9,        /* the start bit is over 8 times the bytes of the input */
+    SCA_UNREADABLE = 10,      /* a line of a bench listing is not readable; no call of this library gives it */
 
-    /* done: the adapter dropped the event */
-    SCA_ADDRESS = 11,            /* address not 0x00 */
-    SCA_PORT_INACTIVE = 12,      /* port not active */
-    SCA_CONTROL_UNKNOWN = 13,    /* unknown control with bit 0 set */
-    SCA_INFORMATION_LENGTH = 14, /* information not of the length that the control asks */
-    SCA_NOT_BUSY = 15,           /* completion when SPI is not busy */
-    SCA_GPIO_DISABLED = 16,      /* pin sample with GPIO disabled */
+    /* done: the adapter dropped the event, and no register has changed */
+    SCA_OTHER_ADDRESS = 11,   /* the address is not 0x00 */
+    SCA_OTHER_PORT = 12,      /* the port is not the active one */
+    SCA_OTHER_CONTROL = 13,   /* a control with bit 0 set that is no CONNECT, RESET or TEST */
+    SCA_BAD_INFORMATION = 14, /* the information is not 8 bytes, or not empty with CONNECT, RESET or TEST */
+    SCA_NOT_BUSY = 15,        /* a completion when no SPI transfer is open */
+    SCA_LINES_DISABLED = 16,  /* a pin sample with GPIO disabled */
 
-    SCA_DONE = 17,               /* done, no frame */
+    SCA_NO_FRAME = 17,        /* done, and there is no frame */
 
     /* done: the receiver dropped a frame and has moved on */
-    SCA_CONTENT_LONG = 21,       /* content over 144 bits */
-    SCA_CONTENT_BROKEN = 22,     /* content not a multiple of 8 bits */
-    SCA_FCS_WRONG = 23,          /* FCS wrong */
-    SCA_ABORTED = 24             /* seven ones after at least 32 bits of content */
+    SCA_LONG_CONTENT = 21,    /* content of over 144 bits */
+    SCA_BROKEN_CONTENT = 22,  /* content of a number of bits that is no multiple of 8 */
+    SCA_WRONG_FCS = 23,       /* content whose FCS is wrong */
+    SCA_ABORTED = 24          /* seven ones after at least 32 bits of content */
 };
 
 /* -------------------------------------------------------------------- sizes */
 
-#define SCA_RECEIVER_BYTES 24   /* a receiver: mode, ones, lead, count, 20 bytes of content */
 #define SCA_BODY_LEAST 2        /* the bytes of the shortest body */
-#define SCA_BODY_MOST 16        /* the bytes of the longest body, and the least output of a receiver */
-#define SCA_FRAME_MOST 24       /* the bytes of the longest frame, and the least output of a transmitter */
-#define SCA_INPUT_MOST 65536    /* the most bytes of cable in one call */
-
-#define SCA_STATE_BYTES 76      /* an adapter's state: a record as docs/JOURNAL.md has it, then the chip ID */
-#define SCA_JOURNAL_BYTES 17408 /* a journal: a header, and room for SCA_KEPT_MOST records */
-#define SCA_KEPT_MOST 64        /* the most events that can be taken back */
-#define SCA_OUTPUT_BYTES 16     /* the least output of an event */
+#define SCA_BODY_MOST 16        /* the bytes of the longest body */
+#define SCA_CABLE_MOST 24       /* the bytes of the longest frame on the cable: the least output of sca_transmit */
+#define SCA_INPUT_MOST 65536    /* the most bytes of cable in one call of sca_receive */
+#define SCA_OUTPUT_LEAST 16     /* the least output of sca_receive and of an event */
 #define SCA_TRANSFER_BYTES 16   /* the bytes received in an SPI transfer, whatever its length */
 #define SCA_ID_MOST 0xFFFFFF    /* the greatest chip ID */
+#define SCA_RECEIVER_BYTES 24   /* a receiver */
+#define SCA_STATE_BYTES 76      /* an adapter's state */
+#define SCA_JOURNAL_BYTES 17408 /* a journal */
+#define SCA_KEPT_MOST 64        /* the most events that can be taken back */
 
 /* ---------------------------------------------------------------- arguments */
 
 enum {
-    SCA_PRIMARY = 0,             /* ports */
+    SCA_PRIMARY = 0,            /* ports */
     SCA_AUXILIARY = 1,
 
-    SCA_SYSTEM_CLOCK = 0,        /* edge kinds */
+    SCA_SYSTEM_CLOCK = 0,       /* edge kinds */
     SCA_STROBE_RISING = 1,
     SCA_STROBE_FALLING = 2
 };
 
 /* --------------------------------------------------------- reading a result */
 
-/* The number: any call. */
-static inline unsigned SCA_NUMBER(uint64_t result) { return (unsigned)(result & 0xFF); }
+/* The number: any call but sca_version. */
+static inline unsigned sca_number(uint64_t result) { return (unsigned)(result & 0xFF); }
 
-/* The bytes of the body that were written, 2 to 16, or 0 where no body is given: sca_receive and the events. */
-static inline size_t SCA_LENGTH(uint64_t result) { return (size_t)((result >> 8) & 0xFF); }
+/* Whether the call was refused and so changed nothing: any call but sca_version. */
+static inline int sca_refused(uint64_t result) { return sca_number(result) >= 1 && sca_number(result) <= 10; }
+
+/* The bytes of the body that was written, 2 to 16, or 0 where there is none: sca_receive and the events. */
+static inline size_t sca_length(uint64_t result) { return (size_t)((result >> 8) & 0xFF); }
 
 /* The bits read from the start bit on, the deciding bit among them: sca_receive. */
-static inline size_t SCA_CONSUMED(uint64_t result) { return (size_t)(result >> 16); }
+static inline size_t sca_consumed(uint64_t result) { return (size_t)(result >> 16); }
 
-/* The port that the body leaves on, or 0 where no body is given: the events. */
-static inline unsigned SCA_PORT(uint64_t result) { return (unsigned)((result >> 16) & 0xFF); }
+/* The port that the body leaves on, or 0 where there is none: the events. */
+static inline uint32_t sca_port(uint64_t result) { return (uint32_t)((result >> 16) & 0xFF); }
+
+/* The bytes of cable that were written, at most SCA_CABLE_MOST: sca_transmit. */
+static inline size_t sca_count(uint64_t result) { return (size_t)(result >> 8); }
 
 /* The events that can be taken back, 0 to SCA_KEPT_MOST: sca_kept. */
-static inline unsigned SCA_KEPT(uint64_t result) { return (unsigned)((result >> 8) & 0xFF); }
+static inline unsigned sca_kept_in(uint64_t result) { return (unsigned)((result >> 8) & 0xFF); }
 
-/* The bytes of cable that were written, at most SCA_FRAME_MOST: sca_transmit. */
-static inline size_t SCA_COUNT(uint64_t result) { return (size_t)(result >> 8); }
+/* A number in words; "unknown number" for one that is none. */
+static inline const char *sca_text(unsigned number) {
+    switch (number) {
+    case SCA_HAS_FRAME: return "a frame was read or sent";
+    case SCA_SHORT_OUTPUT: return "the output is under 16 bytes (transmitter: under 24)";
+    case SCA_BAD_BODY: return "the body is not 2 to 16 bytes";
+    case SCA_BAD_ARGUMENT: return "the port is not 0 or 1, the edge kind is over 2, or the completion is not 16 bytes";
+    case SCA_BAD_JOURNAL: return "the journal's length, mark, version or layout is wrong";
+    case SCA_NONE_KEPT: return "the kept number is 0";
+    case SCA_BAD_STATE: return "the state or the receiver has another length, or a field out of range";
+    case SCA_BAD_ID: return "the chip ID is over 0xFFFFFF";
+    case SCA_LONG_INPUT: return "the receiver's input is over 65,536 bytes";
+    case SCA_BAD_START: return "the start bit is over 8 times the bytes";
+    case SCA_UNREADABLE: return "the line is not readable";
+    case SCA_OTHER_ADDRESS: return "dropped: the address is not 0x00";
+    case SCA_OTHER_PORT: return "dropped: the port is not active";
+    case SCA_OTHER_CONTROL: return "dropped: the control has bit 0 set and is not CONNECT, RESET or TEST";
+    case SCA_BAD_INFORMATION: return "dropped: the information is not as long as the control asks";
+    case SCA_NOT_BUSY: return "dropped: a completion came when SPI was not busy";
+    case SCA_LINES_DISABLED: return "dropped: a pin sample came with GPIO disabled";
+    case SCA_NO_FRAME: return "done, and there is no frame";
+    case SCA_LONG_CONTENT: return "the receiver dropped a frame: its content is over 144 bits";
+    case SCA_BROKEN_CONTENT: return "the receiver dropped a frame: its content is not a multiple of 8 bits";
+    case SCA_WRONG_FCS: return "the receiver dropped a frame: its FCS is wrong";
+    case SCA_ABORTED: return "the receiver dropped a frame: seven ones broke it off";
+    default: return "unknown number";
+    }
+}
 
-/* Whether the call was refused and so changed nothing: any call. */
-static inline int SCA_REFUSED(uint64_t result) { return SCA_NUMBER(result) >= 1 && SCA_NUMBER(result) <= 10; }
+/* -------------------------------------------------------------- the library */
 
-/* ----------------------------------------------------------------- the link */
+/*
+ * sca_version - the version of the library
+ *
+ * Gives SCA_VERSION of the header that the library was made with, and no number
+ * of the table. A program that finds another value than its own SCA_VERSION was
+ * built with the header of another version.
+ */
+uint64_t sca_version(void);
+
+/* ----------------------------------------------------------------- the link
+ *
+ * A receiver is SCA_RECEIVER_BYTES of the caller's. Keep them as they are from
+ * call to call:
+ *
+ *     uint8_t receiver[SCA_RECEIVER_BYTES], body[SCA_OUTPUT_LEAST];
+ *     size_t start = 0;
+ *     uint64_t result;
+ *     sca_receiver_new(receiver, sizeof receiver);
+ *     do {
+ *         result = sca_receive(receiver, sizeof receiver, cable, length, start, body, sizeof body);
+ *         start += sca_consumed(result);
+ *         if (sca_number(result) == SCA_HAS_FRAME)
+ *             take(body, sca_length(result));
+ *     } while (sca_number(result) != SCA_NO_FRAME && !sca_refused(result));
+ *
+ * They may be copied, kept in a file and handed in again. Byte by byte:
+ *
+ *     byte     field    range                    meaning
+ *     0        mode     0 or 1                   0: hunting for a flag
+ *                                                1: in a frame that a flag has opened
+ *     1        ones     hunting: 0 to 7          the ones read since the last zero; 7: a run
+ *                       in a frame: 0 to 6       that can begin no flag, as at the start
+ *     2        lead     hunting: 0               1: the zero in front of this run is content
+ *                       in a frame: 0 or 1       0: it is a flag's, or a stuffed one
+ *     3        count    hunting: 0               the bits of content that are kept
+ *                       in a frame: 0 to 152
+ *     4 to 23  content  bits from count on: 0    bit n of the content is bit n % 8 of byte
+ *                                                4 + n / 8
+ *
+ * In a frame, lead + (ones, but at most 5) is at most count. Bytes in these
+ * ranges are taken, all others refused with 6; every call that is not refused
+ * leaves bytes in them. Of the content, all bits after the opening flag are kept
+ * up to the 152nd, but for stuffed zeros and the sixth one of a run.
+ */
 
 /*
  * sca_receiver_new - a receiver that hunts for its first flag
  *
- * Writes the receiver's 24 bytes, whatever they held before. Keep them as
- * they are from call to call; docs/RECEIVER.md says what each byte means.
+ * Writes the receiver's bytes, whatever they held before: 0, 7, then zeros.
  *
- * Number: 17 (SCA_DONE), or
+ * Number: 17 (SCA_NO_FRAME), or refused:
  *     6  receiver_length is not SCA_RECEIVER_BYTES
  */
 uint64_t sca_receiver_new(uint8_t *receiver, size_t receiver_length);
@@ -136,22 +225,22 @@ uint64_t sca_receiver_new(uint8_t *receiver, size_t receiver_length);
  *
  * Reads input from bit start on, and stops at the first answer or where the
  * bits run out. To read a whole buffer, call again with start raised by
- * SCA_CONSUMED until the number is 17; the receiver carries an unfinished
+ * sca_consumed until the number is 17; the receiver carries an unfinished
  * frame over to the next buffer, which may begin at any bit. A start at the
  * very end of the input reads no bit and gives 17.
  *
- * Number, with SCA_CONSUMED and SCA_LENGTH:
- *     0   a frame; its body of SCA_LENGTH bytes stands at the front of output
+ * Number, with sca_consumed and sca_length:
+ *     0   a frame; its body of sca_length bytes stands at the front of output
  *     17  the bits ran out
  *     21  a flag ended content of over 144 bits
  *     22  ... of a number of bits that is no multiple of 8
  *     23  ... whose FCS is wrong
  *     24  seven ones broke a frame off after at least 32 bits of content
- * or refused, the first that applies:
+ * or refused:
  *     6   receiver_length is not SCA_RECEIVER_BYTES, or a field is out of range
  *     8   input_length is over SCA_INPUT_MOST
  *     9   start is over 8 * input_length
- *     1   output_length is under SCA_BODY_MOST
+ *     1   output_length is under SCA_OUTPUT_LEAST
  *
  * Content of under 32 bits is passed over without an answer. After 0 and 21
  * to 23 the flag has opened the next frame; after 24 the receiver hunts. No
@@ -166,11 +255,11 @@ uint64_t sca_receive(uint8_t *receiver, size_t receiver_length, const uint8_t *i
  * Writes flag, body and FCS with a zero after each five ones, flag, then ones
  * to fill the last byte. Bytes of output after those written are unchanged.
  *
- * Number, with SCA_COUNT:
- *     0  SCA_COUNT bytes were written
- * or refused, the first that applies:
+ * Number, with sca_count:
+ *     0  sca_count bytes were written
+ * or refused:
  *     2  body_length is not SCA_BODY_LEAST to SCA_BODY_MOST
- *     1  output_length is under SCA_FRAME_MOST, however short the frame
+ *     1  output_length is under SCA_CABLE_MOST, however short the frame
  */
 uint64_t sca_transmit(const uint8_t *body, size_t body_length, uint8_t *output, size_t output_length);
 
@@ -178,38 +267,145 @@ uint64_t sca_transmit(const uint8_t *body, size_t body_length, uint8_t *output, 
  *
  * An adapter is a state and a journal, both the caller's bytes:
  *
- *     uint8_t state[SCA_STATE_BYTES], journal[SCA_JOURNAL_BYTES], output[SCA_OUTPUT_BYTES];
+ *     uint8_t state[SCA_STATE_BYTES], journal[SCA_JOURNAL_BYTES], output[SCA_OUTPUT_LEAST];
  *     sca_create(state, sizeof state, 0x00000A);
  *     sca_empty(journal, sizeof journal);
  *     result = sca_frame(state, sizeof state, journal, sizeof journal, SCA_PRIMARY, body, body_length,
  *                        output, sizeof output);
- *     if (SCA_NUMBER(result) == SCA_FRAME)
- *         send(SCA_PORT(result), output, SCA_LENGTH(result));
+ *     if (sca_number(result) == SCA_HAS_FRAME)
+ *         send(sca_port(result), output, sca_length(result));
  *
- * The state holds all that lasts: registers, SEU counter, link numbers, port,
- * loopback, an open GO and the chip ID. It may be copied, kept in a file and
- * handed in again; sca_step_back needs the journal that went with it.
+ * THE EVENTS
+ *     They are sca_frame, sca_completion, sca_sample and sca_upset. Each writes
+ *     the body that it sends at the front of output; no other byte of output
+ *     changes.
  *
- * The four events are sca_frame, sca_completion, sca_sample and sca_upset.
- * Each writes what it sends, a body, at the front of output; no other byte of
- * output changes. An event that is not refused is kept in the journal, dropped
- * ones too, and can be taken back; of over SCA_KEPT_MOST events the oldest is
- * given up. An accepted RESET empties the journal instead.
+ *     Number of every event, with sca_length and sca_port:
+ *         0         a body of sca_length bytes is to leave on port sca_port
+ *         11 to 16  the event was dropped: no register has changed
+ *         17        done, and nothing is to be sent
+ *     or refused:
+ *         6         state_length is not SCA_STATE_BYTES, or a field of the state
+ *                   is out of range, as the table of its bytes below says
+ *         4         journal_length is not SCA_JOURNAL_BYTES, or the journal's
+ *                   mark, version or layout is wrong
+ *         1         output_length is under SCA_OUTPUT_LEAST
+ *         3, then 2 the event's own arguments, as its text says
  *
- * Number of every event, with SCA_LENGTH and SCA_PORT:
- *     0         a body of SCA_LENGTH bytes is to leave on port SCA_PORT
- *     11 to 16  the event was dropped: no register has changed
- *     17        done, and nothing is to be sent
- * or refused, the first that applies:
- *     6         state_length is not SCA_STATE_BYTES, a bit is set that no field
- *               has, or a field is out of range: a link number over 7, a port
- *               over 1, an ID over SCA_ID_MOST, a set bit that reads 0, a
- *               register of a disabled SPI or GPIO that is not 0, or a GO open
- *               with SPI disabled
- *     4         journal_length is not SCA_JOURNAL_BYTES, or the journal's mark,
- *               version or layout is wrong; docs/JOURNAL.md says which bytes
- *     1         output_length is under SCA_OUTPUT_BYTES
- *     3, 2      the event's own argument, as its text below says
+ * THE STATE
+ *     It holds all that lasts: link numbers, port, loopback, registers, an open
+ *     GO, the SEU counter and the chip ID. It may be copied, kept in a file and
+ *     handed in again. Byte by byte; a field of several bytes has its lowest
+ *     byte first, so that bit n of it is bit n % 8 of its byte n / 8:
+ *
+ *         byte      field                                channel  range
+ *         0         send number                                   0 to 7
+ *         1         receive number                                0 to 7
+ *         2         active port                                   0 or 1
+ *         3         bit 0: port 0 is in loopback
+ *                   bit 1: port 1 is in loopback
+ *                   bit 2: INTENABLE                     0x02
+ *                   bits 7 to 3                                   0
+ *         4         CRB                                  0x00     bit 0 is 0
+ *         5         CRC                                  0x00
+ *         6         CRD                                  0x00     bits 7 to 5 are 0
+ *         7         TRN of the open GO; 0: none is open  0x01
+ *         8, 9      CONTROL                              0x01
+ *         10, 11    FREQ                                 0x01
+ *         12        SS                                   0x01
+ *         13 to 15                                                0
+ *         16 to 31  DATA, words 0 to 3                   0x01
+ *         32 to 35  DATAOUT                              0x02
+ *         36 to 39  DATAIN                               0x02
+ *         40 to 43  DIRECTION                            0x02
+ *         44 to 47  INTSEL                               0x02
+ *         48 to 51  INTTRIG                              0x02
+ *         52 to 55  INTS                                 0x02
+ *         56 to 59  CLKSEL                               0x02
+ *         60 to 63  EDGESEL                              0x02
+ *         64 to 67  DAC A, B, C, D                       0x15
+ *         68 to 71  SEU counter                          0x13
+ *         72 to 74  chip ID, byte 72 its bits 7 to 0     0x14
+ *         75        chip ID, bits 31 to 24               0x14     0
+ *
+ *     While SPI is disabled (CRB bit 1 is 0), all fields of channel 0x01 are 0,
+ *     and while GPIO is disabled (CRB bit 2 is 0), all of channel 0x02. A state
+ *     of any other length, or that is not in these ranges, is refused with 6,
+ *     and no other is. Every call that is not refused leaves a state in range.
+ *
+ * THE JOURNAL
+ *     It holds what sca_step_back needs. Every event that is not refused is kept
+ *     in it, dropped ones too; of over SCA_KEPT_MOST events the oldest is given
+ *     up. An accepted RESET empties the journal instead.
+ *
+ *     A journal belongs to the state that went with it: hand both in as the last
+ *     call left them, or copies of both that were taken at the same moment. A
+ *     step back is for such a pair.
+ *
+ *         byte          what
+ *         0 to 2        the mark: 0x53 0x43 0x4A, "SCJ"
+ *         3, 4          the version: 0x01 0x00
+ *         5             the first slot, 0 to 63
+ *         6             the kept number, 0 to SCA_KEPT_MOST
+ *         7 to 1023     not read and not written
+ *         1024 to end   64 slots of 256 bytes for the records
+ *
+ *     The records are the library's own and for sca_step_back alone; another
+ *     version may lay them out otherwise. Number 4 means: another length than
+ *     SCA_JOURNAL_BYTES, or one of bytes 0 to 6 that is not as the table says.
+ *     sca_step_back also gives it where the record that it would take back is
+ *     damaged. No journal that the calls themselves left is refused.
+ *
+ * THE CHIP
+ *     A body is address, control, information. Address 0x00 is the chip's. The
+ *     controls 0x2F and 0x3F are CONNECT, 0x8F and 0x9F RESET, 0xE3 and 0xF3
+ *     TEST; they come without information on either port and are acknowledged
+ *     with 00 63, or 00 73 where bit 4 was set. CONNECT makes its port active,
+ *     zeroes both link numbers and ends loopback on both ports; RESET does the
+ *     same and sets all registers and the SEU counter to power-on, not the chip
+ *     ID; TEST puts its own port in loopback, where any other body to address
+ *     0x00 without bit 0 of control comes back unchanged.
+ *
+ *     A request is a numbered frame on the active port: control bits 3 to 1 are
+ *     the receive number, which then goes up by one modulo 8; another is dropped
+ *     and SREJ goes out, control 0x0D plus 32 times the receive number. A
+ *     request's information is TRN, CH, LEN, CMD, D[23:16], D[31:24], D[7:0],
+ *     D[15:8]. A reply has ERR, LEN in place of LEN, CMD; its control is twice
+ *     the send number, which then goes up, plus 32 times the receive number. An
+ *     interrupt is a reply with TRN 0xFF, CH 0x02, LEN 4 and INTS as its data.
+ *     Data that a reply does not use is 0, and what a request does not use is not
+ *     read.
+ *
+ *     ERR is 0, or the first of these; the reply then has LEN 2 and zero data, and
+ *     no register has changed:
+ *         0x08  TRN is 0x00 or 0xFF
+ *         0x02  CH is none of the table below
+ *         0x20  the channel is not enabled
+ *         0x40  SPI is busy: a GO is open
+ *         0x04  CMD is none of the channel's
+ *         0x10  LEN is not the one that the table asks
+ *
+ *     Commands in hex, the write and the read of a register as 40/41, and LEN
+ *     asked/given. CRB bit 0 and CRD bits 7 to 5 read 0 whatever was written. A
+ *     write that disables SPI or GPIO zeroes all fields of its channel: an open GO
+ *     is dropped, and its reply never comes.
+ *
+ *         CH    enabled by  commands                               LEN
+ *         0x00  always      CRB 02/03, CRC 04/05, CRD 06/07        write 4/2
+ *                           in D[31:24]                            read 2/4
+ *         0x01  CRB bit 1   CONTROL 40/41, FREQ 50/51 in D[15:0];  write 6/2
+ *         SPI               SS 60/61 in D[7:0]; DATA words 0 to 3  read 2/6
+ *                           00/01, 10/11, 20/21, 30/31; GO 72      GO 2/6
+ *         0x02  CRB bit 2   DATAOUT 10/11, DIRECTION 20/21,        write 4/2
+ *         GPIO              INTSEL 30/31, INTTRIG 40/41,           read 1/4
+ *                           INTS 70/71, CLKSEL 80/81,
+ *                           EDGESEL 90/91; INTENABLE 60/61 in
+ *                           D[0]; read DATAIN 01
+ *         0x13  CRD bit 3   SEU counter: read F1, clear F0         read 4/4
+ *                                                                  clear 4/2
+ *         0x14  CRD bit 4   chip ID: read D1, D[23:0]              4/4
+ *         0x15  always      DAC A, B, C, D 10/11, 20/21, 30/31,    write 4/1
+ *                           40/41 in D[7:0]                        read 1/4
  */
 
 /*
@@ -218,7 +414,7 @@ uint64_t sca_transmit(const uint8_t *body, size_t body_length, uint8_t *output, 
  * Writes the state at power-on, whatever the bytes held before: port 0 active,
  * no loopback, all registers and numbers 0, and this chip ID.
  *
- * Number: 17 (SCA_DONE), or refused, the first that applies:
+ * Number: 17 (SCA_NO_FRAME), or refused:
  *     6  state_length is not SCA_STATE_BYTES
  *     7  id is over SCA_ID_MOST
  */
@@ -227,9 +423,9 @@ uint64_t sca_create(uint8_t *state, size_t state_length, uint32_t id);
 /*
  * sca_empty - an empty journal
  *
- * Writes the header's first bytes, whatever the journal held before.
+ * Writes bytes 0 to 6, whatever the journal held before.
  *
- * Number: 17 (SCA_DONE), or
+ * Number: 17 (SCA_NO_FRAME), or refused:
  *     4  journal_length is not SCA_JOURNAL_BYTES
  */
 uint64_t sca_empty(uint8_t *journal, size_t journal_length);
@@ -237,40 +433,44 @@ uint64_t sca_empty(uint8_t *journal, size_t journal_length);
 /*
  * sca_kept - how many events can be taken back
  *
- * Number, with SCA_KEPT:
- *     17  SCA_KEPT events can be taken back
- *     4   the journal is refused, as the events would; SCA_KEPT is then 0
+ * Number, with sca_kept_in:
+ *     17  sca_kept_in events can be taken back
+ * or refused:
+ *     4   as by the events
  */
 uint64_t sca_kept(const uint8_t *journal, size_t journal_length);
 
 /*
  * sca_frame - a frame body arrives on a port
  *
- * Number: of the events, with
- *     0   an acknowledgement, a looped body, SREJ or a reply
- *     11  address not 0x00
- *     12  port not active
- *     13  unknown control with bit 0 set
- *     14  CONNECT, RESET or TEST with information, or a request whose
- *         information is not 8 bytes
- *     17  an SPI GO: its reply comes with the completion
- * and refused, after 6, 4 and 1:
- *     3   port is not SCA_PRIMARY or SCA_AUXILIARY
+ * Number: of the events, the first that applies:
+ *     11  the address is not 0x00
+ *     14  CONNECT, RESET or TEST with information
+ *     0   CONNECT, RESET or TEST: its acknowledgement, on the same port
+ *     13  another control with bit 0 set
+ *     0   the port is in loopback: the body itself, on the same port
+ *     12  the port is not the active one
+ *     14  the information is not 8 bytes
+ *     0   the frame is not the one that is due: SREJ
+ *     17  a GO that starts a transfer: its reply comes with sca_completion
+ *     0   the reply
+ * or refused, after 6, 4 and 1:
+ *     3   port is not SCA_PRIMARY or SCA_AUXILIARY; 256 is no port either
  *     2   body_length is not SCA_BODY_LEAST to SCA_BODY_MOST
  */
-uint64_t sca_frame(uint8_t *state, size_t state_length, uint8_t *journal, size_t journal_length, uint8_t port,
+uint64_t sca_frame(uint8_t *state, size_t state_length, uint8_t *journal, size_t journal_length, uint32_t port,
                    const uint8_t *body, size_t body_length, uint8_t *output, size_t output_length);
 
 /*
  * sca_completion - an SPI transfer is complete
  *
- * received holds the 128 bits that came in, byte 0 bits 7 to 0; the low ones
- * that CONTROL's length says become DATA's.
+ * received holds the 128 bits that came in, byte 0 bits 7 to 0. As many of its
+ * low bits as CONTROL bits 6 to 0 say, 0 meaning 128, become those of DATA.
  *
  * Number: of the events, with
- *     0   the reply of the open GO
+ *     0   the reply of the open GO, with DATA word 0
  *     15  no GO is open
- * and refused, after 6, 4 and 1:
+ * or refused, after 6, 4 and 1:
  *     3   received_length is not SCA_TRANSFER_BYTES
  */
 uint64_t sca_completion(uint8_t *state, size_t state_length, uint8_t *journal, size_t journal_length,
@@ -280,17 +480,20 @@ uint64_t sca_completion(uint8_t *state, size_t state_length, uint8_t *journal, s
  * sca_sample - the pins are sampled
  *
  * Bit n of levels is the level of line n. kind is what samples: the system
- * clock, the strobe rising, or the strobe falling.
+ * clock, the strobe rising, or the strobe falling. A line with DIRECTION 0 takes
+ * its level if CLKSEL is 0 and kind is 0, or CLKSEL is 1 and kind is 1 with
+ * EDGESEL 0 or 2 with EDGESEL 1. A line that so changed, with INTSEL 1, fires on
+ * rising where INTTRIG is 0 and on falling where it is 1.
  *
  * Number: of the events, with
- *     0   an interrupt
+ *     0   an interrupt: INTENABLE is 1 and lines fired, which INTS now holds
  *     16  GPIO is disabled
  *     17  no interrupt
- * and refused, after 6, 4 and 1:
+ * or refused, after 6, 4 and 1:
  *     3   kind is over SCA_STROBE_FALLING
  */
 uint64_t sca_sample(uint8_t *state, size_t state_length, uint8_t *journal, size_t journal_length, uint32_t levels,
-                    uint8_t kind, uint8_t *output, size_t output_length);
+                    uint32_t kind, uint8_t *output, size_t output_length);
 
 /*
  * sca_upset - a single event upset
@@ -298,7 +501,7 @@ uint64_t sca_sample(uint8_t *state, size_t state_length, uint8_t *journal, size_
  * The SEU counter goes up by one, from its end to 0. No body is ever sent, yet
  * output is asked for as by the other events.
  *
- * Number: 17 (SCA_DONE), or refused with 6, 4 or 1.
+ * Number: 17 (SCA_NO_FRAME), or refused with 6, 4 or 1 as every event.
  */
 uint64_t sca_upset(uint8_t *state, size_t state_length, uint8_t *journal, size_t journal_length, uint8_t *output,
                    size_t output_length);
@@ -306,14 +509,15 @@ uint64_t sca_upset(uint8_t *state, size_t state_length, uint8_t *journal, size_t
 /*
  * sca_step_back - takes the newest standing event back
  *
- * The state becomes what it was before that event; the chip ID is that of the
- * state handed in. What was sent is not taken back, nor a receiver's bits.
+ * For a state and the journal that went with it. The state becomes what it was
+ * before that event, its chip ID stays, and the kept number goes down by one.
+ * What was sent is not taken back, nor what a receiver has read.
  *
- * Number: 17 (SCA_DONE), or refused, the first that applies:
+ * Number: 17 (SCA_NO_FRAME), or refused:
  *     6  as by the events
- *     4  as by the events; also where the newest record is damaged, as
- *        docs/JOURNAL.md says
+ *     4  as by the events
  *     5  no event is kept
+ *     4  the record of that event is damaged
  */
 uint64_t sca_step_back(uint8_t *state, size_t state_length, uint8_t *journal, size_t journal_length);
 

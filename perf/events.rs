@@ -2,8 +2,8 @@
 
 #![forbid(unsafe_code)]
 
-use boundary::{JOURNAL_BYTES, STATE_BYTES};
 use reference::adapter::{self, Journal, State};
+use sca::{boundary, JOURNAL_BYTES, STATE_BYTES};
 use std::time::Instant;
 
 /// Rounds of each measurement; the best of them counts.
@@ -51,25 +51,25 @@ trait Side: Clone {
 impl Side for Ours {
     fn new() -> Ours {
         let (mut state, mut journal) = ([0; STATE_BYTES], vec![0; JOURNAL_BYTES]);
-        boundary::create(&mut state, 10);
-        boundary::empty(&mut journal);
+        boundary::sca_create(&mut state, 10);
+        boundary::sca_empty(&mut journal);
         Ours { state, journal }
     }
 
     fn frame(&mut self, body: &[u8]) -> usize {
         let mut output = [0; 16];
-        let answer = boundary::frame(&mut self.state, &mut self.journal, 0, body, &mut output);
+        let answer = boundary::sca_frame(&mut self.state, &mut self.journal, 0, body, &mut output);
         sum(answer.number, &output)
     }
 
     fn sample(&mut self, levels: u32) -> usize {
         let mut output = [0; 16];
-        let answer = boundary::sample(&mut self.state, &mut self.journal, levels, 0, &mut output);
+        let answer = boundary::sca_sample(&mut self.state, &mut self.journal, levels, 0, &mut output);
         sum(answer.number, &output)
     }
 
     fn step_back(&mut self) -> usize {
-        usize::from(boundary::step_back(&mut self.state, &mut self.journal).number)
+        usize::from(boundary::sca_step_back(&mut self.state, &mut self.journal).number)
     }
 }
 

@@ -2,8 +2,8 @@
 
 #![forbid(unsafe_code)]
 
-use boundary::RECEIVER_BYTES;
 use reference::{link, swift};
+use sca::{boundary, RECEIVER_BYTES};
 use std::time::Instant;
 
 /// Rounds of each measurement: a cable is read, or all bodies are sent. The best of them counts.
@@ -58,9 +58,9 @@ struct Work {
 
 fn by_library(cable: &[u8]) -> Work {
     let mut receiver = [0; RECEIVER_BYTES];
-    boundary::receiver_new(&mut receiver);
+    boundary::sca_receiver_new(&mut receiver);
     read(|start, output| {
-        let received = boundary::receive(&mut receiver, cable, start, output);
+        let received = boundary::sca_receive(&mut receiver, cable, start, output);
         (received.number, received.consumed)
     })
 }
@@ -162,7 +162,7 @@ fn main() {
     let mut chance = Chance(2);
     let bodies: Vec<Vec<u8>> = (0..BODIES).map(|_| chance.body()).collect();
     let sides: [&dyn Fn() -> Work; 3] = [
-        &|| send(&bodies, |body, output| boundary::transmit(body, output).count),
+        &|| send(&bodies, |body, output| boundary::sca_transmit(body, output).count),
         &|| send(&bodies, |body, output| link::transmit(body, output).1),
         &|| send(&bodies, |body, output| swift::transmit(body, output).1),
     ];

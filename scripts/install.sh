@@ -12,6 +12,10 @@ if [ ! -f "$archive" ] || [ -n "$(find crates crates.txt -newer "$archive" | hea
     rt staticlib sca || exit
 fi
 
+# The header's version, as a text.
+version=$(sed -n 's/^#define SCA_VERSION \(0x[0-9A-Fa-f]*\)$/\1/p' include/sca.h)
+version=$((version >> 16)).$((version >> 8 & 0xFF)).$((version & 0xFF))
+
 lib=${DESTDIR:-}$prefix/lib include=${DESTDIR:-}$prefix/include
 install -d "$lib/pkgconfig" "$include" &&
     install -m 644 "$archive" "$lib" &&
@@ -20,7 +24,7 @@ install -d "$lib/pkgconfig" "$include" &&
 prefix=$prefix
 Name: sca
 Description: A software stand-in for the GBT-SCA slow control adapter
-Version: 0.1.0
+Version: $version
 Cflags: -I\${prefix}/include
 Libs: -L\${prefix}/lib -lsca
 END

@@ -2,17 +2,25 @@
 # The library as others link it: installed, through the crate of rust/, and in the examples. Sourced.
 
 test_linked() {
-    step "build the crate" build_crate && test_crate
+    test_crate
+    test_documentation
     same_output "the example in Rust" examples/job.out "$built/job" build_rust_example
     same_output "the example in C, over the installed library" examples/job.out "$built/job_c" build_c_example
 }
-
-build_crate() { rust_build --crate-type rlib --crate-name sca -D warnings -L native=target/staticlib rust/src/lib.rs; }
 
 test_crate() {
     for file in rust/tests/*.rs; do
         test_harness "crate" "$file" sca
     done
+}
+
+# The example that the crate's documentation has in it: rust/src/lib.rs takes it from this file.
+test_documentation() {
+    step "build: the documentation's example" rust_build --crate-name connect --extern sca rust/examples/connect.rs || return
+    if run "$built/connect" >"$logs/output" 2>&1; then good "the documentation's example"; else
+        bad "the documentation's example"
+        tail -n 20 "$logs/output"
+    fi
 }
 
 build_rust_example() { rust_build --crate-name job --extern sca rust/examples/job.rs; }

@@ -8,6 +8,8 @@ test_outside() {
     test_c link
     test_c adapter
     test_c guards
+    test_symbols
+    step "build the crate" build_crate || return
     step "build the Rust tests" build_rust_tests || return
     tally "vectors" run "$built/vectors"
     tally "comparison" run "$built/compare" --seed "${SEED:-1}"
@@ -25,6 +27,15 @@ archive=target/staticlib/libsca.a
 # test_c NAME: a C program over include/sca.h and the archive.
 test_c() {
     step "build tests/c/$1.c" c_build "$built/c_$1" "tests/c/$1.c" "$archive" && tally "C, $1" run "$built/c_$1"
+}
+
+# The archive has the calls that the header declares and no other name, and needs of the C library what the header says.
+test_symbols() {
+    c_names -g --defined-only "$archive" | sed -n 's/^.* T //p' | sort >"$logs/has"
+    sed -n 's/^uint64_t \(sca_[a-z_]*\)(.*/\1/p' include/sca.h | sort >"$logs/declared"
+    if [ -s "$logs/has" ] && diff "$logs/declared" "$logs/has"; then good "the header's calls"; else bad "the header's calls"; fi
+    needs=$(c_names -u "$archive" | sed -n 's/^ *U //p' | sort -u | tr '\n' ' ')
+    if [ "$needs" = "memcpy " ]; then good "memcpy is all that the archive needs"; else bad "the archive needs $needs"; fi
 }
 
 build_reference() { rust_build --crate-type rlib --crate-name reference tests/reference/src/lib.rs; }
@@ -48,11 +59,10 @@ test_harness() {
     add "$1, $harness" "$status" ${counts:-0 0}
 }
 
-build_boundary() { rust_build --crate-type rlib --crate-name boundary -L native=target/staticlib rust/src/boundary.rs; }
+build_crate() { rust_build --crate-type rlib --crate-name sca -D warnings -L native=target/staticlib rust/src/lib.rs; }
 
 build_rust_tests() {
-    build_boundary &&
-        rust_build --crate-name vectors --extern boundary tests/vectors.rs &&
-        rust_build --crate-name compare --extern boundary --extern reference tests/compare/main.rs &&
-        rust_build --crate-name events --extern boundary --extern reference tests/events/main.rs
+    rust_build --crate-name vectors --extern sca tests/vectors.rs &&
+        rust_build --crate-name compare --extern sca --extern reference tests/compare/main.rs &&
+        rust_build --crate-name events --extern sca --extern reference tests/events/main.rs
 }

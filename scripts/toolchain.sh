@@ -8,10 +8,10 @@ built=target/outside
 probe=$built/probe
 
 if [ "$(uname -m)" = x86_64 ]; then
-    cc=cc emulator=''
+    cc=cc nm=nm emulator=''
     c_packages='gcc libc6-dev' rust_packages='rustc gcc libc6-dev'
 else
-    cc=x86_64-linux-gnu-gcc emulator=qemu-x86_64
+    cc=x86_64-linux-gnu-gcc nm=x86_64-linux-gnu-nm emulator=qemu-x86_64
     c_packages='gcc-x86-64-linux-gnu libc6-dev-amd64-cross qemu-user libc6:amd64'
     rust_packages="$c_packages rustc libstd-rust-dev:amd64 libgcc-s1:amd64"
 fi
@@ -35,6 +35,9 @@ c_build() {
     shift
     "$cc" -std=c99 -O2 -Wall -Wextra -Werror -pedantic -Iinclude -o "$out" "$@"
 }
+
+# c_names WORD..: nm, for what was built
+c_names() { "$nm" "$@"; }
 
 # rust_build WORD..: rustc for x86-64, with the libraries that were built before at hand.
 rust_build() {

@@ -12,7 +12,7 @@ use std::process::ExitCode;
 /// The stuffed bits between the flags of a body's frame, as text.
 fn between_flags(body: &[u8]) -> String {
     let mut output = [0; 24];
-    let sent = boundary::transmit(body, &mut output);
+    let sent = sca::boundary::sca_transmit(body, &mut output);
     let mut frame = bits_of(&output[..sent.count]);
     while frame.last() == Some(&true) {
         frame.pop();

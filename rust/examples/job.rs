@@ -24,7 +24,7 @@ fn show_kept(what: &str, adapter: &Adapter) {
 /// A body that came on the primary port: it is answered, and the answer goes out on the cable.
 fn answer(adapter: &mut Adapter, body: &[u8]) -> Result<(), Refusal> {
     show("request", body);
-    if let Answer::Sent { body, .. } = adapter.frame(Port::Primary, body)? {
+    if let Answer::HasFrame { body, .. } = adapter.frame(Port::Primary, body)? {
         show("reply", &body);
         show("cable out", &transmit(&body)?);
     }
@@ -35,7 +35,7 @@ fn answer(adapter: &mut Adapter, body: &[u8]) -> Result<(), Refusal> {
 fn hear(receiver: &mut Receiver, adapter: &mut Adapter, cable: &[u8]) -> Result<(), Refusal> {
     show("cable in", cable);
     for heard in receiver.listen(cable) {
-        if let Heard::Frame(body) = heard {
+        if let Heard::HasFrame(body) = heard {
             answer(adapter, &body)?;
         }
     }

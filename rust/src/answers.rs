@@ -1,4 +1,4 @@
-//! What calls take and give, by document 01's numbers.
+//! What calls take and give. Each number has the name that `include/sca.h` gives it.
 
 use crate::bytes::Body;
 use std::error::Error;
@@ -26,57 +26,66 @@ pub enum Edge {
 
 /// Why a call was refused. Nothing has changed.
 #[derive(Clone, Copy, PartialEq, Eq, Debug)]
+#[non_exhaustive]
 pub enum Refusal {
-    /// Output too short. This crate's outputs never are; [`crate::boundary`] takes any.
-    OutputShort = 1,
-    /// Body not 2 to 16 bytes.
-    BodyLength = 2,
-    /// Port, edge kind or completion of no meaning. This crate's types have none; [`crate::boundary`] takes any.
-    Argument = 3,
-    /// Journal length, mark, version or layout wrong, or its newest record damaged.
-    JournalWrong = 4,
-    /// No event to step back over.
-    NothingKept = 5,
-    /// State or receiver of another length, or a field out of range.
-    StateRange = 6,
-    /// Chip ID over 24 bits.
-    IdRange = 7,
-    /// Receiver input over 65,536 bytes.
-    InputLong = 8,
-    /// Start bit past the end of the input.
-    StartRange = 9,
+    /// The output is too short. This crate's outputs never are; [`crate::boundary`] takes any.
+    ShortOutput = 1,
+    /// The body is not 2 to 16 bytes.
+    BadBody = 2,
+    /// A port, edge kind or completion of no meaning. This crate's types have none; [`crate::boundary`] takes any.
+    BadArgument = 3,
+    /// The journal's length, mark, version or layout is wrong, or its newest record is damaged.
+    BadJournal = 4,
+    /// The kept number is 0: there is no event to take back.
+    NoneKept = 5,
+    /// The state or the receiver has another length, or a field out of range.
+    BadState = 6,
+    /// The chip ID is over [`crate::ID_MOST`].
+    BadId = 7,
+    /// The receiver's input is over [`crate::INPUT_MOST`] bytes.
+    LongInput = 8,
+    /// The start bit is over 8 times the bytes of the input.
+    BadStart = 9,
 }
-
-impl fmt::Display for Refusal {
-    fn fmt(&self, out: &mut fmt::Formatter) -> fmt::Result {
-        write!(out, "refused with {}: {:?}", *self as u8, self)
-    }
-}
-
-impl Error for Refusal {}
 
 /// Why an event was dropped. It is kept; no register has changed.
 #[derive(Clone, Copy, PartialEq, Eq, Debug)]
+#[non_exhaustive]
 pub enum Dropped {
-    /// Address not 0x00.
-    Address = 11,
-    /// Port not active.
-    PortInactive = 12,
-    /// Unknown control with bit 0 set.
-    ControlUnknown = 13,
-    /// Information not of the length that the control asks.
-    InformationLength = 14,
+    /// The address is not 0x00.
+    OtherAddress = 11,
+    /// The port is not the active one.
+    OtherPort = 12,
+    /// A control with bit 0 set that is no CONNECT, RESET or TEST.
+    OtherControl = 13,
+    /// The information is not as long as the control asks.
+    BadInformation = 14,
     /// A completion while SPI is not busy.
     NotBusy = 15,
     /// A pin sample while GPIO is disabled.
-    GpioDisabled = 16,
+    LinesDisabled = 16,
 }
 
-/// What came of an event. It is kept and can be taken back.
+/// Why a receiver dropped a frame.
 #[derive(Clone, Copy, PartialEq, Eq, Debug)]
+#[non_exhaustive]
+pub enum Broken {
+    /// Content of over 144 bits.
+    LongContent = 21,
+    /// Content of a number of bits that is no multiple of 8.
+    BrokenContent = 22,
+    /// Content whose FCS is wrong.
+    WrongFcs = 23,
+    /// Seven ones after at least 32 bits of content.
+    Aborted = 24,
+}
+
+/// What came of an event. It is kept and can be taken back, but for an accepted RESET, which empties the journal.
+#[derive(Clone, Copy, PartialEq, Eq, Debug)]
+#[non_exhaustive]
 pub enum Answer {
     /// A body is to leave on this port.
-    Sent {
+    HasFrame {
         /// The port.
         port: Port,
         /// The body.
@@ -85,31 +94,19 @@ pub enum Answer {
     /// The event was dropped.
     Dropped(Dropped),
     /// Done, and nothing is to be sent.
-    Done,
-}
-
-/// Why a receiver dropped a frame.
-#[derive(Clone, Copy, PartialEq, Eq, Debug)]
-pub enum Broken {
-    /// Content over 144 bits.
-    ContentLong = 21,
-    /// Content not a multiple of 8 bits.
-    ContentBroken = 22,
-    /// FCS wrong.
-    FcsWrong = 23,
-    /// Seven ones after at least 32 bits of content.
-    Aborted = 24,
+    NoFrame,
 }
 
 /// What a receiver heard.
 #[derive(Clone, Copy, PartialEq, Eq, Debug)]
+#[non_exhaustive]
 pub enum Heard {
     /// A frame with this body.
-    Frame(Body),
+    HasFrame(Body),
     /// A frame that was dropped.
     Broken(Broken),
     /// The bits ran out.
-    Nothing,
+    NoFrame,
 }
 
 /// What one reading gives.
@@ -121,19 +118,73 @@ pub struct Received {
     pub heard: Heard,
 }
 
+/// A number in words, as `sca_text` of `include/sca.h` has it.
+pub fn text(number: u8) -> &'static str {
+    match number {
+        0 => "a frame was read or sent",
+        1 => "the output is under 16 bytes (transmitter: under 24)",
+        2 => "the body is not 2 to 16 bytes",
+        3 => "the port is not 0 or 1, the edge kind is over 2, or the completion is not 16 bytes",
+        4 => "the journal's length, mark, version or layout is wrong",
+        5 => "the kept number is 0",
+        6 => "the state or the receiver has another length, or a field out of range",
+        7 => "the chip ID is over 0xFFFFFF",
+        8 => "the receiver's input is over 65,536 bytes",
+        9 => "the start bit is over 8 times the bytes",
+        10 => "the line is not readable",
+        11 => "dropped: the address is not 0x00",
+        12 => "dropped: the port is not active",
+        13 => "dropped: the control has bit 0 set and is not CONNECT, RESET or TEST",
+        14 => "dropped: the information is not as long as the control asks",
+        15 => "dropped: a completion came when SPI was not busy",
+        16 => "dropped: a pin sample came with GPIO disabled",
+        17 => "done, and there is no frame",
+        21 => "the receiver dropped a frame: its content is over 144 bits",
+        22 => "the receiver dropped a frame: its content is not a multiple of 8 bits",
+        23 => "the receiver dropped a frame: its FCS is wrong",
+        24 => "the receiver dropped a frame: seven ones broke it off",
+        _ => "unknown number",
+    }
+}
+
+/// The number and its text.
+fn show(number: u8, out: &mut fmt::Formatter) -> fmt::Result {
+    write!(out, "{}: {}", number, text(number))
+}
+
+impl fmt::Display for Refusal {
+    fn fmt(&self, out: &mut fmt::Formatter) -> fmt::Result {
+        show(*self as u8, out)
+    }
+}
+
+impl fmt::Display for Dropped {
+    fn fmt(&self, out: &mut fmt::Formatter) -> fmt::Result {
+        show(*self as u8, out)
+    }
+}
+
+impl fmt::Display for Broken {
+    fn fmt(&self, out: &mut fmt::Formatter) -> fmt::Result {
+        show(*self as u8, out)
+    }
+}
+
+impl Error for Refusal {}
+
 /// The refusal of this number, if it is one.
 pub(crate) fn refusal(number: u8) -> Option<Refusal> {
     use Refusal::*;
     match number {
-        1 => Some(OutputShort),
-        2 => Some(BodyLength),
-        3 => Some(Argument),
-        4 => Some(JournalWrong),
-        5 => Some(NothingKept),
-        6 => Some(StateRange),
-        7 => Some(IdRange),
-        8 => Some(InputLong),
-        9 => Some(StartRange),
+        1 => Some(ShortOutput),
+        2 => Some(BadBody),
+        3 => Some(BadArgument),
+        4 => Some(BadJournal),
+        5 => Some(NoneKept),
+        6 => Some(BadState),
+        7 => Some(BadId),
+        8 => Some(LongInput),
+        9 => Some(BadStart),
         _ => None,
     }
 }
@@ -142,12 +193,12 @@ pub(crate) fn refusal(number: u8) -> Option<Refusal> {
 pub(crate) fn dropped(number: u8) -> Option<Dropped> {
     use Dropped::*;
     match number {
-        11 => Some(Address),
-        12 => Some(PortInactive),
-        13 => Some(ControlUnknown),
-        14 => Some(InformationLength),
+        11 => Some(OtherAddress),
+        12 => Some(OtherPort),
+        13 => Some(OtherControl),
+        14 => Some(BadInformation),
         15 => Some(NotBusy),
-        16 => Some(GpioDisabled),
+        16 => Some(LinesDisabled),
         _ => None,
     }
 }
@@ -156,9 +207,9 @@ pub(crate) fn dropped(number: u8) -> Option<Dropped> {
 pub(crate) fn broken(number: u8) -> Option<Broken> {
     use Broken::*;
     match number {
-        21 => Some(ContentLong),
-        22 => Some(ContentBroken),
-        23 => Some(FcsWrong),
+        21 => Some(LongContent),
+        22 => Some(BrokenContent),
+        23 => Some(WrongFcs),
         24 => Some(Aborted),
         _ => None,
     }

@@ -1,10 +1,12 @@
-//! The calls of libsca.a as safe functions on slices, numbers as they come. No other Rust file, of the crate or of the
+//! The calls of `libsca.a` as safe functions on slices, under the names that C has for them, and numbers as they come: for
+//! who wants to lend the bytes and check the numbers without the crate's types. No other Rust file, of the crate or of the
 //! tests, has unsafe code.
 
 /// The calls as include/sca.h declares them.
 mod library {
     #[link(name = "sca", kind = "static")]
     extern "C" {
+        pub fn sca_version() -> u64;
         pub fn sca_receiver_new(receiver: *mut u8, receiver_length: usize) -> u64;
         pub fn sca_receive(
             receiver: *mut u8,
@@ -24,7 +26,7 @@ mod library {
             state_length: usize,
             journal: *mut u8,
             journal_length: usize,
-            port: u8,
+            port: u32,
             body: *const u8,
             body_length: usize,
             output: *mut u8,
@@ -46,7 +48,7 @@ mod library {
             journal: *mut u8,
             journal_length: usize,
             levels: u32,
-            kind: u8,
+            kind: u32,
             output: *mut u8,
             output_length: usize,
         ) -> u64;
@@ -62,17 +64,10 @@ mod library {
     }
 }
 
-/// The bytes of a receiver.
-pub const RECEIVER_BYTES: usize = 24;
-/// The bytes of an adapter's state.
-pub const STATE_BYTES: usize = 76;
-/// The bytes of a journal.
-pub const JOURNAL_BYTES: usize = 17_408;
-
 /// What a reading gives.
 #[derive(Clone, Copy, PartialEq, Eq, Debug)]
-pub struct Received {
-    /// Document 01's number.
+pub struct RawReceived {
+    /// The number; [`crate::text`] has it in words.
     pub number: u8,
     /// The bits read.
     pub consumed: usize,
@@ -82,21 +77,27 @@ pub struct Received {
 
 /// What a transmission gives.
 #[derive(Clone, Copy, PartialEq, Eq, Debug)]
-pub struct Sent {
-    /// Document 01's number.
+pub struct RawSent {
+    /// The number; [`crate::text`] has it in words.
     pub number: u8,
     /// The bytes of cable written.
     pub count: usize,
 }
 
+/// The version of the archive: no number and no answer.
+pub fn sca_version() -> u64 {
+    // Sound: nothing is handed over.
+    unsafe { library::sca_version() }
+}
+
 /// Makes a receiver that hunts; gives the whole value, in which nothing stands above the number.
-pub fn receiver_new(receiver: &mut [u8]) -> u64 {
+pub fn sca_receiver_new(receiver: &mut [u8]) -> u64 {
     // Sound: pointer and length are those of one live slice that is lent for this call alone.
     unsafe { library::sca_receiver_new(receiver.as_mut_ptr(), receiver.len()) }
 }
 
 /// Reads `input` from bit `start` on, up to the first answer.
-pub fn receive(receiver: &mut [u8], input: &[u8], start: usize, output: &mut [u8]) -> Received {
+pub fn sca_receive(receiver: &mut [u8], input: &[u8], start: usize, output: &mut [u8]) -> RawReceived {
     // Sound: as above, three times; that nothing is shared follows from the borrows.
     let result = unsafe {
         library::sca_receive(
@@ -109,7 +110,7 @@ pub fn receive(receiver: &mut [u8], input: &[u8], start: usize, output: &mut [u8
             output.len(),
         )
     };
-    Received {
+    RawReceived {
         number: result as u8,
         consumed: (result >> 16) as usize,
         length: usize::from((result >> 8) as u8),
@@ -117,10 +118,10 @@ pub fn receive(receiver: &mut [u8], input: &[u8], start: usize, output: &mut [u8
 }
 
 /// Frames a body.
-pub fn transmit(body: &[u8], output: &mut [u8]) -> Sent {
+pub fn sca_transmit(body: &[u8], output: &mut [u8]) -> RawSent {
     // Sound: as above.
     let result = unsafe { library::sca_transmit(body.as_ptr(), body.len(), output.as_mut_ptr(), output.len()) };
-    Sent {
+    RawSent {
         number: result as u8,
         count: (result >> 8) as usize,
     }
@@ -128,60 +129,60 @@ pub fn transmit(body: &[u8], output: &mut [u8]) -> Sent {
 
 /// What an event or a step back gives.
 #[derive(Clone, Copy, PartialEq, Eq, Debug)]
-pub struct Answer {
-    /// Document 01's number.
+pub struct RawAnswer {
+    /// The number; [`crate::text`] has it in words.
     pub number: u8,
     /// The bytes of a body.
     pub length: usize,
     /// The port that it leaves on.
-    pub port: u8,
+    pub port: u32,
 }
 
-impl Answer {
-    fn of(result: u64) -> Answer {
-        Answer {
+impl RawAnswer {
+    fn of(result: u64) -> RawAnswer {
+        RawAnswer {
             number: result as u8,
             length: usize::from((result >> 8) as u8),
-            port: (result >> 16) as u8,
+            port: u32::from((result >> 16) as u8),
         }
     }
 }
 
 /// What a journal keeps.
 #[derive(Clone, Copy, PartialEq, Eq, Debug)]
-pub struct Kept {
-    /// Document 01's number.
+pub struct RawKept {
+    /// The number; [`crate::text`] has it in words.
     pub number: u8,
     /// The events that can be taken back.
     pub kept: usize,
 }
 
 /// Makes the state of a new adapter; gives the whole value, in which nothing stands above the number.
-pub fn create(state: &mut [u8], id: u32) -> u64 {
+pub fn sca_create(state: &mut [u8], id: u32) -> u64 {
     // Sound: as above.
     unsafe { library::sca_create(state.as_mut_ptr(), state.len(), id) }
 }
 
 /// Makes a journal empty; gives the whole value, in which nothing stands above the number.
-pub fn empty(journal: &mut [u8]) -> u64 {
+pub fn sca_empty(journal: &mut [u8]) -> u64 {
     // Sound: as above.
     unsafe { library::sca_empty(journal.as_mut_ptr(), journal.len()) }
 }
 
 /// The number of events that can be taken back.
-pub fn kept(journal: &[u8]) -> Kept {
+pub fn sca_kept(journal: &[u8]) -> RawKept {
     // Sound: as above.
     let result = unsafe { library::sca_kept(journal.as_ptr(), journal.len()) };
-    Kept {
+    RawKept {
         number: result as u8,
         kept: (result >> 8) as usize,
     }
 }
 
 /// A frame body arrives on a port.
-pub fn frame(state: &mut [u8], journal: &mut [u8], port: u8, body: &[u8], output: &mut [u8]) -> Answer {
+pub fn sca_frame(state: &mut [u8], journal: &mut [u8], port: u32, body: &[u8], output: &mut [u8]) -> RawAnswer {
     // Sound: as above.
-    Answer::of(unsafe {
+    RawAnswer::of(unsafe {
         library::sca_frame(
             state.as_mut_ptr(),
             state.len(),
@@ -197,9 +198,9 @@ pub fn frame(state: &mut [u8], journal: &mut [u8], port: u8, body: &[u8], output
 }
 
 /// An SPI transfer is complete.
-pub fn completion(state: &mut [u8], journal: &mut [u8], received: &[u8], output: &mut [u8]) -> Answer {
+pub fn sca_completion(state: &mut [u8], journal: &mut [u8], received: &[u8], output: &mut [u8]) -> RawAnswer {
     // Sound: as above.
-    Answer::of(unsafe {
+    RawAnswer::of(unsafe {
         library::sca_completion(
             state.as_mut_ptr(),
             state.len(),
@@ -214,9 +215,9 @@ pub fn completion(state: &mut [u8], journal: &mut [u8], received: &[u8], output:
 }
 
 /// The pins are sampled.
-pub fn sample(state: &mut [u8], journal: &mut [u8], levels: u32, kind: u8, output: &mut [u8]) -> Answer {
+pub fn sca_sample(state: &mut [u8], journal: &mut [u8], levels: u32, kind: u32, output: &mut [u8]) -> RawAnswer {
     // Sound: as above.
-    Answer::of(unsafe {
+    RawAnswer::of(unsafe {
         library::sca_sample(
             state.as_mut_ptr(),
             state.len(),
@@ -231,9 +232,9 @@ pub fn sample(state: &mut [u8], journal: &mut [u8], levels: u32, kind: u8, outpu
 }
 
 /// A single event upset.
-pub fn upset(state: &mut [u8], journal: &mut [u8], output: &mut [u8]) -> Answer {
+pub fn sca_upset(state: &mut [u8], journal: &mut [u8], output: &mut [u8]) -> RawAnswer {
     // Sound: as above.
-    Answer::of(unsafe {
+    RawAnswer::of(unsafe {
         library::sca_upset(
             state.as_mut_ptr(),
             state.len(),
@@ -246,7 +247,9 @@ pub fn upset(state: &mut [u8], journal: &mut [u8], output: &mut [u8]) -> Answer 
 }
 
 /// Takes the newest standing event back.
-pub fn step_back(state: &mut [u8], journal: &mut [u8]) -> Answer {
+pub fn sca_step_back(state: &mut [u8], journal: &mut [u8]) -> RawAnswer {
     // Sound: as above.
-    Answer::of(unsafe { library::sca_step_back(state.as_mut_ptr(), state.len(), journal.as_mut_ptr(), journal.len()) })
+    RawAnswer::of(unsafe {
+        library::sca_step_back(state.as_mut_ptr(), state.len(), journal.as_mut_ptr(), journal.len())
+    })
 }

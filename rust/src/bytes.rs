@@ -1,17 +1,13 @@
 //! A few bytes, as a call writes them.
 
+use crate::sizes::{BODY_MOST, CABLE_MOST};
 use std::fmt;
 use std::ops::Deref;
-
-/// The most bytes of a body.
-pub const BODY_MOST: usize = 16;
-/// The most bytes of a frame on the cable.
-pub const FRAME_MOST: usize = 24;
 
 /// The body of a frame: address, control and information.
 pub type Body = Bytes<BODY_MOST>;
 /// A frame on the cable: flags, stuffed content, and ones to fill the last byte.
-pub type Frame = Bytes<FRAME_MOST>;
+pub type Frame = Bytes<CABLE_MOST>;
 
 /// At most so many bytes, read as a slice.
 #[derive(Clone, Copy)]

@@ -5,26 +5,8 @@
 //!
 //! A [`Receiver`] reads frames from cable bits, an [`Adapter`] answers their bodies, and [`transmit`] frames the answers:
 //!
-//! ```
-//! use sca::{transmit, Adapter, Answer, Heard, Port, Receiver};
-//!
-//! # fn main() -> Result<(), sca::Refusal> {
-//! let mut receiver = Receiver::new();
-//! let mut adapter = Adapter::new(0x00_000A)?;
-//! let cable = transmit(&[0x00, 0x2F])?; // CONNECT
-//! for heard in receiver.listen(&cable) {
-//!     if let Heard::Frame(body) = heard {
-//!         let answer = adapter.frame(Port::Primary, &body)?;
-//!         if let Answer::Sent { port, body } = answer {
-//!             assert_eq!((port, &body[..]), (Port::Primary, &[0x00, 0x63][..]));
-//!             let _reply = transmit(&body)?;
-//!         }
-//!     }
-//! }
-//! adapter.step_back()?;
-//! # Ok(())
-//! # }
-//! ```
+// The example is a program of examples/, which the tests build and run.
+#![doc = concat!("```\n", include_str!("../examples/connect.rs"), "```")]
 //!
 //! A call that is refused gives a [`Refusal`] and changes nothing.
 
@@ -37,8 +19,18 @@ mod answers;
 pub mod boundary;
 mod bytes;
 mod link;
+mod sizes;
 
-pub use adapter::{Adapter, ID_MOST, KEPT_MOST};
-pub use answers::{Answer, Broken, Dropped, Edge, Heard, Port, Received, Refusal};
-pub use bytes::{Body, Bytes, Frame, BODY_MOST, FRAME_MOST};
-pub use link::{transmit, Listening, Receiver, INPUT_MOST};
+pub use adapter::Adapter;
+pub use answers::{text, Answer, Broken, Dropped, Edge, Heard, Port, Received, Refusal};
+pub use bytes::{Body, Bytes, Frame};
+pub use link::{transmit, Listening, Receiver};
+pub use sizes::{
+    BODY_LEAST, BODY_MOST, CABLE_MOST, ID_MOST, INPUT_MOST, JOURNAL_BYTES, KEPT_MOST, OUTPUT_LEAST, RECEIVER_BYTES,
+    STATE_BYTES, TRANSFER_BYTES, VERSION,
+};
+
+/// The version of the archive that was linked: [`VERSION`], where it is the one that this crate is made for.
+pub fn version() -> u64 {
+    boundary::sca_version()
+}

@@ -1,11 +1,9 @@
 //! The link: frames from cable bits, and cable bytes from bodies.
 
 use crate::answers::{broken, refusal, Heard, Received, Refusal};
-use crate::boundary::{self, RECEIVER_BYTES};
-use crate::bytes::{Body, Frame, BODY_MOST, FRAME_MOST};
-
-/// The most bytes of cable in one reading.
-pub const INPUT_MOST: usize = 65_536;
+use crate::boundary;
+use crate::bytes::{Body, Frame};
+use crate::sizes::{CABLE_MOST, INPUT_MOST, OUTPUT_LEAST, RECEIVER_BYTES};
 
 /// Reads frames from cable bits. An unfinished frame is carried over from buffer to buffer.
 #[derive(Clone, PartialEq, Eq, Debug)]
@@ -17,21 +15,21 @@ impl Receiver {
     /// A receiver that hunts for its first flag.
     pub fn new() -> Receiver {
         let mut bytes = [0; RECEIVER_BYTES];
-        boundary::receiver_new(&mut bytes);
+        boundary::sca_receiver_new(&mut bytes);
         Receiver { bytes }
     }
 
     /// Reads `cable` from bit `start` on, least significant first, up to the first answer.
     pub fn receive(&mut self, cable: &[u8], start: usize) -> Result<Received, Refusal> {
-        let mut output = [0; BODY_MOST];
-        let received = boundary::receive(&mut self.bytes, cable, start, &mut output);
+        let mut output = [0; OUTPUT_LEAST];
+        let received = boundary::sca_receive(&mut self.bytes, cable, start, &mut output);
         if let Some(refusal) = refusal(received.number) {
             return Err(refusal);
         }
         let heard = match (received.number, broken(received.number)) {
             (_, Some(broken)) => Heard::Broken(broken),
-            (0, None) => Heard::Frame(Body::front(output, received.length)),
-            _ => Heard::Nothing,
+            (0, None) => Heard::HasFrame(Body::front(output, received.length)),
+            _ => Heard::NoFrame,
         };
         Ok(Received {
             consumed: received.consumed,
@@ -48,16 +46,20 @@ impl Receiver {
         }
     }
 
-    /// The receiver's bytes, as docs/RECEIVER.md lists them, to be kept and handed to [`Receiver::from_bytes`].
+    /// The receiver's bytes, as `include/sca.h` lists them, to be kept and handed to [`Receiver::from_bytes`].
     pub fn to_bytes(&self) -> [u8; RECEIVER_BYTES] {
         self.bytes
     }
 
-    /// A receiver that was kept; refused where its bytes are out of range.
-    pub fn from_bytes(bytes: [u8; RECEIVER_BYTES]) -> Result<Receiver, Refusal> {
-        let mut receiver = Receiver { bytes };
-        receiver.receive(&[], 0)?;
-        Ok(receiver)
+    /// A receiver that was kept; refused where its bytes are out of range. No bit is read.
+    pub fn from_bytes(mut bytes: [u8; RECEIVER_BYTES]) -> Result<Receiver, Refusal> {
+        // Without input and output the call is refused whatever the bytes are, so that it changes none. It looks for 6
+        // first, and 8 and 9 cannot be: where it gives 1, for the output, the receiver is in range.
+        let looked_at = boundary::sca_receive(&mut bytes, &[], 0, &mut []);
+        match refusal(looked_at.number) {
+            Some(Refusal::ShortOutput) | None => Ok(Receiver { bytes }),
+            Some(refusal) => Err(refusal),
+        }
     }
 }
 
@@ -85,7 +87,7 @@ impl Iterator for Listening<'_> {
                 .receive(now, self.start)
                 .expect("a part of at most INPUT_MOST, from a bit in it");
             self.start += received.consumed;
-            if received.heard != Heard::Nothing {
+            if received.heard != Heard::NoFrame {
                 return Some(received.heard);
             }
             self.cable = later;
@@ -97,8 +99,8 @@ impl Iterator for Listening<'_> {
 
 /// A body as a frame on the cable.
 pub fn transmit(body: &[u8]) -> Result<Frame, Refusal> {
-    let mut output = [0; FRAME_MOST];
-    let sent = boundary::transmit(body, &mut output);
+    let mut output = [0; CABLE_MOST];
+    let sent = boundary::sca_transmit(body, &mut output);
     match refusal(sent.number) {
         Some(refusal) => Err(refusal),
         None => Ok(Frame::front(output, sent.count)),

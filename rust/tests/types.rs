@@ -1,13 +1,18 @@
 //! The crate's types over the archive: every number comes back as its name, and nothing changes where it must not.
 
-use sca::{transmit, Adapter, Answer, Broken, Dropped, Edge, Heard, Port, Receiver, Refusal, ID_MOST, KEPT_MOST};
+// A match on an enum that will grow must have an arm for what is to come: where the enum could not grow, that arm would be
+// unreachable, and this file would not compile.
+#![deny(unreachable_patterns)]
+
+use sca::{boundary, text, transmit, Adapter, Answer, Broken, Dropped, Edge, Heard, Port, Receiver, Refusal};
+use sca::{ID_MOST, INPUT_MOST, KEPT_MOST, RECEIVER_BYTES, STATE_BYTES, VERSION};
 
 fn adapter() -> Adapter {
     Adapter::new(0x00_000A).unwrap()
 }
 
 fn sent(port: Port, bytes: &[u8]) -> impl Fn(Answer) -> bool + '_ {
-    move |answer| matches!(answer, Answer::Sent { port: on, body } if on == port && body[..] == *bytes)
+    move |answer| matches!(answer, Answer::HasFrame { port: on, body } if on == port && body[..] == *bytes)
 }
 
 /// GPIO and SPI on, all lines with interrupts.
@@ -20,7 +25,7 @@ fn enabled() -> Adapter {
     ] {
         assert!(matches!(
             adapter.frame(Port::Primary, &request),
-            Ok(Answer::Sent { .. })
+            Ok(Answer::HasFrame { .. })
         ));
     }
     adapter
@@ -29,7 +34,7 @@ fn enabled() -> Adapter {
 #[test]
 fn ids() {
     assert!(Adapter::new(ID_MOST).is_ok());
-    assert_eq!(Adapter::new(ID_MOST + 1), Err(Refusal::IdRange));
+    assert_eq!(Adapter::new(ID_MOST + 1), Err(Refusal::BadId));
 }
 
 #[test]
@@ -37,25 +42,22 @@ fn refused_frames_change_nothing() {
     let mut adapter = enabled();
     let before = adapter.clone();
     for length in [0, 1, 17, 40] {
-        assert_eq!(adapter.frame(Port::Primary, &vec![0; length]), Err(Refusal::BodyLength));
+        assert_eq!(adapter.frame(Port::Primary, &vec![0; length]), Err(Refusal::BadBody));
     }
     assert_eq!(adapter, before);
-    assert_eq!(transmit(&[0]), Err(Refusal::BodyLength));
+    assert_eq!(transmit(&[0]), Err(Refusal::BadBody));
 }
 
 #[test]
 fn dropped_events() {
     let mut adapter = adapter();
     let dropped = |answer| Ok(Answer::Dropped(answer));
-    assert_eq!(adapter.frame(Port::Primary, &[1, 0]), dropped(Dropped::Address));
-    assert_eq!(adapter.frame(Port::Auxiliary, &[0, 0]), dropped(Dropped::PortInactive));
-    assert_eq!(adapter.frame(Port::Primary, &[0, 1]), dropped(Dropped::ControlUnknown));
-    assert_eq!(
-        adapter.frame(Port::Primary, &[0, 0]),
-        dropped(Dropped::InformationLength)
-    );
+    assert_eq!(adapter.frame(Port::Primary, &[1, 0]), dropped(Dropped::OtherAddress));
+    assert_eq!(adapter.frame(Port::Auxiliary, &[0, 0]), dropped(Dropped::OtherPort));
+    assert_eq!(adapter.frame(Port::Primary, &[0, 1]), dropped(Dropped::OtherControl));
+    assert_eq!(adapter.frame(Port::Primary, &[0, 0]), dropped(Dropped::BadInformation));
     assert_eq!(adapter.completion(&[0; 16]), dropped(Dropped::NotBusy));
-    assert_eq!(adapter.sample(1, Edge::SystemClock), dropped(Dropped::GpioDisabled));
+    assert_eq!(adapter.sample(1, Edge::SystemClock), dropped(Dropped::LinesDisabled));
     assert_eq!(adapter.kept(), 6);
 }
 
@@ -70,13 +72,13 @@ fn ports() {
 fn later_answers() {
     let mut adapter = enabled();
     let go = [0x00, 0x06, 0x04, 0x01, 0x02, 0x72, 0x00, 0x00, 0x00, 0x00];
-    assert_eq!(adapter.frame(Port::Primary, &go), Ok(Answer::Done));
+    assert_eq!(adapter.frame(Port::Primary, &go), Ok(Answer::NoFrame));
     let mut received = [0; 16];
     received[..4].copy_from_slice(&[0x78, 0x56, 0x34, 0x12]);
     let reply = [0x00, 0x86, 0x04, 0x01, 0x00, 0x06, 0x34, 0x12, 0x78, 0x56];
     assert!(sent(Port::Primary, &reply)(adapter.completion(&received).unwrap()));
-    assert_eq!(adapter.sample(1, Edge::StrobeRising), Ok(Answer::Done));
-    assert_eq!(adapter.sample(1, Edge::StrobeFalling), Ok(Answer::Done));
+    assert_eq!(adapter.sample(1, Edge::StrobeRising), Ok(Answer::NoFrame));
+    assert_eq!(adapter.sample(1, Edge::StrobeFalling), Ok(Answer::NoFrame));
     let interrupt = [0x00, 0x88, 0xFF, 0x02, 0x00, 0x04, 0x00, 0x00, 0x01, 0x00];
     assert!(sent(Port::Primary, &interrupt)(
         adapter.sample(1, Edge::SystemClock).unwrap()
@@ -89,14 +91,14 @@ fn steps_back() {
     let mut states = Vec::new();
     for _ in 0..KEPT_MOST + 6 {
         states.push(*adapter.state());
-        assert_eq!(adapter.upset(), Ok(Answer::Done));
+        assert_eq!(adapter.upset(), Ok(Answer::NoFrame));
     }
     assert_eq!(adapter.kept(), KEPT_MOST);
     for state in states.iter().rev().take(KEPT_MOST) {
         assert_eq!(adapter.step_back(), Ok(()));
         assert_eq!(adapter.state(), state);
     }
-    assert_eq!(adapter.step_back(), Err(Refusal::NothingKept));
+    assert_eq!(adapter.step_back(), Err(Refusal::NoneKept));
     adapter.upset().unwrap();
     adapter.forget();
     assert_eq!(adapter.kept(), 0);
@@ -107,10 +109,224 @@ fn kept_as_bytes() {
     let adapter = enabled();
     let (state, journal) = (*adapter.state(), adapter.journal().to_vec());
     assert_eq!(Adapter::from_bytes(state, &journal), Ok(adapter));
-    assert_eq!(Adapter::from_bytes(state, &journal[1..]), Err(Refusal::JournalWrong));
+    assert_eq!(Adapter::from_bytes(state, &journal[1..]), Err(Refusal::BadJournal));
     let mut wrong = state;
     wrong[0] = 8;
-    assert_eq!(Adapter::from_bytes(wrong, &journal), Err(Refusal::StateRange));
+    assert_eq!(Adapter::from_bytes(wrong, &journal), Err(Refusal::BadState));
+    assert_eq!(Adapter::from_bytes(wrong, &journal[1..]), Err(Refusal::BadState));
+}
+
+/// No event is played: not a byte differs, at none kept, at some, and at the most, where an event would push one out.
+#[test]
+fn bytes_are_only_looked_at() {
+    let mut adapter = adapter();
+    for event in 0..=KEPT_MOST {
+        let (state, journal) = (*adapter.state(), adapter.journal().to_vec());
+        let mut again = Adapter::from_bytes(state, &journal).unwrap();
+        assert_eq!((again.state(), again.journal()), (&state, &journal[..]));
+        assert_eq!(again.kept(), event);
+        for _ in 0..event {
+            assert_eq!(again.step_back(), Ok(()));
+        }
+        assert_eq!(again.step_back(), Err(Refusal::NoneKept));
+        adapter.upset().unwrap();
+    }
+    assert_eq!(adapter.kept(), KEPT_MOST);
+    let again = Adapter::from_bytes(*adapter.state(), adapter.journal());
+    assert_eq!(again, Ok(adapter));
+}
+
+#[test]
+fn receivers_are_only_looked_at() {
+    let cable = transmit(&[0x00, 0xFF, 0x7E, 0x12]).unwrap();
+    for length in 0..cable.len() {
+        let mut receiver = Receiver::new();
+        receiver.listen(&cable[..length]).for_each(drop);
+        assert_eq!(Receiver::from_bytes(receiver.to_bytes()), Ok(receiver));
+    }
+    // A new receiver is 0, 7 and zeros, and none of its bytes may have bit 7 set.
+    for byte in 0..RECEIVER_BYTES {
+        let mut bytes = Receiver::new().to_bytes();
+        bytes[byte] ^= 0x80;
+        assert_eq!(Receiver::from_bytes(bytes), Err(Refusal::BadState));
+    }
+}
+
+#[test]
+fn wide_ports_and_kinds() {
+    let adapter = enabled();
+    let (mut state, mut journal) = (*adapter.state(), adapter.journal().to_vec());
+    for wide in [256, 257, 258, 0x1_0000, 0x1_0001, 0x8000_0000, u32::MAX] {
+        let answer = boundary::sca_frame(&mut state, &mut journal, wide, &[0x00, 0x2F], &mut [0; 16]);
+        assert_eq!((answer.number, answer.length, answer.port), (3, 0, 0));
+        let answer = boundary::sca_sample(&mut state, &mut journal, 1, wide, &mut [0; 16]);
+        assert_eq!((answer.number, answer.length, answer.port), (3, 0, 0));
+    }
+    assert_eq!((&state, &journal[..]), (adapter.state(), adapter.journal()));
+}
+
+#[test]
+fn the_version() {
+    assert_eq!(VERSION, 0x01_0000);
+    assert_eq!(sca::version(), VERSION);
+    let manifest = include_str!("../Cargo.toml");
+    assert!(manifest.lines().any(|line| line == "version = \"1.0.0\""));
+}
+
+#[test]
+fn texts() {
+    assert_eq!(Refusal::BadBody.to_string(), "2: the body is not 2 to 16 bytes");
+    assert_eq!(
+        Dropped::OtherAddress.to_string(),
+        "11: dropped: the address is not 0x00"
+    );
+    assert_eq!(
+        Broken::WrongFcs.to_string(),
+        "23: the receiver dropped a frame: its FCS is wrong"
+    );
+    for number in 0..=255 {
+        let known = number <= 17 || (21..=24).contains(&number);
+        assert_eq!(text(number) != "unknown number", known);
+    }
+}
+
+/// The names that C has for the numbers, each with its value, and the text of each.
+fn numbers_of_the_header() -> Vec<(&'static str, u8, &'static str)> {
+    let header = include_str!("../../include/sca.h");
+    let texts = header.lines().filter_map(|line| {
+        let (name, text) = line.trim().strip_prefix("case SCA_")?.split_once(": return \"")?;
+        Some((name, text.strip_suffix("\";")?))
+    });
+    let value = |name: &str| {
+        let defined = format!("SCA_{} = ", name);
+        let at = header.find(&defined).expect(name) + defined.len();
+        let digits = header[at..].split(|sign: char| !sign.is_ascii_digit()).next();
+        digits.unwrap().parse().unwrap()
+    };
+    texts.map(|(name, text)| (name, value(name), text)).collect()
+}
+
+/// A name in the manner of constants, from one in the manner of variants.
+fn constant(variant: &str) -> String {
+    let mut name = String::new();
+    for sign in variant.chars() {
+        if sign.is_ascii_uppercase() && !name.is_empty() {
+            name.push('_');
+        }
+        name.push(sign.to_ascii_uppercase());
+    }
+    name
+}
+
+/// One name and one text for each number: in the proved source, in the header and here.
+#[test]
+fn one_vocabulary() {
+    let numbers = numbers_of_the_header();
+    assert_eq!(numbers.len(), 22);
+    let source = include_str!("../../crates/numbers/src/lib.rt");
+    assert_eq!(source.matches("pub const ").count(), numbers.len());
+    for (name, number, words) in &numbers {
+        assert!(
+            source.contains(&format!("pub const {}: u8 = {};", name, number)),
+            "{}",
+            name
+        );
+        assert_eq!(text(*number), *words);
+    }
+    let named = |name: String, number: u8| {
+        assert!(
+            numbers
+                .iter()
+                .any(|known| (known.0, known.1) == (&constant(&name)[..], number)),
+            "{}",
+            name
+        );
+    };
+    use {Broken::*, Dropped::*, Refusal::*};
+    for refusal in [
+        ShortOutput,
+        BadBody,
+        BadArgument,
+        BadJournal,
+        NoneKept,
+        BadState,
+        BadId,
+        LongInput,
+        BadStart,
+    ] {
+        named(format!("{:?}", refusal), refusal as u8);
+    }
+    for dropped in [
+        OtherAddress,
+        OtherPort,
+        OtherControl,
+        BadInformation,
+        NotBusy,
+        LinesDisabled,
+    ] {
+        named(format!("{:?}", dropped), dropped as u8);
+    }
+    for broken in [LongContent, BrokenContent, WrongFcs, Aborted] {
+        named(format!("{:?}", broken), broken as u8);
+    }
+    named("HasFrame".to_string(), 0);
+    named("NoFrame".to_string(), 17);
+}
+
+/// One size, in the header and here.
+#[test]
+fn sizes() {
+    let header = include_str!("../../include/sca.h");
+    for (name, size) in [
+        ("BODY_LEAST", sca::BODY_LEAST),
+        ("BODY_MOST", sca::BODY_MOST),
+        ("CABLE_MOST", sca::CABLE_MOST),
+        ("INPUT_MOST", INPUT_MOST),
+        ("OUTPUT_LEAST", sca::OUTPUT_LEAST),
+        ("TRANSFER_BYTES", sca::TRANSFER_BYTES),
+        ("RECEIVER_BYTES", RECEIVER_BYTES),
+        ("STATE_BYTES", STATE_BYTES),
+        ("JOURNAL_BYTES", sca::JOURNAL_BYTES),
+        ("KEPT_MOST", KEPT_MOST),
+    ] {
+        assert!(header.contains(&format!("#define SCA_{} {} ", name, size)), "{}", name);
+    }
+    assert!(header.contains(&format!("#define SCA_ID_MOST 0x{:X} ", ID_MOST)));
+    assert!(header.contains(&format!("#define SCA_VERSION 0x{:06X}\n", VERSION)));
+    assert_eq!(header.matches("#define SCA_").count(), 13); // with SCA_H
+}
+
+/// The enums that will grow; see the head of this file.
+#[test]
+fn matches_with_an_arm_for_what_is_to_come() {
+    let of_answer = |answer| match answer {
+        Answer::HasFrame { .. } => 1,
+        Answer::Dropped(_) => 2,
+        Answer::NoFrame => 3,
+        _ => 4,
+    };
+    let of_heard = |heard| match heard {
+        Heard::HasFrame(_) => 1,
+        Heard::Broken(_) => 2,
+        Heard::NoFrame => 3,
+        _ => 4,
+    };
+    use {Broken::*, Dropped::*, Refusal::*};
+    let of_refusal = |refusal| match refusal {
+        ShortOutput | BadBody | BadArgument | BadJournal | NoneKept | BadState | BadId | LongInput | BadStart => 1,
+        _ => 2,
+    };
+    let of_dropped = |dropped| match dropped {
+        OtherAddress | OtherPort | OtherControl | BadInformation | NotBusy | LinesDisabled => 1,
+        _ => 2,
+    };
+    let of_broken = |broken| match broken {
+        LongContent | BrokenContent | WrongFcs | Aborted => 1,
+        _ => 2,
+    };
+    assert_eq!(of_answer(adapter().upset().unwrap()), 3);
+    assert_eq!(of_heard(Receiver::new().receive(&[], 0).unwrap().heard), 3);
+    assert_eq!((of_refusal(BadId), of_dropped(NotBusy), of_broken(Aborted)), (1, 1, 1));
 }
 
 #[test]
@@ -121,19 +337,19 @@ fn a_frame_in_two_parts() {
     assert_eq!(receiver.listen(&cable[..3]).next(), None);
     let mut kept = Receiver::from_bytes(receiver.to_bytes()).unwrap();
     match kept.listen(&cable[3..]).next() {
-        Some(Heard::Frame(heard)) => assert_eq!(heard[..], body),
+        Some(Heard::HasFrame(heard)) => assert_eq!(heard[..], body),
         other => panic!("{:?}", other),
     }
-    assert_eq!(Receiver::from_bytes([0xFF; 24]), Err(Refusal::StateRange));
+    assert_eq!(Receiver::from_bytes([0xFF; 24]), Err(Refusal::BadState));
 }
 
 #[test]
 fn readings() {
     let mut receiver = Receiver::new();
-    assert_eq!(receiver.receive(&[0; 2], 17), Err(Refusal::StartRange));
-    assert_eq!(receiver.receive(&[0; 65_537], 0), Err(Refusal::InputLong));
+    assert_eq!(receiver.receive(&[0; 2], 17), Err(Refusal::BadStart));
+    assert_eq!(receiver.receive(&[0; 65_537], 0), Err(Refusal::LongInput));
     let read = receiver.receive(&[0; 65_536], 4).unwrap();
-    assert_eq!((read.consumed, read.heard), (8 * 65_536 - 4, Heard::Nothing));
+    assert_eq!((read.consumed, read.heard), (8 * 65_536 - 4, Heard::NoFrame));
 }
 
 #[test]
@@ -143,9 +359,9 @@ fn broken_frames() {
     let mut long = [0; 21];
     long[0] = 0x7E;
     long[20] = 0x7E;
-    assert_eq!(heard(&long), broken(Broken::ContentLong));
-    assert_eq!(heard(&[0x7E, 0, 0, 0, 0, 0xF8, 0x01]), broken(Broken::ContentBroken));
-    assert_eq!(heard(&[0x7E, 0, 0, 0, 0, 0x7E]), broken(Broken::FcsWrong));
+    assert_eq!(heard(&long), broken(Broken::LongContent));
+    assert_eq!(heard(&[0x7E, 0, 0, 0, 0, 0xF8, 0x01]), broken(Broken::BrokenContent));
+    assert_eq!(heard(&[0x7E, 0, 0, 0, 0, 0x7E]), broken(Broken::WrongFcs));
     assert_eq!(heard(&[0x7E, 0, 0, 0, 0, 0xFF]), broken(Broken::Aborted));
 }
 

@@ -7,23 +7,23 @@
 
 enum { ID = 0x00000A };
 
-static uint8_t state[SCA_STATE_BYTES], journal[SCA_JOURNAL_BYTES], output[SCA_OUTPUT_BYTES];
+static uint8_t state[SCA_STATE_BYTES], journal[SCA_JOURNAL_BYTES], output[SCA_OUTPUT_LEAST];
 
 static void begin(void) {
     sca_create(state, sizeof state, ID);
     sca_empty(journal, sizeof journal);
 }
 
-static uint64_t frame(unsigned port, const void *body, size_t length) {
-    return sca_frame(state, sizeof state, journal, sizeof journal, (uint8_t)port, body, length, output, sizeof output);
+static uint64_t frame(uint32_t port, const void *body, size_t length) {
+    return sca_frame(state, sizeof state, journal, sizeof journal, port, body, length, output, sizeof output);
 }
 
 static uint64_t completion(const uint8_t *received, size_t length) {
     return sca_completion(state, sizeof state, journal, sizeof journal, received, length, output, sizeof output);
 }
 
-static uint64_t sample(uint32_t levels, unsigned kind) {
-    return sca_sample(state, sizeof state, journal, sizeof journal, levels, (uint8_t)kind, output, sizeof output);
+static uint64_t sample(uint32_t levels, uint32_t kind) {
+    return sca_sample(state, sizeof state, journal, sizeof journal, levels, kind, output, sizeof output);
 }
 
 static uint64_t upset(void) { return sca_upset(state, sizeof state, journal, sizeof journal, output, sizeof output); }
@@ -31,26 +31,26 @@ static uint64_t upset(void) { return sca_upset(state, sizeof state, journal, siz
 static uint64_t step_back(void) { return sca_step_back(state, sizeof state, journal, sizeof journal); }
 
 static void sizes(void) {
-    static uint8_t bytes[2 * SCA_JOURNAL_BYTES], room[2 * SCA_OUTPUT_BYTES];
+    static uint8_t bytes[2 * SCA_JOURNAL_BYTES], room[2 * SCA_OUTPUT_LEAST];
     int states = 1, journals = 1, outputs = 1, transfers = 1, bodies = 1;
     for (size_t length = 0; length <= 2 * SCA_STATE_BYTES; length++)
-        states &= sca_create(bytes, length, ID) == (length == SCA_STATE_BYTES ? SCA_DONE : SCA_STATE_RANGE);
+        states &= sca_create(bytes, length, ID) == (length == SCA_STATE_BYTES ? SCA_NO_FRAME : SCA_BAD_STATE);
     check(states, "a state is SCA_STATE_BYTES and no other length");
     for (size_t length = 0; length <= sizeof bytes; length += length < SCA_JOURNAL_BYTES - 2 ? 1026 : 1)
-        journals &= sca_empty(bytes, length) == (length == SCA_JOURNAL_BYTES ? SCA_DONE : SCA_JOURNAL_WRONG);
-    check(journals && sca_empty(bytes, SCA_JOURNAL_BYTES) == SCA_DONE, "a journal is SCA_JOURNAL_BYTES and no other length");
-    check(sca_create(state, sizeof state, SCA_ID_MOST) == SCA_DONE && sca_create(state, sizeof state, SCA_ID_MOST + 1) == SCA_ID_RANGE,
+        journals &= sca_empty(bytes, length) == (length == SCA_JOURNAL_BYTES ? SCA_NO_FRAME : SCA_BAD_JOURNAL);
+    check(journals && sca_empty(bytes, SCA_JOURNAL_BYTES) == SCA_NO_FRAME, "a journal is SCA_JOURNAL_BYTES and no other length");
+    check(sca_create(state, sizeof state, SCA_ID_MOST) == SCA_NO_FRAME && sca_create(state, sizeof state, SCA_ID_MOST + 1) == SCA_BAD_ID,
           "a chip ID is at most SCA_ID_MOST");
     for (size_t length = 0; length <= sizeof room; length++) {
         begin();
         outputs &= sca_upset(state, sizeof state, journal, sizeof journal, room, length) ==
-                   (length < SCA_OUTPUT_BYTES ? SCA_OUTPUT_SHORT : SCA_DONE);
+                   (length < SCA_OUTPUT_LEAST ? SCA_SHORT_OUTPUT : SCA_NO_FRAME);
     }
-    check(outputs, "an event asks for an output of SCA_OUTPUT_BYTES");
+    check(outputs, "an event asks for an output of SCA_OUTPUT_LEAST");
     begin();
     for (size_t length = 0; length <= sizeof room; length++) {
-        transfers &= completion(room, length) == (length == SCA_TRANSFER_BYTES ? SCA_NOT_BUSY : SCA_ARGUMENT);
-        bodies &= SCA_REFUSED(frame(SCA_PRIMARY, room, length)) == (length < SCA_BODY_LEAST || length > SCA_BODY_MOST);
+        transfers &= completion(room, length) == (length == SCA_TRANSFER_BYTES ? SCA_NOT_BUSY : SCA_BAD_ARGUMENT);
+        bodies &= sca_refused(frame(SCA_PRIMARY, room, length)) == (length < SCA_BODY_LEAST || length > SCA_BODY_MOST);
     }
     check(transfers, "a transfer is SCA_TRANSFER_BYTES and no other length");
     check(bodies, "a body is SCA_BODY_LEAST to SCA_BODY_MOST");
@@ -61,32 +61,142 @@ static void kept(void) {
     begin();
     for (unsigned event = 1; event <= SCA_KEPT_MOST + 6; event++) {
         uint64_t result;
-        up &= upset() == SCA_DONE;
+        up &= upset() == SCA_NO_FRAME;
         result = sca_kept(journal, sizeof journal);
-        up &= SCA_NUMBER(result) == SCA_DONE && SCA_KEPT(result) == (event < SCA_KEPT_MOST ? event : SCA_KEPT_MOST);
+        up &= sca_number(result) == SCA_NO_FRAME && sca_kept_in(result) == (event < SCA_KEPT_MOST ? event : SCA_KEPT_MOST);
     }
     check(up, "at most SCA_KEPT_MOST events are kept");
-    for (unsigned step = 0; step < SCA_KEPT_MOST; step++) down &= step_back() == SCA_DONE;
-    check(down && step_back() == SCA_NOTHING_KEPT, "all of them are taken back, and one more is SCA_NOTHING_KEPT");
+    for (unsigned step = 0; step < SCA_KEPT_MOST; step++) down &= step_back() == SCA_NO_FRAME;
+    check(down && step_back() == SCA_NONE_KEPT, "all of them are taken back, and one more is SCA_NONE_KEPT");
     journal[0] ^= 1;
-    check(sca_kept(journal, sizeof journal) == SCA_JOURNAL_WRONG && upset() == SCA_JOURNAL_WRONG,
-          "a journal without its mark is SCA_JOURNAL_WRONG");
+    check(sca_kept(journal, sizeof journal) == SCA_BAD_JOURNAL && upset() == SCA_BAD_JOURNAL,
+          "a journal without its mark is SCA_BAD_JOURNAL");
     state[0] = 8;
-    check(upset() == SCA_STATE_RANGE, "a send number of 8 is SCA_STATE_RANGE");
+    check(upset() == SCA_BAD_STATE, "a send number of 8 is SCA_BAD_STATE");
 }
 
 static void numbers(void) {
     static const uint8_t received[SCA_TRANSFER_BYTES] = {1};
     begin();
-    check(frame(SCA_PRIMARY, "\x01\x2F", 2) == SCA_ADDRESS, "another address is SCA_ADDRESS");
-    check(frame(SCA_AUXILIARY, "\x00\x00", 2) == SCA_PORT_INACTIVE, "the other port is SCA_PORT_INACTIVE");
-    check(frame(SCA_PRIMARY, "\x00\x01", 2) == SCA_CONTROL_UNKNOWN, "an unknown control is SCA_CONTROL_UNKNOWN");
-    check(frame(SCA_PRIMARY, "\x00\x2F\x00", 3) == SCA_INFORMATION_LENGTH, "CONNECT with information is SCA_INFORMATION_LENGTH");
-    check(frame(SCA_AUXILIARY + 1, "\x00\x2F", 2) == SCA_ARGUMENT, "a third port is SCA_ARGUMENT");
-    check(frame(SCA_PRIMARY, "\x00", 1) == SCA_BODY_LENGTH, "a body of one byte is SCA_BODY_LENGTH");
+    check(frame(SCA_PRIMARY, "\x01\x2F", 2) == SCA_OTHER_ADDRESS, "another address is SCA_OTHER_ADDRESS");
+    check(frame(SCA_AUXILIARY, "\x00\x00", 2) == SCA_OTHER_PORT, "the other port is SCA_OTHER_PORT");
+    check(frame(SCA_PRIMARY, "\x00\x01", 2) == SCA_OTHER_CONTROL, "an unknown control is SCA_OTHER_CONTROL");
+    check(frame(SCA_PRIMARY, "\x00\x2F\x00", 3) == SCA_BAD_INFORMATION, "CONNECT with information is SCA_BAD_INFORMATION");
+    check(frame(SCA_AUXILIARY + 1, "\x00\x2F", 2) == SCA_BAD_ARGUMENT, "a third port is SCA_BAD_ARGUMENT");
+    check(frame(SCA_PRIMARY, "\x00", 1) == SCA_BAD_BODY, "a body of one byte is SCA_BAD_BODY");
     check(completion(received, sizeof received) == SCA_NOT_BUSY, "a completion without a GO is SCA_NOT_BUSY");
-    check(sample(0, SCA_SYSTEM_CLOCK) == SCA_GPIO_DISABLED, "a sample of disabled pins is SCA_GPIO_DISABLED");
-    check(sample(0, SCA_STROBE_FALLING + 1) == SCA_ARGUMENT, "a fourth edge kind is SCA_ARGUMENT");
+    check(sample(0, SCA_SYSTEM_CLOCK) == SCA_LINES_DISABLED, "a sample of disabled pins is SCA_LINES_DISABLED");
+    check(sample(0, SCA_STROBE_FALLING + 1) == SCA_BAD_ARGUMENT, "a fourth edge kind is SCA_BAD_ARGUMENT");
+}
+
+/* Ports and edge kinds whose low byte, or low half, alone would do. */
+static void wide_arguments(void) {
+    static const uint32_t ports[] = {256, 257, 0x10000, 0x10001, 0x80000000, 0xFFFFFFFF};
+    static const uint32_t kinds[] = {256, 257, 258, 0x10000, 0x10002, 0x80000000, 0xFFFFFFFF};
+    static uint8_t was[SCA_JOURNAL_BYTES];
+    int port = 1, kind = 1;
+    begin();
+    memcpy(was, journal, sizeof was);
+    for (size_t at = 0; at < sizeof ports / sizeof ports[0]; at++) port &= frame(ports[at], "\x00\x2F", 2) == SCA_BAD_ARGUMENT;
+    for (size_t at = 0; at < sizeof kinds / sizeof kinds[0]; at++) kind &= sample(1, kinds[at]) == SCA_BAD_ARGUMENT;
+    check(port, "ports over 255 are SCA_BAD_ARGUMENT");
+    check(kind, "edge kinds over 255 are SCA_BAD_ARGUMENT");
+    check(memcmp(was, journal, sizeof was) == 0 && sca_kept_in(sca_kept(journal, sizeof journal)) == 0, "and none of them is kept");
+}
+
+/* 6, 4, 1, 3, 2: each is asked for with all that come after it. */
+static void order_of_refusals(void) {
+    int ports = 1, kinds = 1;
+    begin();
+    ports &= frame(256, "\x00", 1) == SCA_BAD_ARGUMENT;
+    ports &= sca_frame(state, sizeof state, journal, sizeof journal, 256, NULL, 0, output, 15) == SCA_SHORT_OUTPUT;
+    kinds &= sca_sample(state, sizeof state, journal, sizeof journal, 0, 256, output, 15) == SCA_SHORT_OUTPUT;
+    journal[3] = 2;
+    ports &= sca_frame(state, sizeof state, journal, sizeof journal, 256, NULL, 0, output, 15) == SCA_BAD_JOURNAL;
+    kinds &= sca_sample(state, sizeof state, journal, sizeof journal, 0, 256, output, 15) == SCA_BAD_JOURNAL;
+    state[2] = 2;
+    ports &= sca_frame(state, sizeof state, journal, sizeof journal, 256, NULL, 0, output, 15) == SCA_BAD_STATE;
+    kinds &= sca_sample(state, sizeof state, journal, sizeof journal, 0, 256, output, 15) == SCA_BAD_STATE;
+    check(ports, "port 256 is refused after 6, 4 and 1, and before 2");
+    check(kinds, "edge kind 256 is refused after 6, 4 and 1");
+}
+
+static void version(void) {
+    check(SCA_VERSION == (1 << 16 | 0 << 8 | 0) && sca_version() == SCA_VERSION, "the library is of the header's version, 1.0.0");
+}
+
+static void readers(void) {
+    int refused = 1;
+    uint64_t event = 0x010A00, reading = 0x080000021017, kept = 0x4011, sent = 0x1800;
+    check(sca_number(event) == SCA_HAS_FRAME && sca_length(event) == 10 && sca_port(event) == SCA_AUXILIARY, "an event's result is read");
+    check(sca_number(reading) == SCA_WRONG_FCS && sca_length(reading) == 16 && sca_consumed(reading) == 0x08000002, "a reading's");
+    check(sca_number(kept) == SCA_NO_FRAME && sca_kept_in(kept) == 64, "a kept number's");
+    check(sca_number(sent) == SCA_HAS_FRAME && sca_count(sent) == 24, "a transmission's");
+    for (unsigned number = 0; number <= 0xFF; number++) refused &= sca_refused(0x010A00 | number) == (number >= 1 && number <= 10);
+    check(refused, "1 to 10 are refusals, and no other number is");
+}
+
+static void texts(void) {
+    static const char none[] = "unknown number";
+    int each = 1, others = 1, differ = 1;
+    for (unsigned number = 0; number <= 0x1FF; number++) {
+        int known = number <= 17 || (number >= 21 && number <= 24);
+        each &= !known || (strcmp(sca_text(number), none) != 0 && strlen(sca_text(number)) > 10);
+        others &= known || strcmp(sca_text(number), none) == 0;
+        for (unsigned other = 0; known && other < number; other++) differ &= strcmp(sca_text(number), sca_text(other)) != 0;
+    }
+    check(each, "each number has a text");
+    check(differ, "no two numbers have the same");
+    check(others, "what is no number is an unknown one");
+    begin();
+    check(strcmp(sca_text(sca_number(frame(256, "\x00\x2F", 2))),
+                 "the port is not 0 or 1, the edge kind is over 2, or the completion is not 16 bytes") == 0,
+          "a result in words");
+}
+
+/* A request in sequence on port 0, with its place in the sequence for a TRN. */
+static uint64_t request(unsigned place, uint8_t channel, uint8_t length, uint8_t command, uint32_t data) {
+    uint8_t body[] = {0x00, (uint8_t)(2 * ((place - 1) % 8)), (uint8_t)place, channel, length, command,
+                      (uint8_t)(data >> 16), (uint8_t)(data >> 24), (uint8_t)data, (uint8_t)(data >> 8)};
+    return frame(SCA_PRIMARY, body, sizeof body);
+}
+
+/* The state's bytes as sca.h lists them. The values written are, where they can be, the places of their bytes in the state. */
+static void state_bytes(void) {
+    static const struct {
+        uint8_t channel, length, command;
+        uint32_t data;
+    } writes[] = {
+        {0x00, 4, 0x02, 0xFF000000}, {0x00, 4, 0x04, 0x05000000}, {0x00, 4, 0x06, 0xFF000000}, {0x01, 6, 0x40, 0x00000908},
+        {0x01, 6, 0x50, 0x00000B0A}, {0x01, 6, 0x60, 0x0000000C}, {0x01, 6, 0x00, 0x13121110}, {0x01, 6, 0x10, 0x17161514},
+        {0x01, 6, 0x20, 0x1B1A1918}, {0x01, 6, 0x30, 0x1F1E1D1C}, {0x02, 4, 0x10, 0x23222120}, {0x02, 4, 0x20, 0x2B2A2928},
+        {0x02, 4, 0x30, 0x2F2E2D2C}, {0x02, 4, 0x40, 0x33323130}, {0x02, 4, 0x70, 0x37363534}, {0x02, 4, 0x80, 0x3B3A3938},
+        {0x02, 4, 0x90, 0x3F3E3D3C}, {0x15, 4, 0x10, 0x00000040}, {0x15, 4, 0x20, 0x00000041}, {0x15, 4, 0x30, 0x00000042},
+        {0x15, 4, 0x40, 0x00000043},
+    };
+    /* 22 replies and the open GO: send number 22 % 8, receive number 23 % 8. CRB without bit 0, CRD without bits 7 to 5. The sample of
+     * ones by the system clock reaches the lines where neither DIRECTION nor CLKSEL is 1: all but 0x3B3A3938. */
+    static const uint8_t expected[SCA_STATE_BYTES] = {
+        0x06, 0x07, 0x00, 0x06, 0xFE, 0x05, 0x1F, 0x17, 0x08, 0x09, 0x0A, 0x0B, 0x0C, 0x00, 0x00, 0x00, 0x10, 0x11, 0x12,
+        0x13, 0x14, 0x15, 0x16, 0x17, 0x18, 0x19, 0x1A, 0x1B, 0x1C, 0x1D, 0x1E, 0x1F, 0x20, 0x21, 0x22, 0x23, 0xC7, 0xC6,
+        0xC5, 0xC4, 0x28, 0x29, 0x2A, 0x2B, 0x2C, 0x2D, 0x2E, 0x2F, 0x30, 0x31, 0x32, 0x33, 0x34, 0x35, 0x36, 0x37, 0x38,
+        0x39, 0x3A, 0x3B, 0x3C, 0x3D, 0x3E, 0x3F, 0x40, 0x41, 0x42, 0x43, 0x01, 0x00, 0x00, 0x00, 0x4A, 0x49, 0x48, 0x00,
+    };
+    static const uint8_t disabled[SCA_STATE_BYTES] = {
+        [0] = 0x07, [3] = 0x02, [5] = 0x05, [6] = 0x1F, [64] = 0x40, [65] = 0x41, [66] = 0x42, [67] = 0x43, [68] = 0x01, [72] = 0x4A, [73] = 0x49, [74] = 0x48,
+    };
+    unsigned place = 1;
+    int done = 1;
+    begin();
+    sca_create(state, sizeof state, 0x48494A);
+    for (size_t at = 0; at < sizeof writes / sizeof writes[0]; at++, place++)
+        done &= sca_length(request(place, writes[at].channel, writes[at].length, writes[at].command, writes[at].data)) == 10;
+    done &= sample(0xFFFFFFFF, SCA_SYSTEM_CLOCK) == SCA_NO_FRAME;
+    done &= sca_length(request(22, 0x02, 4, 0x60, 1)) == 10 && request(23, 0x01, 2, 0x72, 0) == SCA_NO_FRAME;
+    done &= upset() == SCA_NO_FRAME && sca_length(frame(SCA_AUXILIARY, "\x00\xE3", 2)) == 2;
+    check(done && memcmp(state, expected, sizeof expected) == 0, "the state's bytes are those that sca.h lists");
+    done = sca_length(request(24, 0x00, 4, 0x02, 0)) == 10;
+    check(done && memcmp(state, disabled, sizeof disabled) == 0, "a disabled SPI and GPIO hold zeros, and an open GO is dropped");
 }
 
 /* The bytes that hex digits spell. */
@@ -104,14 +214,14 @@ static void listing(void) {
         const char *body, *sent;
         unsigned number, kept;
     } lines[] = {
-        {"00000100040200040000", "00200100000200000000", SCA_FRAME, 1},
-        {"00020202041034127856", "00420202000200000000", SCA_FRAME, 2},
-        {"00040302011100000000", "00640302000434127856", SCA_FRAME, 3},
-        {"00060401024100000000", "00860401200200000000", SCA_FRAME, 4},
-        {"00060401024100000000", "008d", SCA_FRAME, 5},
-        {NULL, "", SCA_DONE, 4},
-        {NULL, "", SCA_DONE, 3},
-        {"00060502011100000000", "00860502000434127856", SCA_FRAME, 4},
+        {"00000100040200040000", "00200100000200000000", SCA_HAS_FRAME, 1},
+        {"00020202041034127856", "00420202000200000000", SCA_HAS_FRAME, 2},
+        {"00040302011100000000", "00640302000434127856", SCA_HAS_FRAME, 3},
+        {"00060401024100000000", "00860401200200000000", SCA_HAS_FRAME, 4},
+        {"00060401024100000000", "008d", SCA_HAS_FRAME, 5},
+        {NULL, "", SCA_NO_FRAME, 4},
+        {NULL, "", SCA_NO_FRAME, 3},
+        {"00060502011100000000", "00860502000434127856", SCA_HAS_FRAME, 4},
     };
     int good = 1;
     begin();
@@ -119,9 +229,9 @@ static void listing(void) {
         uint8_t body[SCA_BODY_MOST], sent[SCA_BODY_MOST];
         size_t count = spelled(lines[line].sent, sent);
         uint64_t result = lines[line].body ? frame(SCA_PRIMARY, body, spelled(lines[line].body, body)) : step_back();
-        good &= SCA_NUMBER(result) == lines[line].number && SCA_PORT(result) == SCA_PRIMARY && SCA_LENGTH(result) == count;
+        good &= sca_number(result) == lines[line].number && sca_port(result) == SCA_PRIMARY && sca_length(result) == count;
         good &= memcmp(output, sent, count) == 0;
-        good &= SCA_KEPT(sca_kept(journal, sizeof journal)) == lines[line].kept;
+        good &= sca_kept_in(sca_kept(journal, sizeof journal)) == lines[line].kept;
     }
     check(good, "document 01's listing");
 }
@@ -134,16 +244,16 @@ static void later_answers(void) {
     frame(SCA_PRIMARY, "\x00\x00\x01\x00\x04\x02\x00\x06\x00\x00", 10);
     frame(SCA_PRIMARY, "\x00\x02\x02\x02\x04\x30\xFF\xFF\xFF\xFF", 10);
     frame(SCA_PRIMARY, "\x00\x04\x03\x02\x04\x60\x00\x00\x01\x00", 10);
-    check(frame(SCA_PRIMARY, "\x00\x06\x04\x01\x02\x72\x00\x00\x00\x00", 10) == SCA_DONE, "a GO gives SCA_DONE");
+    check(frame(SCA_PRIMARY, "\x00\x06\x04\x01\x02\x72\x00\x00\x00\x00", 10) == SCA_NO_FRAME, "a GO gives SCA_NO_FRAME");
     result = completion(received, sizeof received);
-    check(SCA_NUMBER(result) == SCA_FRAME && SCA_LENGTH(result) == 10 && memcmp(output, "\x00\x86\x04\x01\x00\x06\x34\x12\x78\x56", 10) == 0,
+    check(sca_number(result) == SCA_HAS_FRAME && sca_length(result) == 10 && memcmp(output, "\x00\x86\x04\x01\x00\x06\x34\x12\x78\x56", 10) == 0,
           "its completion gives the reply");
-    check(sample(0, SCA_STROBE_RISING) == SCA_DONE, "a sample that changes no line gives SCA_DONE");
+    check(sample(0, SCA_STROBE_RISING) == SCA_NO_FRAME, "a sample that changes no line gives SCA_NO_FRAME");
     result = sample(0x80000001, SCA_SYSTEM_CLOCK);
-    check(SCA_NUMBER(result) == SCA_FRAME && memcmp(output, "\x00\x88\xFF\x02\x00\x04\x00\x80\x01\x00", 10) == 0,
+    check(sca_number(result) == SCA_HAS_FRAME && memcmp(output, "\x00\x88\xFF\x02\x00\x04\x00\x80\x01\x00", 10) == 0,
           "a sample that fires gives the interrupt");
     result = frame(SCA_AUXILIARY, "\x00\x3F", 2);
-    check(SCA_NUMBER(result) == SCA_FRAME && SCA_PORT(result) == SCA_AUXILIARY && memcmp(output, "\x00\x73", 2) == 0,
+    check(sca_number(result) == SCA_HAS_FRAME && sca_port(result) == SCA_AUXILIARY && memcmp(output, "\x00\x73", 2) == 0,
           "CONNECT is acknowledged on its own port");
 }
 
@@ -151,6 +261,12 @@ int main(void) {
     sizes();
     kept();
     numbers();
+    wide_arguments();
+    order_of_refusals();
+    version();
+    readers();
+    texts();
+    state_bytes();
     listing();
     later_answers();
     return failures != 0;

@@ -70,7 +70,7 @@ static void touched(int signal) {
 
 enum call { FRAME, COMPLETION, SAMPLE, UPSET, STEP_BACK, CALLS };
 
-static uint8_t port, kind;
+static uint32_t port, kind;
 
 static uint64_t call(enum call call) {
     switch (call) {
@@ -95,15 +95,15 @@ static unsigned number_of(enum call which, int *good) {
     result = call(which);
     writable(&body, 1), writable(&received, 1);
     *good &= unchanged(&body) && unchanged(&received);
-    if (SCA_REFUSED(result)) {
-        *good &= unchanged(&state) && unchanged(&journal) && unchanged(&output) && result == SCA_NUMBER(result);
+    if (sca_refused(result)) {
+        *good &= unchanged(&state) && unchanged(&journal) && unchanged(&output) && result == sca_number(result);
     } else {
         *good &= unchanged_after(&state, SCA_STATE_BYTES) && unchanged_after(&journal, SCA_JOURNAL_BYTES);
-        *good &= unchanged_after(&output, SCA_LENGTH(result));
-        *good &= SCA_LENGTH(result) <= SCA_OUTPUT_BYTES && SCA_PORT(result) <= SCA_AUXILIARY;
-        *good &= (SCA_LENGTH(result) > 0) == (SCA_NUMBER(result) == SCA_FRAME);
+        *good &= unchanged_after(&output, sca_length(result));
+        *good &= sca_length(result) <= SCA_OUTPUT_LEAST && sca_port(result) <= SCA_AUXILIARY;
+        *good &= (sca_length(result) > 0) == (sca_number(result) == SCA_HAS_FRAME);
     }
-    return SCA_NUMBER(result);
+    return sca_number(result);
 }
 
 /* ------------------------------------------------------------------- states */
@@ -119,7 +119,7 @@ static void reach(int deep) {
         "\x00\x0C\x07\x01\x06\x10\x12\x34\x56\x78", "\x00\x0E\x08\x15\x04\x30\x00\x00\x99\x00",
         "\x00\x00\x09\x01\x02\x72\x00\x00\x00\x00",
     };
-    uint8_t sent[SCA_OUTPUT_BYTES];
+    uint8_t sent[SCA_OUTPUT_LEAST];
     sca_create(some_state, sizeof some_state, deep ? SCA_ID_MOST : 0x00000A);
     memset(some_journal, 0xEE, sizeof some_journal);
     sca_empty(some_journal, sizeof some_journal);
@@ -135,7 +135,7 @@ static void lend_all(void) {
     lend_bytes(&journal, some_journal, sizeof some_journal);
     lend_bytes(&body, "\x00\x2F", 2);
     lend(&received, SCA_TRANSFER_BYTES);
-    lend(&output, SCA_OUTPUT_BYTES);
+    lend(&output, SCA_OUTPUT_LEAST);
 }
 
 static int all_zero(const uint8_t *bytes, size_t from, size_t to) {
@@ -144,7 +144,7 @@ static int all_zero(const uint8_t *bytes, size_t from, size_t to) {
     return 1;
 }
 
-/* Number 6 as document 01 has it, on the bytes of docs/JOURNAL.md. */
+/* Number 6, on the bytes as sca.h lists them. */
 static int in_range(const uint8_t *bytes) {
     int spi = bytes[4] & 0x02, gpio = bytes[4] & 0x04;
     return bytes[0] <= 7 && bytes[1] <= 7 && bytes[2] <= 1 && bytes[3] <= 7 && !(bytes[4] & 0x01) && !(bytes[6] & 0xE0) &&
@@ -165,7 +165,7 @@ static void lengths_of_outputs(void) {
     for (size_t length = 0; length <= 25; length++) {
         lend_all();
         lend(&output, length);
-        good &= (number_of(which, &good) == SCA_OUTPUT_SHORT) == (length < SCA_OUTPUT_BYTES);
+        good &= (number_of(which, &good) == SCA_SHORT_OUTPUT) == (length < SCA_OUTPUT_LEAST);
     }
     check(good, "outputs of 0 to 25 bytes");
 }
@@ -179,16 +179,16 @@ static void lengths_of_journals(void) {
         EACH_CALL(STEP_BACK) {
             lend_all();
             memcpy(lend(&journal, length), some_journal, length < SCA_JOURNAL_BYTES ? length : SCA_JOURNAL_BYTES);
-            good &= (number_of(which, &good) == SCA_JOURNAL_WRONG) == !right;
+            good &= (number_of(which, &good) == SCA_BAD_JOURNAL) == !right;
         }
         for (at_end = 0; at_end <= 1; at_end++) {
             lend(&journal, length);
             note(&journal);
-            others &= sca_empty(journal.at, length) == (right ? SCA_DONE : SCA_JOURNAL_WRONG);
+            others &= sca_empty(journal.at, length) == (right ? SCA_NO_FRAME : SCA_BAD_JOURNAL);
             others &= unchanged_after(&journal, right ? 7 : 0);
             note(&journal);
             writable(&journal, 0);
-            others &= sca_kept(journal.at, length) == (right ? SCA_DONE : SCA_JOURNAL_WRONG);
+            others &= sca_kept(journal.at, length) == (right ? SCA_NO_FRAME : SCA_BAD_JOURNAL);
             writable(&journal, 1);
             others &= unchanged(&journal);
         }
@@ -207,7 +207,7 @@ static void headers_of_journals(void) {
             lend_all();
             journal.at[at] = (uint8_t)byte;
             number = number_of(which, &good);
-            if (which != STEP_BACK || layout) good &= (number == SCA_JOURNAL_WRONG) == layout;
+            if (which != STEP_BACK || layout) good &= (number == SCA_BAD_JOURNAL) == layout;
         }
     check(good, "every byte in each place of a journal's header");
 }
@@ -223,7 +223,7 @@ static void bits_of_states(void) {
             lend_all();
             state.at[bit / 8] ^= (uint8_t)(1 << bit % 8);
             ranged = in_range(state.at);
-            good &= (number_of(which, &good) == SCA_STATE_RANGE) == !ranged;
+            good &= (number_of(which, &good) == SCA_BAD_STATE) == !ranged;
         }
     }
     check(good, "states with any one bit flipped");
@@ -237,15 +237,15 @@ static void lengths_of_states(void) {
         EACH_CALL(STEP_BACK) {
             lend_all();
             memset(lend(&state, length), 0, length);
-            good &= (number_of(which, &good) == SCA_STATE_RANGE) == (length != SCA_STATE_BYTES);
+            good &= (number_of(which, &good) == SCA_BAD_STATE) == (length != SCA_STATE_BYTES);
         }
         for (at_end = 0; at_end <= 1; at_end++)
             for (uint32_t id = SCA_ID_MOST; id <= SCA_ID_MOST + 1; id++) {
-                unsigned number = length != SCA_STATE_BYTES ? SCA_STATE_RANGE : id > SCA_ID_MOST ? SCA_ID_RANGE : SCA_DONE;
+                unsigned number = length != SCA_STATE_BYTES ? SCA_BAD_STATE : id > SCA_ID_MOST ? SCA_BAD_ID : SCA_NO_FRAME;
                 lend(&state, length);
                 note(&state);
                 good &= sca_create(state.at, length, id) == number;
-                good &= unchanged_after(&state, number == SCA_DONE ? length : 0);
+                good &= unchanged_after(&state, number == SCA_NO_FRAME ? length : 0);
             }
     }
     check(good, "states one byte short and long, and of none");
@@ -257,24 +257,33 @@ static void arguments(void) {
         for (size_t length = 0; length <= 20; length++) {
             lend_all();
             lend(&body, length);
-            bodies &= (number_of(FRAME, &bodies) == SCA_BODY_LENGTH) == (length < 2 || length > 16);
+            bodies &= (number_of(FRAME, &bodies) == SCA_BAD_BODY) == (length < 2 || length > 16);
             lend_all();
             lend(&received, length);
-            transfers &= (number_of(COMPLETION, &transfers) == SCA_ARGUMENT) == (length != 16);
+            transfers &= (number_of(COMPLETION, &transfers) == SCA_BAD_ARGUMENT) == (length != 16);
         }
-        for (unsigned value = 0; value <= 0xFF; value++) {
+        for (unsigned at = 0; at <= 0x3FF; at++) {
+            uint32_t value = at <= 0x2FF ? at : 0xFFFFFC00 + at; /* 0 to 767, then the last 256 numbers of 32 bits */
             lend_all();
-            port = kind = (uint8_t)value;
-            ports &= (number_of(FRAME, &ports) == SCA_ARGUMENT) == (value > 1);
+            port = value;
+            ports &= (number_of(FRAME, &ports) == SCA_BAD_ARGUMENT) == (value > 1);
             lend_all();
-            port = kind = (uint8_t)value;
-            kinds &= (number_of(SAMPLE, &kinds) == SCA_ARGUMENT) == (value > 2);
+            kind = value;
+            kinds &= (number_of(SAMPLE, &kinds) == SCA_BAD_ARGUMENT) == (value > 2);
+        }
+        for (unsigned bit = 8; bit < 32; bit++) { /* one bit above a low byte that would do */
+            lend_all();
+            port = (uint32_t)1 << bit | SCA_AUXILIARY;
+            ports &= number_of(FRAME, &ports) == SCA_BAD_ARGUMENT;
+            lend_all();
+            kind = (uint32_t)1 << bit | SCA_STROBE_FALLING;
+            kinds &= number_of(SAMPLE, &kinds) == SCA_BAD_ARGUMENT;
         }
     }
     check(bodies, "bodies of 0 to 20 bytes");
     check(transfers, "completions of 0 to 20 bytes");
-    check(ports, "every port");
-    check(kinds, "every edge kind");
+    check(ports, "every port up to 767, and those of one more bit");
+    check(kinds, "every edge kind up to 767, and those of one more bit");
 }
 
 /* Of several reasons to refuse, the first in the order 6, 4, 1, 3, 2. */
@@ -286,8 +295,8 @@ static void order(void) {
             lend_all();
             if (wrong & 1) state.at[1] = 8;
             if (wrong & 2) journal.at[0] = 0;
-            if (wrong & 4) lend(&output, SCA_OUTPUT_BYTES - 1);
-            if (wrong & 8) port = 2;
+            if (wrong & 4) lend(&output, SCA_OUTPUT_LEAST - 1);
+            if (wrong & 8) port = at_end ? 256 : 2;
             if (wrong & 16) lend(&body, SCA_BODY_MOST + 1);
             good &= number_of(FRAME, &good) == first;
         }
@@ -305,17 +314,17 @@ static void no_buffers(void) {
             lend_all();
             none->at = NULL, none->length = 0;
             got = number_of(which, &good);
-            good &= used ? got == number : got == SCA_FRAME || got >= 11;
+            good &= used ? got == number : got == SCA_HAS_FRAME || got >= 11;
             if (none == &received) break;
         }
-    good &= sca_create(NULL, 0, 0) == SCA_STATE_RANGE && sca_receiver_new(NULL, 0) == SCA_STATE_RANGE;
-    good &= sca_empty(NULL, 0) == SCA_JOURNAL_WRONG && sca_kept(NULL, 0) == SCA_JOURNAL_WRONG;
-    good &= sca_transmit(NULL, 0, NULL, 0) == SCA_BODY_LENGTH && sca_receive(NULL, 0, NULL, 0, 0, NULL, 0) == SCA_STATE_RANGE;
+    good &= sca_create(NULL, 0, 0) == SCA_BAD_STATE && sca_receiver_new(NULL, 0) == SCA_BAD_STATE;
+    good &= sca_empty(NULL, 0) == SCA_BAD_JOURNAL && sca_kept(NULL, 0) == SCA_BAD_JOURNAL;
+    good &= sca_transmit(NULL, 0, NULL, 0) == SCA_BAD_BODY && sca_receive(NULL, 0, NULL, 0, 0, NULL, 0) == SCA_BAD_STATE;
     lend(&receiver, SCA_RECEIVER_BYTES);
-    lend(&output, SCA_OUTPUT_BYTES);
+    lend(&output, SCA_OUTPUT_LEAST);
     sca_receiver_new(receiver.at, receiver.length);
-    good &= sca_receive(receiver.at, receiver.length, NULL, 0, 0, output.at, output.length) == SCA_DONE;
-    good &= sca_receive(receiver.at, receiver.length, NULL, 0, 0, NULL, 0) == SCA_OUTPUT_SHORT;
+    good &= sca_receive(receiver.at, receiver.length, NULL, 0, 0, output.at, output.length) == SCA_NO_FRAME;
+    good &= sca_receive(receiver.at, receiver.length, NULL, 0, 0, NULL, 0) == SCA_SHORT_OUTPUT;
     check(good, "NULL with length 0 for each buffer");
 }
 
@@ -326,31 +335,31 @@ static unsigned reading(size_t start, int *good) {
     writable(&input, 0);
     result = sca_receive(receiver.at, receiver.length, input.at, input.length, start, output.at, output.length);
     writable(&input, 1);
-    *good &= unchanged_after(&receiver, SCA_REFUSED(result) ? 0 : SCA_RECEIVER_BYTES);
-    *good &= unchanged(&input) && unchanged_after(&output, SCA_LENGTH(result));
-    *good &= !SCA_REFUSED(result) || result == SCA_NUMBER(result);
-    *good &= start + SCA_CONSUMED(result) <= 8 * input.length || SCA_REFUSED(result);
-    return SCA_NUMBER(result);
+    *good &= unchanged_after(&receiver, sca_refused(result) ? 0 : SCA_RECEIVER_BYTES);
+    *good &= unchanged(&input) && unchanged_after(&output, sca_length(result));
+    *good &= !sca_refused(result) || result == sca_number(result);
+    *good &= start + sca_consumed(result) <= 8 * input.length || sca_refused(result);
+    return sca_number(result);
 }
 
 static void lend_link(void) {
     sca_receiver_new(lend(&receiver, SCA_RECEIVER_BYTES), SCA_RECEIVER_BYTES);
     lend_bytes(&input, "\x7E\x00\x2F\xFF\xFF\x7E", 6);
-    lend(&output, SCA_OUTPUT_BYTES);
+    lend(&output, SCA_OUTPUT_LEAST);
 }
 
 static void receivers(void) {
     int lengths = 1, outputs = 1, inputs = 1, starts = 1, bits = 1;
     for (at_end = 0; at_end <= 1; at_end++) {
         for (size_t length = SCA_RECEIVER_BYTES - 1; length <= SCA_RECEIVER_BYTES + 1; length++) {
-            unsigned number = length == SCA_RECEIVER_BYTES ? SCA_DONE : SCA_STATE_RANGE;
+            unsigned number = length == SCA_RECEIVER_BYTES ? SCA_NO_FRAME : SCA_BAD_STATE;
             lend_link();
             lend(&receiver, length);
             note(&receiver);
             lengths &= sca_receiver_new(receiver.at, length) == number;
-            lengths &= unchanged_after(&receiver, number == SCA_DONE ? length : 0);
+            lengths &= unchanged_after(&receiver, number == SCA_NO_FRAME ? length : 0);
             memset(lend(&receiver, length), 0, length);
-            lengths &= (reading(0, &lengths) == SCA_STATE_RANGE) == (number == SCA_STATE_RANGE);
+            lengths &= (reading(0, &lengths) == SCA_BAD_STATE) == (number == SCA_BAD_STATE);
         }
         for (size_t bit = 0; bit < 8 * SCA_RECEIVER_BYTES; bit++) {
             lend_link();
@@ -360,19 +369,19 @@ static void receivers(void) {
         for (size_t length = 0; length <= 25; length++) {
             lend_link();
             lend(&output, length);
-            outputs &= (reading(0, &outputs) == SCA_OUTPUT_SHORT) == (length < SCA_OUTPUT_BYTES);
+            outputs &= (reading(0, &outputs) == SCA_SHORT_OUTPUT) == (length < SCA_OUTPUT_LEAST);
         }
         for (size_t length = SCA_INPUT_MOST; length <= SCA_INPUT_MOST + 1; length++) {
             lend_link();
             lend(&input, length);
-            inputs &= (reading(0, &inputs) == SCA_INPUT_LONG) == (length > SCA_INPUT_MOST);
-            inputs &= (reading(8 * length - 3, &inputs) == SCA_INPUT_LONG) == (length > SCA_INPUT_MOST);
+            inputs &= (reading(0, &inputs) == SCA_LONG_INPUT) == (length > SCA_INPUT_MOST);
+            inputs &= (reading(8 * length - 3, &inputs) == SCA_LONG_INPUT) == (length > SCA_INPUT_MOST);
         }
         for (size_t start = 0; start <= 50; start++) {
             lend_link();
-            starts &= (reading(start, &starts) == SCA_START_RANGE) == (start > 48);
+            starts &= (reading(start, &starts) == SCA_BAD_START) == (start > 48);
             lend_link();
-            starts &= reading(SIZE_MAX - start, &starts) == SCA_START_RANGE;
+            starts &= reading(SIZE_MAX - start, &starts) == SCA_BAD_START;
         }
     }
     check(lengths, "receivers one byte short and long");
@@ -387,7 +396,7 @@ static void transmitters(void) {
     for (at_end = 0; at_end <= 1; at_end++)
         for (size_t length = 0; length <= 20; length++)
             for (size_t room = 0; room <= 25; room++) {
-                unsigned number = length < 2 || length > 16 ? SCA_BODY_LENGTH : room < SCA_FRAME_MOST ? SCA_OUTPUT_SHORT : SCA_FRAME;
+                unsigned number = length < 2 || length > 16 ? SCA_BAD_BODY : room < SCA_CABLE_MOST ? SCA_SHORT_OUTPUT : SCA_HAS_FRAME;
                 uint64_t result;
                 memset(lend(&body, length), 0xFF, length);
                 lend(&output, room);
@@ -395,9 +404,9 @@ static void transmitters(void) {
                 writable(&body, 0);
                 result = sca_transmit(body.at, length, output.at, room);
                 writable(&body, 1);
-                good &= SCA_NUMBER(result) == number && SCA_COUNT(result) <= SCA_FRAME_MOST;
-                good &= unchanged(&body) && unchanged_after(&output, SCA_COUNT(result));
-                good &= !SCA_REFUSED(result) || result == number;
+                good &= sca_number(result) == number && sca_count(result) <= SCA_CABLE_MOST;
+                good &= unchanged(&body) && unchanged_after(&output, sca_count(result));
+                good &= !sca_refused(result) || result == number;
             }
     check(good, "a transmitter's bodies of 0 to 20 and outputs of 0 to 25 bytes");
 }

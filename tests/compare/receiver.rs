@@ -1,7 +1,7 @@
 //! A receiver's bytes as docs/RECEIVER.md spells them.
 
 use crate::bits::{bits_of, stuffed, FLAG};
-use boundary::RECEIVER_BYTES;
+use sca::RECEIVER_BYTES;
 
 const MODE: usize = 0;
 const ONES: usize = 1;

@@ -6,9 +6,10 @@ use crate::calls::Call;
 use crate::fault::Fault;
 use crate::harness::output::Output;
 use crate::receiver::{in_range, way_to};
-use boundary::{Received, Sent, RECEIVER_BYTES};
 use reference::link;
 use reference::numbers::{ABORTED, DONE, FRAME, OUT_OF_RANGE, TOO_LONG, UNREADABLE};
+use sca::boundary::{self, RawReceived, RawSent};
+use sca::RECEIVER_BYTES;
 
 /// How often each thing was seen, over all streams.
 pub struct Tally {
@@ -57,7 +58,7 @@ fn refused(number: u8) -> bool {
 
 fn new_receiver() -> Vec<u8> {
     let mut receiver = vec![0; RECEIVER_BYTES];
-    boundary::receiver_new(&mut receiver);
+    boundary::sca_receiver_new(&mut receiver);
     receiver
 }
 
@@ -117,7 +118,7 @@ impl<'a> Run<'a> {
     fn make(&mut self, length: usize) -> Checked {
         let before: Vec<u8> = (0..length).map(|at| at as u8 ^ 0xC3).collect();
         let mut receiver = before.clone();
-        let number = boundary::receiver_new(&mut receiver) as u8;
+        let number = boundary::sca_receiver_new(&mut receiver) as u8;
         self.tally.calls += 1;
         self.tally.made[usize::from(number)] += 1;
         if length != RECEIVER_BYTES {
@@ -173,10 +174,10 @@ impl<'a> Run<'a> {
         input: &[u8],
         start: usize,
         room: usize,
-    ) -> Result<Received, String> {
+    ) -> Result<RawReceived, String> {
         let mut expected = Output::new(room);
         let (number, consumed, length) = theirs.receive(input, start, expected.lent());
-        let theirs = Received {
+        let theirs = RawReceived {
             number,
             consumed,
             length,
@@ -190,7 +191,7 @@ impl<'a> Run<'a> {
         }
         let lent_cable = cable.clone();
         let mut output = Output::new(room);
-        let mut received = boundary::receive(ours, &cable, start, output.lent());
+        let mut received = boundary::sca_receive(ours, &cable, start, output.lent());
         self.tally.calls += 1;
         self.change_reading(&mut received, &mut output, ours);
 
@@ -215,7 +216,7 @@ impl<'a> Run<'a> {
         }
     }
 
-    fn change_reading(&mut self, received: &mut Received, output: &mut Output, receiver: &mut [u8]) {
+    fn change_reading(&mut self, received: &mut RawReceived, output: &mut Output, receiver: &mut [u8]) {
         let body = received.number == FRAME;
         if self.lay(Fault::Number, true) {
             received.number ^= 1;
@@ -256,7 +257,7 @@ impl<'a> Run<'a> {
             }
         }
         let mut output = Output::new(room);
-        let mut received = boundary::receive(&mut ours, input, start, output.lent());
+        let mut received = boundary::sca_receive(&mut ours, input, start, output.lent());
         self.tally.calls += 1;
         self.tally.spelled[usize::from(received.number)] += 1;
         self.change_reading(&mut received, &mut output, &mut ours);
@@ -293,7 +294,7 @@ impl<'a> Run<'a> {
         let (input, start) = buffer_of(&way_to(receiver), true);
         let (mut ours, mut theirs) = (new_receiver(), link::Receiver::new());
         let mut output = [0; 16];
-        boundary::receive(&mut ours, &input, start, &mut output);
+        boundary::sca_receive(&mut ours, &input, start, &mut output);
         theirs.receive(&input, start, &mut output);
         if ours == receiver {
             Some(theirs)
@@ -306,7 +307,7 @@ impl<'a> Run<'a> {
         let mut expected = Output::new(room);
         let (number, count) = link::transmit(body, expected.lent());
         let mut output = Output::new(room);
-        let mut sent = boundary::transmit(body, output.lent());
+        let mut sent = boundary::sca_transmit(body, output.lent());
         self.tally.calls += 1;
         self.tally.sent[usize::from(sent.number)] += 1;
         self.change_sending(&mut sent, &mut output);
@@ -320,7 +321,7 @@ impl<'a> Run<'a> {
         Ok(())
     }
 
-    fn change_sending(&mut self, sent: &mut Sent, output: &mut Output) {
+    fn change_sending(&mut self, sent: &mut RawSent, output: &mut Output) {
         let frame = sent.number == FRAME;
         if self.lay(Fault::FrameByte, frame) {
             output.lent()[sent.count / 2] ^= 1;
@@ -339,7 +340,7 @@ impl<'a> Run<'a> {
         let (number, _, length) = link::Receiver::new().receive(our_frame, 0, &mut output);
         same("our frame read by them", (number, &output[..length]), (FRAME, body))?;
         let mut output = [0; 16];
-        let read = boundary::receive(&mut new_receiver(), their_frame, 0, &mut output);
+        let read = boundary::sca_receive(&mut new_receiver(), their_frame, 0, &mut output);
         same(
             "their frame read by us",
             (read.number, &output[..read.length]),
@@ -354,7 +355,7 @@ impl<'a> Run<'a> {
         let mut receiver = new_receiver();
         let mut output = [0; 16];
         while start < 8 * input.len() {
-            let received = boundary::receive(&mut receiver, &input, start, &mut output);
+            let received = boundary::sca_receive(&mut receiver, &input, start, &mut output);
             self.tally.calls += 1;
             if refused(received.number) {
                 return Ok(()); // more bits than one call takes
@@ -376,7 +377,7 @@ fn refusal_of_arguments(input: &[u8], start: usize, room: usize) -> Option<u8> {
 pub fn frame_bits(body: &[u8], by_library: bool) -> Vec<bool> {
     let mut output = [0; 24];
     let count = if by_library {
-        boundary::transmit(body, &mut output).count
+        boundary::sca_transmit(body, &mut output).count
     } else {
         link::transmit(body, &mut output).1
     };

@@ -5,7 +5,7 @@ use crate::bits::{bits_of, buffer_of, destuffed, stuffed, FLAG};
 use crate::calls::{Call, Input};
 use crate::harness::chance::Chance;
 use crate::run::frame_bits;
-use boundary::RECEIVER_BYTES;
+use sca::RECEIVER_BYTES;
 
 type Bits = Vec<bool>;
 

@@ -26,7 +26,7 @@ pub enum Call {
     },
     Kept,
     Frame {
-        port: u8,
+        port: u32,
         body: Vec<u8>,
         room: usize,
     },
@@ -45,7 +45,7 @@ pub enum Call {
     },
     Sample {
         levels: u32,
-        kind: u8,
+        kind: u32,
         room: usize,
     },
     Upset {
@@ -95,7 +95,7 @@ impl Call {
                 let mut body = vec![0x00, high << 4 | number << 1];
                 body.extend_from_slice(information);
                 Call::Frame {
-                    port: state.active ^ u8::from(*way == Way::Other),
+                    port: u32::from(state.active) ^ u32::from(*way == Way::Other),
                     body,
                     room: *room,
                 }
@@ -151,19 +151,19 @@ pub fn call_in(line: &str) -> Option<Call> {
 
 fn call_of(words: &[&str]) -> Option<Call> {
     let number = |text: &str| text.parse::<usize>().ok();
-    let small = |text: &str| text.parse::<u8>().ok();
+    let word = |text: &str| text.parse::<u32>().ok();
     let inner = |words: &[&str]| Some(Box::new(call_of(words)?));
     match *words {
         ["create", length, id] => Some(Call::Create {
             length: number(length)?,
-            id: id.parse().ok()?,
+            id: word(id)?,
         }),
         ["empty", length] => Some(Call::Empty {
             length: number(length)?,
         }),
         ["kept"] => Some(Call::Kept),
         ["F", port, body, room] => Some(Call::Frame {
-            port: small(port)?,
+            port: word(port)?,
             body: bytes_in(body)?,
             room: number(room)?,
         }),
@@ -173,7 +173,7 @@ fn call_of(words: &[&str]) -> Option<Call> {
         }),
         ["P", levels, kind, room] => Some(Call::Sample {
             levels: u32::from_str_radix(levels, 16).ok()?,
-            kind: small(kind)?,
+            kind: word(kind)?,
             room: number(room)?,
         }),
         ["U", room] => Some(Call::Upset { room: number(room)? }),
@@ -191,7 +191,7 @@ fn call_of(words: &[&str]) -> Option<Call> {
         }),
         ["alter", at, byte, ..] => Some(Call::AlteredJournal {
             at: number(at)?,
-            byte: small(byte)?,
+            byte: byte.parse().ok()?,
             call: inner(&words[3..])?,
         }),
         ["journal", length, ..] => Some(Call::JournalOfLength {

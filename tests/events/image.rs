@@ -1,7 +1,7 @@
 //! A state's 76 bytes, field by field, as docs/JOURNAL.md lists them, with the chip ID behind.
 
-use boundary::STATE_BYTES;
 use reference::adapter::{Gpio, Spi, State};
+use sca::STATE_BYTES;
 
 /// The bytes of a record: a state without the ID.
 pub const RECORD_BYTES: usize = 72;

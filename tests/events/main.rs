@@ -100,6 +100,8 @@ fn all_seen(tally: &Tally) -> bool {
         numbers("a frame", &tally.frame, &[0, 1, 2, 3, 4, 6, 11, 12, 13, 14, 17]),
         numbers("a completion", &tally.completion, &[0, 1, 3, 4, 6, 15]),
         numbers("a pin sample", &tally.sample, &[0, 1, 3, 4, 6, 16, 17]),
+        some("ports refused for what stands above their low byte", tally.wide_ports),
+        some("edge kinds refused so", tally.wide_kinds),
         numbers("an upset", &tally.upset, &[1, 4, 6, 17]),
         numbers("a step back", &tally.step_back, &[5, 6, 17]),
         numbers("a step back in a journal altered", &tally.altered_back, &[4, 5, 17]),

@@ -1,8 +1,8 @@
 //! A journal's bytes as docs/JOURNAL.md says that the calls leave them.
 
 use crate::image::{record_of, state_in_record, RECORD_BYTES};
-use boundary::JOURNAL_BYTES;
 use reference::adapter::{in_range, State};
+use sca::JOURNAL_BYTES;
 
 const HEADER: usize = 1_024;
 const SLOT: usize = 256;

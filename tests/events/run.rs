@@ -7,9 +7,10 @@ use crate::harness::output::Output;
 use crate::image::{bytes_of, state_in};
 use crate::ring::Ring;
 use crate::tally::Tally;
-use boundary::{Answer, JOURNAL_BYTES, STATE_BYTES};
 use reference::adapter::{self, Condition, Journal, State};
 use reference::numbers::{BAD_ID, BAD_JOURNAL, DONE, FRAME, NOTHING_KEPT, OUT_OF_RANGE, UNREADABLE};
+use sca::boundary::{self, RawAnswer};
+use sca::{JOURNAL_BYTES, STATE_BYTES};
 
 type Checked = Result<(), String>;
 
@@ -181,7 +182,7 @@ impl<'a> Run<'a> {
         let (made, state) = adapter::create(id);
         let fill = |length: usize| (0..length).map(|at| (at * 31) as u8 ^ 0xC3).collect::<Vec<u8>>();
         let mut bytes = fill(length);
-        let number = boundary::create(&mut bytes, id);
+        let number = boundary::sca_create(&mut bytes, id);
         let (expected, after) = match state {
             _ if length != STATE_BYTES => (OUT_OF_RANGE, fill(length)),
             Some(state) => (made, bytes_of(&state)),
@@ -206,14 +207,14 @@ impl<'a> Run<'a> {
             self.tally.empty[usize::from(expected)] += 1;
             same(
                 "the number",
-                boundary::empty(&mut self.own.journal),
+                boundary::sca_empty(&mut self.own.journal),
                 u64::from(expected),
             )?;
             return same("the journal", self.own.journal == self.own.ring.0, true);
         }
         let mut bytes = Ring::unwritten(length).0;
         self.tally.empty[usize::from(BAD_JOURNAL)] += 1;
-        same("the number", boundary::empty(&mut bytes), u64::from(BAD_JOURNAL))?;
+        same("the number", boundary::sca_empty(&mut bytes), u64::from(BAD_JOURNAL))?;
         same("the journal is unchanged", bytes == Ring::unwritten(length).0, true)
     }
 
@@ -229,7 +230,7 @@ impl<'a> Run<'a> {
         let mut answer = by_library(pair, call, ours.lent());
         let before = pair.expected;
         let expected = match &mut pair.expected {
-            None => Answer {
+            None => RawAnswer {
                 number: OUT_OF_RANGE,
                 length: 0,
                 port: 0,
@@ -250,7 +251,7 @@ impl<'a> Run<'a> {
         self.left(pair)
     }
 
-    fn break_event(&mut self, pair: &mut Pair, answer: &mut Answer, output: &mut Output, kept: bool) {
+    fn break_event(&mut self, pair: &mut Pair, answer: &mut RawAnswer, output: &mut Output, kept: bool) {
         let frame = answer.number == FRAME;
         let room = output.lent().len();
         if self.lay(Fault::Number, true) {
@@ -294,7 +295,7 @@ impl<'a> Run<'a> {
 
     /// What docs/JOURNAL.md says a step back does; where no byte was altered, the independent implementation says it too.
     fn step_back(&mut self, pair: &mut Pair) -> Checked {
-        let answer = boundary::step_back(&mut pair.state, &mut pair.journal);
+        let answer = boundary::sca_step_back(&mut pair.state, &mut pair.journal);
         let before = pair.expected;
         let (number, after) = match before.filter(adapter::in_range) {
             None => (OUT_OF_RANGE, before),
@@ -318,7 +319,7 @@ impl<'a> Run<'a> {
             pair.state[68] ^= 1;
         }
         self.tally.step_back(number, pair.altered);
-        let expected = Answer {
+        let expected = RawAnswer {
             number,
             length: 0,
             port: 0,
@@ -344,7 +345,7 @@ impl<'a> Run<'a> {
     }
 
     fn kept(&mut self, pair: &Pair) -> Checked {
-        let mut ours = boundary::kept(&pair.journal);
+        let mut ours = boundary::sca_kept(&pair.journal);
         let expected = if pair.ring.well_formed() {
             (DONE, pair.ring.kept())
         } else {
@@ -369,24 +370,24 @@ impl<'a> Run<'a> {
     }
 }
 
-fn by_library(pair: &mut Pair, call: &Call, output: &mut [u8]) -> Answer {
+fn by_library(pair: &mut Pair, call: &Call, output: &mut [u8]) -> RawAnswer {
     let (state, journal) = (&mut pair.state, &mut pair.journal);
     match call {
-        Call::Frame { port, body, .. } => boundary::frame(state, journal, *port, body, output),
-        Call::Completion { received, .. } => boundary::completion(state, journal, received, output),
-        Call::Sample { levels, kind, .. } => boundary::sample(state, journal, *levels, *kind, output),
-        _ => boundary::upset(state, journal, output),
+        Call::Frame { port, body, .. } => boundary::sca_frame(state, journal, *port, body, output),
+        Call::Completion { received, .. } => boundary::sca_completion(state, journal, received, output),
+        Call::Sample { levels, kind, .. } => boundary::sca_sample(state, journal, *levels, *kind, output),
+        _ => boundary::sca_upset(state, journal, output),
     }
 }
 
-fn by_reference(state: &mut State, journal: &mut Journal, call: &Call, output: &mut [u8]) -> Answer {
+fn by_reference(state: &mut State, journal: &mut Journal, call: &Call, output: &mut [u8]) -> RawAnswer {
     let answer = match call {
         Call::Frame { port, body, .. } => adapter::frame(state, journal, *port, body, output),
         Call::Completion { received, .. } => adapter::completion(state, journal, received, output),
         Call::Sample { levels, kind, .. } => adapter::sample(state, journal, *levels, *kind, output),
         _ => adapter::upset(state, journal, output),
     };
-    Answer {
+    RawAnswer {
         number: answer.number,
         length: answer.length,
         port: answer.port,

@@ -3,8 +3,8 @@
 use crate::calls::{Call, Way};
 use crate::harness::chance::Chance;
 use crate::image::bytes_of;
-use boundary::{JOURNAL_BYTES, STATE_BYTES};
 use reference::adapter::{Gpio, Spi, State};
+use sca::{JOURNAL_BYTES, STATE_BYTES};
 
 const CONTROLLER: u8 = 0x00;
 const SPI: u8 = 0x01;
@@ -277,7 +277,7 @@ fn transfer(chance: &mut Chance) -> Vec<Call> {
 fn sample(chance: &mut Chance) -> Call {
     Call::Sample {
         levels: word(chance),
-        kind: chance.below(3) as u8,
+        kind: chance.below(3) as u32,
         room: room(chance),
     }
 }
@@ -304,7 +304,7 @@ fn pins(chance: &mut Chance) -> Vec<Call> {
 
 fn link_frame(chance: &mut Chance, control: u8) -> Call {
     Call::Frame {
-        port: chance.below(2) as u8,
+        port: chance.below(2) as u32,
         body: vec![0x00, control | if chance.once_in(2) { 0x10 } else { 0 }],
         room: room(chance),
     }
@@ -341,7 +341,7 @@ fn any_frame(chance: &mut Chance) -> Call {
         body[1] |= 1;
     }
     Call::Frame {
-        port: chance.below(2) as u8,
+        port: chance.below(2) as u32,
         body,
         room: room(chance),
     }
@@ -365,6 +365,12 @@ fn filled_then_back(chance: &mut Chance) -> Vec<Call> {
     calls
 }
 
+/// Over 255: a number of this many bits whose low byte, or low half, is most often a port or an edge kind.
+fn wide(chance: &mut Chance) -> u32 {
+    const WIDE: [u32; 8] = [256, 257, 258, 0xFF00, 0x1_0000, 0x1_0001, 0x8000_0002, u32::MAX];
+    WIDE[chance.below(WIDE.len())]
+}
+
 /// An event with one wrong argument or several.
 fn refused(chance: &mut Chance) -> Call {
     let short = |chance: &mut Chance| {
@@ -382,7 +388,7 @@ fn refused(chance: &mut Chance) -> Call {
                 _ => chance.between(2, 16),
             };
             Call::Frame {
-                port: [0, 1, 2, chance.byte(), 0xFF][chance.below(5)],
+                port: [0, 1, 2, u32::from(chance.byte()), 0xFF, wide(chance)][chance.below(6)],
                 body: chance.bytes(length),
                 room: short(chance),
             }
@@ -396,7 +402,7 @@ fn refused(chance: &mut Chance) -> Call {
         }
         3 => Call::Sample {
             levels: word(chance),
-            kind: [2, 3, chance.byte(), 0xFF][chance.below(4)],
+            kind: [2, 3, u32::from(chance.byte()), 0xFF, wide(chance)][chance.below(5)],
             room: short(chance),
         },
         4 => Call::Upset { room: chance.below(20) },

@@ -2,9 +2,9 @@
 
 use crate::calls::Call;
 use crate::run::refused;
-use boundary::Answer;
 use reference::adapter::State;
-use reference::numbers::{DONE, FRAME, NOTHING_KEPT};
+use reference::numbers::{BAD_ARGUMENT, DONE, FRAME, NOTHING_KEPT};
+use sca::boundary::RawAnswer;
 use std::collections::BTreeSet;
 
 const SPI: u8 = 0x01;
@@ -25,6 +25,9 @@ pub struct Tally {
     pub altered_back: [u64; 256],
     /// The ERR bytes of replies.
     pub errors: [u64; 256],
+    /// Ports that are 0 or 1 in their low byte alone, where they were the reason to refuse; edge kinds 0 to 2 likewise.
+    pub wide_ports: u64,
+    pub wide_kinds: u64,
     /// CH and CMD of requests that were carried out.
     pub commands: BTreeSet<(u8, u8)>,
     /// Bits 6 to 0 of CONTROL at completions that were answered.
@@ -57,6 +60,8 @@ impl Tally {
             step_back: [0; 256],
             altered_back: [0; 256],
             errors: [0; 256],
+            wide_ports: 0,
+            wide_kinds: 0,
             commands: BTreeSet::new(),
             transfers: [0; 128],
             interrupts: [0; 3],
@@ -72,15 +77,16 @@ impl Tally {
     }
 
     /// An event's call, the state before it, and what it gave.
-    pub fn event(&mut self, call: &Call, before: &Option<State>, answer: &Answer, output: &[u8]) {
+    pub fn event(&mut self, call: &Call, before: &Option<State>, answer: &RawAnswer, output: &[u8]) {
         self.events += 1;
         self.steps_in_a_row = 0;
         let number = usize::from(answer.number);
         let state = before.unwrap_or_default();
         let frame = answer.number == FRAME;
         match call {
-            Call::Frame { body, .. } => {
+            Call::Frame { port, body, .. } => {
                 self.frame[number] += 1;
+                self.wide_ports += u64::from(answer.number == BAD_ARGUMENT && port & 0xFF <= 1);
                 if !refused(answer.number) {
                     self.exchanged(&state, body, answer, output);
                 }
@@ -91,8 +97,9 @@ impl Tally {
             }
             Call::Sample { kind, .. } => {
                 self.sample[number] += 1;
+                self.wide_kinds += u64::from(answer.number == BAD_ARGUMENT && kind & 0xFF <= 2);
                 if frame {
-                    self.interrupts[usize::from(*kind)] += 1;
+                    self.interrupts[*kind as usize] += 1;
                 }
             }
             _ => {
@@ -103,7 +110,7 @@ impl Tally {
     }
 
     /// A frame that was not refused, and what went out.
-    fn exchanged(&mut self, state: &State, body: &[u8], answer: &Answer, output: &[u8]) {
+    fn exchanged(&mut self, state: &State, body: &[u8], answer: &RawAnswer, output: &[u8]) {
         let sent = &output[..answer.length];
         let go = state.spi.open_go.is_some();
         match (body, sent) {

@@ -1,32 +1,31 @@
 -- What each call gives and leaves, case by case: a law for every case of the definitions. Assumes nothing.
-use Prim.Native.Nat.{ℕ, _+_, _≤_, _<_}
+use Prim.Native.Nat.{ℕ, _*_, _≤_, _<_}
 use mathlib.Core.Path.{_≡_, refl, sym, ap, _∙_}
 use mathlib.Core.Bool.{Bool, true, false, not, cond, _||_, true≢false}
 use mathlib.Core.List.{List}
 use native.Mathlib.Nat.{pos-of-ne-zero}
 use native.Mathlib.Omega.{arith}
-use lib.ListN.{length, take}
-use lib.Seq.{length-take-le}
-use borrow.Author.Needs.{length-unmapped}
-use lib.Dec.{ltb, lit≤}
+use lib.ListN.{length}
+use lib.Dec.{eqb, ltb, lit<}
 use borrow.Author.Tests.{eq-eqb, ne-eqb, lt-ltb, le-ltb, ltb-false, eqb-true, eqb-false, not-false}
 use Rattle.chip.specs.declared.Adapter.{Adapter}
-use Rattle.chip.specs.declared.Reaction.{Reaction}
-use Rattle.chip.specs.Event.{Event, frame, completion}
-use Rattle.chip.specs.Chip.{reaction, acceptedReset}
+use Rattle.chip.specs.declared.Response.{Response}
+use Rattle.chip.specs.Event.{Event, frame, upset}
+use Rattle.chip.specs.Answer.{response, Said, said, says}
+use Rattle.chip.specs.Chip.{reaction, onUpset, acceptedReset}
 use Rattle.chip.specs.State.{powerOn, inRange}
-use Rattle.chip.specs.Request.{replies}
-use Rattle.chip.proofs.Steps.{step-cases}
-use Rattle.parts.specs.Parts.{put}
-use Rattle.journal.specs.Layout.{version1, keptOf, wellFormed, past, emptied, pushed, lowered}
-use Rattle.journal.specs.Record.{before, sound, restored}
-use Rattle.adapter.specs.declared.Answer.{Answer}
+use Rattle.parts.specs.Words.{bytesOf}
+use Rattle.journal.specs.Layout.{wrongLength, keptOf, wellFormed, past, emptied, pushed, lowered}
+use Rattle.journal.specs.Record.{sound, restored}
+use Rattle.journal.specs.Image.{imageWords}
+use Rattle.journal.proofs.Record.{before-image}
+use Rattle.journal.proofs.Ring.{in-journal}
 use Rattle.adapter.specs.declared.Created.{Created}
 use Rattle.adapter.specs.declared.KeptNumber.{KeptNumber}
 use Rattle.adapter.specs.declared.Verdict.{Verdict}
 use Rattle.adapter.specs.declared.Verdict.the-variants.{Refused, Passed}
 use Rattle.adapter.specs.Refusals.{wrongArgument, wrongBody, inOrder, verdict, backVerdict}
-use Rattle.adapter.specs.Calls.{created, keptIn, Outcome, outcome, plain, recorded, done, called, stepped, steppedBack}
+use Rattle.adapter.specs.Calls.{created, keptIn, outcome, plain, joined, done, called, stepped, steppedBack, cleared, madeEmpty}
 
 -- ---- creation
 
@@ -43,7 +42,7 @@ pub ruleset creations = (too-long, in-24-bits)
 
 -- ---- the journal alone
 
-module _ (j : List ℕ) (b : Bool) (e : b ≡ wellFormed version1 j) where
+module _ (j : List ℕ) (b : Bool) (e : b ≡ wellFormed j) where
   pub counted : b ≡ true → _≡_ {A = KeptNumber} (record { number = 17; kept = keptOf j }) (keptIn j)
   unfolding keptIn
   counted h = simp (sym e ∙ h)
@@ -53,6 +52,20 @@ module _ (j : List ℕ) (b : Bool) (e : b ≡ wellFormed version1 j) where
   uncounted h = simp (sym e ∙ h)
 
 pub ruleset counts = (counted, uncounted)
+
+module _ (j : List ℕ) (b : Bool) (e : b ≡ wrongLength j) where
+  pub no-journal : b ≡ true → cleared 4 j ≡ madeEmpty j
+  unfolding madeEmpty
+  no-journal h = simp (sym e ∙ h)
+
+  pub a-journal : b ≡ false → wrongLength j ≡ false
+  a-journal h = sym e ∙ h
+
+  pub emptied-journal : (k : List ℕ) → b ≡ false → k ≡ emptied j → cleared 17 k ≡ madeEmpty j
+  unfolding madeEmpty
+  emptied-journal k h g = simp (sym e ∙ h, g)
+
+pub ruleset emptying = (no-journal, a-journal, emptied-journal)
 
 -- ---- the order of the refusals
 
@@ -85,42 +98,24 @@ pub ruleset order = (by-state, by-journal, by-output, by-argument, by-body, by-n
 
 -- ---- an event's record
 
-module _ (resets : Bool) (a : Adapter) (j k : List ℕ) where
-  pub empties : resets ≡ true → k ≡ emptied version1 j → (e : Event) → resets ≡ acceptedReset e → k ≡ recorded a e j
-  empties h g e r = simp (sym r ∙ h) g
+module _ (resets : Bool) (j k : List ℕ) where
+  pub empties : (r : List ℕ) → resets ≡ true → k ≡ emptied j → k ≡ joined resets r j
+  empties r h g = simp h g
 
-  pub pushes : resets ≡ false → ((e : Event) → k ≡ pushed version1 (before a e) j) → (e : Event) → resets ≡ acceptedReset e → k ≡ recorded a e j
-  pushes h g e r = simp (sym r ∙ h) (g e)
+  pub pushes : (a : Adapter) (ws : List ℕ) → resets ≡ false → ws ≡ imageWords a → k ≡ pushed (bytesOf ws) j → k ≡ joined resets (bytesOf (imageWords a)) j
+  pushes a ws h e g = simp h (g ∙ ap (λ (x : List ℕ). pushed (bytesOf x) j) e)
 
--- ---- the frame that is handed over
-
-module _ (s : List ℕ) (n : ℕ) (sixteen : length s ≡ 16) (few : n ≤ 16) where
-  pub within : n ≤ length s
-  within = omega arith
-
-  pub as-long : n ≡ length (take n s)
-  as-long = sym (length-take-le n s (omega arith))
-
-  pub has-room : (o : List ℕ) → 16 ≤ length o → 0 + length (take n s) ≤ length o
-  has-room o h = omega (arith, as-long)
-
--- an event that made r of a is done once it is recorded and its frame is handed over
-pub keeps : (a : Adapter) (r : Reaction) (resets : Bool) (j k o p : List ℕ)
-    → ((e : Event) → resets ≡ acceptedReset e → k ≡ recorded a e j)
-    → p ≡ put 0 (take (r .length) (r .body)) o
-    → (e : Event) → resets ≡ acceptedReset e → r ≡ reaction a e
-    → outcome (record { adapter = r .adapter; number = r .number; port = r .port; length = r .length }) k p ≡ done a j e o
-unfolding done
-keeps a r resets j k o p g q e s h = rw (← h, g e s, q) refl
-
-pub ruleset handing = (within, as-long, has-room, length-unmapped)
+-- an image has room in a slot
+pub image-short : (a : Adapter) (ws : List ℕ) → ws ≡ imageWords a → 4 * length ws ≤ 256
+unfolding imageWords
+image-short a ws e = omega (arith, ap length e)
 
 -- ---- an event's call
 
 -- what a verdict that refuses nothing tells
 pub record Passing (a : Adapter) (j : List ℕ) (e : Event) (o : List ℕ) : Type 0 where
   pub ranged : inRange a ≡ true
-  pub formed : wellFormed version1 j ≡ true
+  pub formed : wellFormed j ≡ true
   pub room : 16 ≤ length o
   pub argument : wrongArgument e ≡ false
   pub body : wrongBody e ≡ false
@@ -135,14 +130,17 @@ no-refusal false false false true b h = let z : _≡_ {A = ℕ} 0 1 = cc in let 
 no-refusal false false false false true h = let z : _≡_ {A = ℕ} 0 1 = cc in let f : ⊥ = omega arith in absurd f
 
 module _ (a : Adapter) (j : List ℕ) (e : Event) (o : List ℕ) (v : Verdict)
-    (h : v ≡ inOrder (not (inRange a)) (not (wellFormed version1 j)) (ltb (length o) 16) (wrongArgument e) (wrongBody e)) where
-  pub refuses : (number : ℕ) (x : Answer) → v ≡ Refused number → x ≡ plain a number → outcome x j o ≡ called a j e o
+    (h : v ≡ inOrder (not (inRange a)) (not (wellFormed j)) (ltb (length o) 16) (wrongArgument e) (wrongBody e)) where
+  pub refuses : (number : ℕ) (x : Response) → v ≡ Refused number → x ≡ plain a number → outcome x j o ≡ called a j e o
   unfolding called verdict
   refuses number x q r = rw (← h, q, r) refl
 
-  pub passes : (x : Outcome) → v ≡ Passed → x ≡ done a j e o → x ≡ called a j e o
-  unfolding called verdict
-  passes x q r = rw (← h, q) r
+  -- an event that nothing refuses is done once its frames are laid out and it is recorded
+  pub passes : (r : Response) (p k : List ℕ) (resets : Bool) → v ≡ Passed → said r p ≡ says (reaction a e) o → resets ≡ acceptedReset e
+      → k ≡ joined resets (bytesOf (imageWords a)) j → outcome r k p ≡ called a j e o
+  unfolding called verdict done
+  passes r p k resets q s t u =
+      rw (← h, q, ← t, before-image a e, u) (ap (λ (x : Said). outcome (x .response) (joined resets (bytesOf (imageWords a)) j) (x .output)) s)
 
   pub passing : v ≡ Passed → Passing a j e o
   passing q =
@@ -155,6 +153,13 @@ module _ (a : Adapter) (j : List ℕ) (e : Event) (o : List ℕ) (v : Verdict)
         body = p .4;
       }
 
+-- an upset sends no frame
+pub upset-passes : (a : Adapter) (j o : List ℕ) (v : Verdict) → v ≡ inOrder (not (inRange a)) (not (wellFormed j)) (ltb (length o) 16) false false
+    → (r : Response) (k : List ℕ) → v ≡ Passed → r ≡ response (reaction a upset) → k ≡ joined false (bytesOf (imageWords a)) j
+    → outcome r k o ≡ called a j upset o
+unfolding reaction onUpset
+upset-passes a j o v h r k q s t = passes a j upset o v h r o k false q (ap (λ (x : Response). said x o) s) refl t
+
 or-left : (x y : Bool) → (x || y) ≡ false → x ≡ false
 or-left false y h = refl
 or-left true y h = h
@@ -163,40 +168,37 @@ or-right : (x y : Bool) → (x || y) ≡ false → y ≡ false
 or-right false y h = h
 or-right true y h = absurd (true≢false h)
 
--- no frame has over 16 bytes
-under-16 : (e : Event) (port : ℕ) (body : List ℕ) → e ≡ frame port body → wrongBody e ≡ false → length body ≤ 16
-under-16 e port body g h = ltb-false 16 (length body) (or-right (ltb (length body) 2) _ (rw g at h))
+-- a body that nothing refuses has at most 16 bytes
+pub body-short : (port : ℕ) (s : List ℕ) → wrongBody (frame port s) ≡ false → length s ≤ 16
+body-short port s h = ltb-false 16 (length s) (or-right (ltb (length s) 2) _ h)
 
-pub short : (a : Adapter) (e : Event) → wrongBody e ≡ false → reaction a e .length ≤ 16
-unfolding replies
-short a e h =
-    step-cases a e (λ (r : Reaction). r .length ≤ 16)
-    (record {
-      drops = λ _ _ _. lit≤ tt;
-      connects = λ _ _ _. lit≤ tt;
-      resets = λ _ _ _. lit≤ tt;
-      tests = λ _ _ _. lit≤ tt;
-      echoes = λ port body g. under-16 e port body g h;
-      rejects = λ _ _ _. lit≤ tt;
-      answers = λ _ _ _ _ _ _ _ _. lit≤ tt;
-      starts = λ _ _ _ _ _. lit≤ tt;
-      completes = λ _ _ _. lit≤ tt;
-      interrupts = λ _ _ _ _. lit≤ tt;
-      samples = λ _ _ _ _. lit≤ tt;
-      upsets = lit≤ tt;
-    })
+-- ---- what a verdict that refuses nothing says of each argument
 
--- what keeping an event asks
-pub keepable : (a : Adapter) (j : List ℕ) (e : Event) (o : List ℕ) (r : Reaction) → Passing a j e o → r ≡ reaction a e
-    → (wellFormed version1 j ≡ true) × ((16 ≤ length o) × (r .length ≤ 16))
-keepable a j e o r p h = (p .formed, (p .room, rw h (short a e (p .body))))
+module _ (s j o g b : Bool) (v : Verdict) (q : v ≡ Passed) where
+  pub passed-journal : (l : List ℕ) → v ≡ inOrder s (not (wellFormed l)) o g b → wellFormed l ≡ true
+  passed-journal l h = not-false _ (no-refusal s _ o g b (sym q ∙ h) .1)
 
--- what a frame and a completion that nothing refuses are
-pub body-long : (port : ℕ) (s : List ℕ) → wrongBody (frame port s) ≡ false → (2 ≤ length s) × (length s ≤ 16)
-body-long port s h = (ltb-false (length s) 2 (or-left _ (ltb 16 (length s)) h), ltb-false 16 (length s) (or-right (ltb (length s) 2) _ h))
+  pub passed-output : (l : List ℕ) → v ≡ inOrder s j (ltb (length l) 16) g b → 16 ≤ length l
+  passed-output l h = ltb-false _ 16 (no-refusal s j _ g b (sym q ∙ h) .2)
 
-pub received-long : (s : List ℕ) → wrongArgument (completion s) ≡ false → length s ≡ 16
-received-long s h = eqb-true (length s) 16 (not-false _ h)
+  -- a port and an edge kind fit a byte
+  pub passed-port : (n : ℕ) → v ≡ inOrder s j o (ltb 1 n) b → n < 256
+  passed-port n h = omega (arith, ltb-false 1 n (no-refusal s j o _ b (sym q ∙ h) .3))
+
+  pub passed-kind : (n : ℕ) → v ≡ inOrder s j o (ltb 2 n) b → n < 256
+  passed-kind n h = omega (arith, ltb-false 2 n (no-refusal s j o _ b (sym q ∙ h) .3))
+
+  pub passed-received : (l : List ℕ) → v ≡ inOrder s j o (not (eqb (length l) 16)) b → length l ≡ 16
+  passed-received l h = eqb-true (length l) 16 (not-false _ (no-refusal s j o _ b (sym q ∙ h) .3))
+
+  pub passed-long : (l : List ℕ) → v ≡ inOrder s j o g (ltb (length l) 2 || ltb 16 (length l)) → 2 ≤ length l
+  passed-long l h = ltb-false (length l) 2 (or-left _ (ltb 16 (length l)) (no-refusal s j o g _ (sym q ∙ h) .4))
+
+pub passed-frame : (s j g : Bool) (v : Verdict) (l m : List ℕ) → v ≡ Passed → v ≡ inOrder s j (ltb (length m) 16) g (ltb (length l) 2 || ltb 16 (length l))
+    → ((2 ≤ length l) × (length l ≤ 16)) × (16 ≤ length m)
+passed-frame s j g v l m q h =
+    let e = no-refusal s j _ g _ (sym q ∙ h) in
+    ((ltb-false (length l) 2 (or-left _ (ltb 16 (length l)) (e .4)), ltb-false 16 (length l) (or-right (ltb (length l) 2) _ (e .4))), ltb-false _ 16 (e .2))
 
 -- ---- a step back
 
@@ -205,7 +207,7 @@ module _ (a : Adapter) (j : List ℕ) (ranged : Bool) (in-range : ranged ≡ inR
   unfolding backVerdict
   back-state h = rw (← in-range, h) refl
 
-  module _ (formed : Bool) (well-formed : formed ≡ wellFormed version1 j) (h : not ranged ≡ false) where
+  module _ (formed : Bool) (well-formed : formed ≡ wellFormed j) (h : not ranged ≡ false) where
     pub back-journal : not formed ≡ true → Refused 4 ≡ backVerdict a j
     unfolding backVerdict
     back-journal g = rw (← in-range, h, ← well-formed, g) refl
@@ -214,33 +216,40 @@ module _ (a : Adapter) (j : List ℕ) (ranged : Bool) (in-range : ranged ≡ inR
     unfolding backVerdict
     back-none g n = rw (← in-range, h, ← well-formed, g, eq-eqb (keptOf j) 0 n) refl
 
-    module _ (restorable : Bool) (is-sound : (b : Adapter) → inRange b ≡ true → restorable ≡ sound b (past version1 j 0)) (g : not formed ≡ false) (n : keptOf j ≡ 0 → ⊥) where
-      its-record : restorable ≡ sound a (past version1 j 0)
-      its-record = is-sound a (sym in-range ∙ not-false ranged h)
-
+    module _ (restorable : Bool) (is-sound : restorable ≡ sound a (past j 0)) (g : not formed ≡ false) (n : keptOf j ≡ 0 → ⊥) where
       pub back-damaged : not restorable ≡ true → Refused 4 ≡ backVerdict a j
       unfolding backVerdict
-      back-damaged s = rw (← in-range, h, ← well-formed, g, ne-eqb (keptOf j) 0 n, ← its-record, s) refl
+      back-damaged s = rw (← in-range, h, ← well-formed, g, ne-eqb (keptOf j) 0 n, ← is-sound, s) refl
 
       pub back-passed : not restorable ≡ false → Passed ≡ backVerdict a j
       unfolding backVerdict
-      back-passed s = rw (← in-range, h, ← well-formed, g, ne-eqb (keptOf j) 0 n, ← its-record, s) refl
+      back-passed s = rw (← in-range, h, ← well-formed, g, ne-eqb (keptOf j) 0 n, ← is-sound, s) refl
+
+pub ruleset judging-back = (back-state, back-journal, back-none, back-damaged, back-passed)
+
+-- what the tests so far tell the next one
+module _ (j : List ℕ) (formed : Bool) (e : formed ≡ wellFormed j) (h : not formed ≡ false) where
+  pub back-header : 6 < length j
+  back-header = in-journal j 6 (sym e ∙ not-false formed h) (lit< tt)
+
+  pub back-newest : (keptOf j ≡ 0 → ⊥) → (wellFormed j ≡ true) × (0 < keptOf j)
+  back-newest n = (sym e ∙ not-false formed h, pos-of-ne-zero n)
 
 -- what a verdict that refuses nothing tells
 pub record PassingBack (a : Adapter) (j : List ℕ) : Type 0 where
   pub ranged : inRange a ≡ true
-  pub formed : wellFormed version1 j ≡ true
+  pub formed : wellFormed j ≡ true
   pub some : 0 < keptOf j
-  pub restorable : sound a (past version1 j 0) ≡ true
+  pub restorable : sound a (past j 0) ≡ true
 
-module _ (a : Adapter) (j : List ℕ) (ranged : Bool) (in-range : ranged ≡ inRange a) (v : Verdict) (judged : (b : Adapter) → ranged ≡ inRange b → v ≡ backVerdict b j) where
-  pub back-refuses : (number : ℕ) (x : Answer) → v ≡ Refused number → x ≡ plain a number → stepped x j ≡ steppedBack a j
+module _ (a : Adapter) (j : List ℕ) (v : Verdict) (judged : v ≡ backVerdict a j) where
+  pub back-refuses : (number : ℕ) (x : Response) → v ≡ Refused number → x ≡ plain a number → stepped x j ≡ steppedBack a j
   unfolding steppedBack
-  back-refuses number x q r = rw (← judged a in-range, q, r) refl
+  back-refuses number x q r = rw (← judged, q, r) refl
 
-  pub back-passes : (b : Adapter) (k : List ℕ) → v ≡ Passed → b ≡ restored a (past version1 j 0) → k ≡ lowered j → stepped (plain b 17) k ≡ steppedBack a j
+  pub back-passes : (b : Adapter) (k : List ℕ) → v ≡ Passed → b ≡ restored a (past j 0) → k ≡ lowered j → stepped (plain b 17) k ≡ steppedBack a j
   unfolding steppedBack
-  back-passes b k q r s = rw (← judged a in-range, q, r, s) refl
+  back-passes b k q r s = rw (← judged, q, r, s) refl
 
 pub passing-back : (a : Adapter) (j : List ℕ) → Passed ≡ backVerdict a j → PassingBack a j
 unfolding backVerdict

@@ -1,14 +1,8 @@
 -- Any two outcomes that a function's contract allows coincide: the result and every lent byte, for every public function.
-use mathlib.Core.Path.{_≡_, sym, _∙_}
-use mathlib.Core.Bool.{Bool, true, false}
-use lib.Dec.{lit≤}
+use mathlib.Core.Path.{sym, _∙_}
 use denote.Ref.{now}
-use Rattle.chip.specs.declared.Adapter.{Adapter}
-use Rattle.chip.specs.State.{powerOn, inRange}
-use Rattle.chip.proofs.Laws.{power-on-in-range}
 use Rattle.adapter.specs.Calls.{cleared, outcome, stepped}
 use Rattle.parts.proofs.Outcome.{One}
-use Rattle.adapter.proofs.Laws.{no-adapter}
 use Rattle.adapter.proofs.create.Kinds as create-kinds
 use Rattle.adapter.proofs.create.Reads as create
 use Rattle.adapter.proofs.empty.Kinds as empty-kinds
@@ -52,10 +46,5 @@ upset-one κs a x y s t p q = p ∙ sym q
 pub step-back-one : One 1 step-back-kinds.ps step-back-kinds.r step-back.Post (λ κs x s. stepped x (now (s .1 .0)))
 step-back-one κs a x y s t p q = p ∙ sym q
 
--- a state in range, and one out of range
-some-state : (b : Bool) → (a : Adapter) × (b ≡ inRange a)
-some-state true = (powerOn 0, sym (power-on-in-range 0 (lit≤ tt)))
-some-state false = (powerOn 0xFFFFFFFF, sym no-adapter)
-
 pub judge-back-one : One 1 judge-back-kinds.ps judge-back-kinds.r judge-back.Post (λ κs x s. x)
-judge-back-one κs a x y s t p q = let e = some-state (a .0) in p (e .0) (e .1) ∙ sym (q (e .0) (e .1))
+judge-back-one κs a x y s t p q = p ∙ sym q

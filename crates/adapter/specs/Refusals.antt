@@ -5,25 +5,29 @@ use mathlib.Core.List.{List}
 use lib.ListN.{length}
 use lib.Dec.{eqb, ltb}
 use Rattle.chip.specs.declared.Adapter.{Adapter}
-use Rattle.chip.specs.Event.{Event, frame, completion, sample, upset}
+use Rattle.chip.specs.Event.{Completion, spi, Event, frame, completion, sample, upset}
 use Rattle.chip.specs.State.{inRange}
-use Rattle.journal.specs.Layout.{version1, wellFormed, keptOf, past}
+use Rattle.journal.specs.Layout.{wellFormed, keptOf, past}
 use Rattle.journal.specs.Record.{sound}
 use Rattle.adapter.specs.declared.Verdict.{Verdict}
 use Rattle.adapter.specs.declared.Verdict.the-variants.{Refused, Passed}
-use Rattle.numbers.specs.Numbers.{shortOutput, badBody, badArgument, badJournal, noneKept, badState}
+use Rattle.numbers.specs.Numbers.{shortOutput, badBody, badArgument, badJournal, noneKept, badState, bodyLeast, bodyMost, outputLeast, transferBytes}
+
+-- completion not 16 bytes
+abbrev pub wrongCompletion : Completion → Bool
+wrongCompletion (spi received) = not (eqb (length received) transferBytes)
 
 -- port not 0 or 1, edge kind over 2, or completion not 16 bytes
 abbrev pub wrongArgument : Event → Bool
 wrongArgument (frame port body) = ltb 1 port
-wrongArgument (completion received) = not (eqb (length received) 16)
+wrongArgument (completion c) = wrongCompletion c
 wrongArgument (sample levels kind) = ltb 2 kind
 wrongArgument upset = false
 
 -- body not 2 to 16 bytes
 abbrev pub wrongBody : Event → Bool
-wrongBody (frame port body) = ltb (length body) 2 || ltb 16 (length body)
-wrongBody (completion received) = false
+wrongBody (frame port body) = ltb (length body) bodyLeast || ltb bodyMost (length body)
+wrongBody (completion c) = false
 wrongBody (sample levels kind) = false
 wrongBody upset = false
 
@@ -39,12 +43,12 @@ inOrder state journal output argument body =
 -- of an event that is handed a state, a journal and an output
 unfoldable pub verdict : Adapter → List ℕ → Event → List ℕ → Verdict
 verdict a journal e output =
-    inOrder (not (inRange a)) (not (wellFormed version1 journal)) (ltb (length output) 16) (wrongArgument e) (wrongBody e)
+    inOrder (not (inRange a)) (not (wellFormed journal)) (ltb (length output) outputLeast) (wrongArgument e) (wrongBody e)
 
 -- Of a step back that is handed a state and a journal. A damaged record is a wrong journal; there is no record where the kept number is 0.
 unfoldable pub backVerdict : Adapter → List ℕ → Verdict
 backVerdict a journal =
     cond (not (inRange a)) (Refused badState)
-    (cond (not (wellFormed version1 journal)) (Refused badJournal)
+    (cond (not (wellFormed journal)) (Refused badJournal)
     (cond (eqb (keptOf journal) 0) (Refused noneKept)
-    (cond (not (sound a (past version1 journal 0))) (Refused badJournal) Passed)))
+    (cond (not (sound a (past journal 0))) (Refused badJournal) Passed)))

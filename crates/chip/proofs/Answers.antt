@@ -2,7 +2,8 @@
 use Prim.Native.Nat.{ℕ}
 use mathlib.Core.Bool.{Bool}
 use mathlib.Core.List.{List}
-use mathlib.Core.Path.{_≡_}
+use mathlib.Core.Path.{_≡_, refl}
+use lib.ListN.{length}
 use borrow.Author.Tests.{eq-eqb, ne-eqb}
 use Rattle.registers.specs.declared.controller.Answered.{Answered as ControlAnswered}
 use Rattle.registers.specs.declared.spi.Answered.{Answered as SpiAnswered}
@@ -23,12 +24,18 @@ use Rattle.registers.specs.Seu.{seuAnswer}
 use Rattle.registers.specs.ChipId.{idAnswer}
 use Rattle.registers.specs.Dac.{dacAnswer}
 use Rattle.numbers.specs.Numbers.{noFrame}
+use Rattle.parts.specs.Parts.{put}
 use Rattle.chip.specs.State.{withControl, withSpi, withGpio, withDac, withSeu}
-use Rattle.chip.specs.Answer.{gives}
+use Rattle.chip.specs.Answer.{sends, gives, response, Said, said, says}
 use Rattle.chip.specs.Request.{requestOf, onChannel, answered, replies, finished, requested}
 use Rattle.chip.specs.declared.Adapter.{Adapter}
-use Rattle.chip.specs.declared.Reaction.{Reaction}
+use Rattle.chip.specs.declared.Response.{Response}
 use Rattle.chip.specs.declared.request.Answered.{Answered}
+
+-- a frame written at the front of the output is the one that is sent
+pub laid-out : (a : Adapter) (port : ℕ) (s o p : List ℕ) → p ≡ put 0 s o
+    → said (record { adapter = a; number = 0; port = port; length = length s }) p ≡ says (sends a port s) o
+laid-out a port s o p e = rw e refl
 
 module _ (a : Adapter) (q : Request) (k : Channel) where
   pub at-controller : (x : ControlAnswered) (b : Adapter) → k ≡ Controller → x ≡ controllerAnswer (a .control) q → b ≡ withControl a (x .control)
@@ -78,14 +85,15 @@ module _ (a : Adapter) (q : Request) where
   unfolding answered
   transaction x k n m e p = simp (ne-eqb _ _ n, ne-eqb _ _ m, p, e)
 
-module _ (a : Adapter) (trn ch : ℕ) (t : Reply) (r : Reaction) where
-  pub told : (err len d : ℕ) → t ≡ Sent err len d → r ≡ replies a trn ch err len d → r ≡ finished a trn ch t
-  told err len d e p = simp (e, p)
+module _ (a : Adapter) (trn ch : ℕ) (t : Reply) (o : List ℕ) where
+  pub told : (x : Said) (err len d : ℕ) → t ≡ Sent err len d → x ≡ says (replies a trn ch err len d) o → x ≡ says (finished a trn ch t) o
+  told x err len d e p = simp (e, p)
 
-  pub later : t ≡ Later → r ≡ gives a noFrame → r ≡ finished a trn ch t
-  later e p = simp (e, p)
+  pub later : (r : Response) → t ≡ Later → r ≡ response (gives a noFrame) → said r o ≡ says (finished a trn ch t) o
+  later r e p = simp (e, p)
 
-module _ (a : Adapter) (s : List ℕ) (r : Reaction) where
-  pub done : (q : Request) (x : Answered) → q ≡ requestOf s → x ≡ answered a q → r ≡ finished (x .adapter) (q .trn) (q .ch) (x .reply) → r ≡ requested a s
+module _ (a : Adapter) (s o : List ℕ) (x : Said) where
+  pub done : (q : Request) (y : Answered) → q ≡ requestOf s → y ≡ answered a q → x ≡ says (finished (y .adapter) (q .trn) (q .ch) (y .reply)) o
+      → x ≡ says (requested a s) o
   unfolding requested
-  done q x e p g = simp (g, p, e)
+  done q y e p g = simp (g, p, e)

@@ -12,13 +12,15 @@ use lib.ListN.{length, getD, take, drop, length-drop}
 use lib.Seq.{take-all}
 use Rattle.bits.specs.Bits.{bitOf}
 use Rattle.bits.proofs.Bits.{bit-test}
-use Rattle.numbers.specs.Numbers.{otherAddress, otherPort, otherControl, wrongLength}
-use Rattle.chip.specs.Answer.{sends, gives}
-use Rattle.chip.specs.Link.{acknowledgeControl, rejectControl, replyControl, receiveNumber, receiveUp, sendUp, numberIn, connected, reset, looped, inLoopback}
-use Rattle.chip.specs.Request.{byteOf, replies, requested}
-use Rattle.chip.specs.Frame.{isConnect, isReset, isResetFrame, isTest, commanded, numbered, carried, onFrame}
+use Rattle.numbers.specs.Numbers.{otherAddress, otherPort, otherControl, badInformation}
+use Rattle.chip.specs.State.{withLink}
+use Rattle.chip.specs.Answer.{sends, gives, response, Said, said, says}
+use Rattle.chip.specs.Link.{acknowledgeControl, rejectControl, replyControl, receiveNumber, receiveUp, sendUp, numberIn, inLoopback}
+use Rattle.chip.specs.Request.{byteOf, replyBody, replies, requested}
+use Rattle.chip.specs.Frame.{isConnect, isReset, isResetFrame, isTest, connected, reset, looped, commanded, numbered, carried, addressed, onFrame}
 use Rattle.chip.specs.declared.Adapter.{Adapter}
-use Rattle.chip.specs.declared.Reaction.{Reaction}
+use Rattle.chip.specs.declared.Response.{Response}
+use Rattle.chip.specs.declared.link.Link.{Link}
 
 -- ---- `n & (1 << k)`
 
@@ -45,74 +47,89 @@ information s n m e f = length-drop 2 s ∙ (let g : length s - 2 ≡ m = omega 
 
 -- ---- commands
 
-module _ (a b : Adapter) (port : ℕ) (s : List ℕ) (r : Reaction) where
-  pub acknowledged : (k : ℕ) → length s ≡ 2 → k ≡ acknowledgeControl (getD s 1 0) → r ≡ sends b port (0 ∷ k ∷ []) → r ≡ commanded a b port s
-  unfolding commanded
-  acknowledged k l e p = simp (eq-eqb (length (drop 2 s)) 0 (information s 2 0 l refl), p, e)
+-- the same link is the same state
+pub relinks : (a : Adapter) (l m : Link) → l ≡ m → withLink a l ≡ withLink a m
+relinks a l m e = ap (withLink a) e
 
-  pub informed : (length s ≡ 2 → ⊥) → 2 ≤ length s → r ≡ gives a wrongLength → r ≡ commanded a b port s
+module _ (a b : Adapter) (port : ℕ) (s o : List ℕ) where
+  pub acknowledged : (x : Said) (k : ℕ) → length s ≡ 2 → k ≡ acknowledgeControl (getD s 1 0) → x ≡ says (sends b port (0 ∷ k ∷ [])) o
+      → x ≡ says (commanded a b port s) o
   unfolding commanded
-  informed l h p = simp (ne-eqb (length (drop 2 s)) 0 (λ e. l (omega (arith, length-drop 2 s))), p)
+  acknowledged x k l e p = simp (eq-eqb (length (drop 2 s)) 0 (information s 2 0 l refl), p, e)
+
+  pub informed : (r : Response) → (length s ≡ 2 → ⊥) → 2 ≤ length s → r ≡ response (gives a badInformation) → said r o ≡ says (commanded a b port s) o
+  unfolding commanded
+  informed r l h p = simp (ne-eqb (length (drop 2 s)) 0 (λ e. l (omega (arith, length-drop 2 s))), p)
 
 -- ---- checks 7 and 8
 
-module _ (a : Adapter) (port control : ℕ) (s : List ℕ) (r : Reaction) (n m : ℕ) (p : n ≡ numberIn control) (q : m ≡ receiveNumber a) where
-  pub next : (b : Adapter) → n ≡ m → b ≡ receiveUp a → r ≡ requested b s → r ≡ numbered a port control s
+module _ (a : Adapter) (port control : ℕ) (s o : List ℕ) (x : Said) (n m : ℕ) (p : n ≡ numberIn control) (q : m ≡ receiveNumber (a .link)) where
+  pub next : (l : Link) → n ≡ m → l ≡ receiveUp (a .link) → x ≡ says (requested (withLink a l) s) o → x ≡ says (numbered a port control s) o
   unfolding numbered
-  next b e f g = simp (eq-eqb _ _ (sym p ∙ e ∙ q), g, f)
+  next l e f g = simp (eq-eqb _ _ (sym p ∙ e ∙ q), g, f)
 
-  pub rejected : (k : ℕ) → (n ≡ m → ⊥) → k ≡ rejectControl a → r ≡ sends a port (0 ∷ k ∷ []) → r ≡ numbered a port control s
+  pub rejected : (k : ℕ) → (n ≡ m → ⊥) → k ≡ rejectControl (a .link) → x ≡ says (sends a port (0 ∷ k ∷ [])) o → x ≡ says (numbered a port control s) o
   unfolding numbered
-  rejected k e f g = simp (ne-eqb _ _ (λ x. e (p ∙ x ∙ sym q)), g, f)
+  rejected k e f g = simp (ne-eqb _ _ (λ z. e (p ∙ z ∙ sym q)), g, f)
 
 -- ---- checks 4 to 8
 
-module _ (a : Adapter) (port : ℕ) (s : List ℕ) (r : Reaction) (t : Bool) (q : t ≡ inLoopback a port) where
-  pub echoed : t ≡ true → r ≡ sends a port s → r ≡ carried a port s
+module _ (a : Adapter) (port : ℕ) (s o : List ℕ) (t : Bool) (q : t ≡ inLoopback (a .link) port) where
+  pub echoed : (x : Said) → t ≡ true → x ≡ says (sends a port s) o → x ≡ says (carried a port s) o
   unfolding carried
-  echoed e g = simp (sym q ∙ e, g)
+  echoed x e g = simp (sym q ∙ e, g)
 
-  pub inactive : t ≡ false → (port ≡ a .link .port → ⊥) → r ≡ gives a otherPort → r ≡ carried a port s
+  pub inactive : (r : Response) → t ≡ false → (port ≡ a .link .port → ⊥) → r ≡ response (gives a otherPort) → said r o ≡ says (carried a port s) o
   unfolding carried
-  inactive e h g = simp (sym q ∙ e, ne-eqb _ _ h, g)
+  inactive r e h g = simp (sym q ∙ e, ne-eqb _ _ h, g)
 
-  pub misfit : t ≡ false → port ≡ a .link .port → (length s - 2 ≡ 8 → ⊥) → r ≡ gives a wrongLength → r ≡ carried a port s
+  pub misfit : (r : Response) → t ≡ false → port ≡ a .link .port → (length s - 2 ≡ 8 → ⊥) → r ≡ response (gives a badInformation)
+      → said r o ≡ says (carried a port s) o
   unfolding carried
-  misfit e h l g = simp (sym q ∙ e, eq-eqb _ _ h, ne-eqb (length (drop 2 s)) 8 (λ x. l (sym (length-drop 2 s) ∙ x)), g)
+  misfit r e h l g = simp (sym q ∙ e, eq-eqb _ _ h, ne-eqb (length (drop 2 s)) 8 (λ x. l (sym (length-drop 2 s) ∙ x)), g)
 
-  pub fitting : t ≡ false → port ≡ a .link .port → length s - 2 ≡ 8 → r ≡ numbered a port (getD s 1 0) (take (length s - 2) (drop 2 s)) → r ≡ carried a port s
+  pub fitting : (x : Said) → t ≡ false → port ≡ a .link .port → length s - 2 ≡ 8
+      → x ≡ says (numbered a port (getD s 1 0) (take (length s - 2) (drop 2 s))) o → x ≡ says (carried a port s) o
   unfolding carried
-  fitting e h l g = simp (sym q ∙ e, eq-eqb _ _ h, eq-eqb (length (drop 2 s)) 8 (length-drop 2 s ∙ l), g, rest)
+  fitting x e h l g = simp (sym q ∙ e, eq-eqb _ _ h, eq-eqb (length (drop 2 s)) 8 (length-drop 2 s ∙ l), g, rest)
+
+-- ---- checks 2 to 8
+
+module _ (a : Adapter) (port : ℕ) (s o : List ℕ) (t : Bool) (p : t ≡ isConnect (getD s 1 0)) where
+  pub connects : (x : Said) (b : Adapter) → t ≡ true → b ≡ connected a port → x ≡ says (commanded a b port s) o → x ≡ says (addressed a port s) o
+  unfolding addressed
+  connects x b e f g = simp (sym p ∙ e, g, f)
+
+  module _ (u : Bool) (q : u ≡ isReset (getD s 1 0)) where
+    pub resets : (x : Said) (b : Adapter) → t ≡ false → u ≡ true → b ≡ reset a port → x ≡ says (commanded a b port s) o → x ≡ says (addressed a port s) o
+    unfolding addressed
+    resets x b e f h g = simp (sym p ∙ e, sym q ∙ f, g, h)
+
+    module _ (v : Bool) (w : v ≡ isTest (getD s 1 0)) where
+      pub tests : (x : Said) (b : Adapter) → t ≡ false → u ≡ false → v ≡ true → b ≡ looped a port
+          → x ≡ says (commanded a b port s) o → x ≡ says (addressed a port s) o
+      unfolding addressed
+      tests x b e f h i g = simp (sym p ∙ e, sym q ∙ f, sym w ∙ h, g, i)
+
+      pub odd : (r : Response) → t ≡ false → u ≡ false → v ≡ false → (bitAnd (getD s 1 0) 1 ≡ 0 → ⊥) → r ≡ response (gives a otherControl)
+          → said r o ≡ says (addressed a port s) o
+      unfolding addressed
+      odd r e f h i g = simp (sym p ∙ e, sym q ∙ f, sym w ∙ h, bit-set (getD s 1 0) 0 i, g)
+
+      pub carries : (x : Said) → t ≡ false → u ≡ false → v ≡ false → bitAnd (getD s 1 0) 1 ≡ 0 → x ≡ says (carried a port s) o → x ≡ says (addressed a port s) o
+      unfolding addressed
+      carries x e f h i g = simp (sym p ∙ e, sym q ∙ f, sym w ∙ h, bit-clear (getD s 1 0) 0 i, g)
 
 -- ---- checks 1 to 8
 
-module _ (a : Adapter) (port : ℕ) (s : List ℕ) (r : Reaction) where
-  pub unaddressed : (getD s 0 0 ≡ 0 → ⊥) → r ≡ gives a otherAddress → r ≡ onFrame a port s
+module _ (a : Adapter) (port : ℕ) (s o : List ℕ) where
+  pub other-chip : (r : Response) → (getD s 0 0 ≡ 0 → ⊥) → r ≡ response (gives a otherAddress) → said r o ≡ says (onFrame a port s) o
   unfolding onFrame
-  unaddressed h g = simp (ne-eqb _ _ h, g)
+  other-chip r h g = simp (ne-eqb _ _ h, g)
 
-  module _ (z : getD s 0 0 ≡ 0) (t : Bool) (p : t ≡ isConnect (getD s 1 0)) where
-    pub connects : t ≡ true → (b : Adapter) → b ≡ connected a port → r ≡ commanded a b port s → r ≡ onFrame a port s
-    unfolding onFrame
-    connects e b f g = simp (eq-eqb _ _ z, sym p ∙ e, g, f)
-
-    module _ (u : Bool) (q : u ≡ isReset (getD s 1 0)) where
-      pub resets : t ≡ false → u ≡ true → (b : Adapter) → b ≡ reset a port → r ≡ commanded a b port s → r ≡ onFrame a port s
-      unfolding onFrame
-      resets e f b h g = simp (eq-eqb _ _ z, sym p ∙ e, sym q ∙ f, g, h)
-
-      module _ (v : Bool) (w : v ≡ isTest (getD s 1 0)) where
-        pub tests : t ≡ false → u ≡ false → v ≡ true → (b : Adapter) → b ≡ looped a port → r ≡ commanded a b port s → r ≡ onFrame a port s
-        unfolding onFrame
-        tests e f h b i g = simp (eq-eqb _ _ z, sym p ∙ e, sym q ∙ f, sym w ∙ h, g, i)
-
-        pub odd : t ≡ false → u ≡ false → v ≡ false → (bitAnd (getD s 1 0) 1 ≡ 0 → ⊥) → r ≡ gives a otherControl → r ≡ onFrame a port s
-        unfolding onFrame
-        odd e f h i g = simp (eq-eqb _ _ z, sym p ∙ e, sym q ∙ f, sym w ∙ h, bit-set (getD s 1 0) 0 i, g)
-
-        pub carries : t ≡ false → u ≡ false → v ≡ false → bitAnd (getD s 1 0) 1 ≡ 0 → r ≡ carried a port s → r ≡ onFrame a port s
-        unfolding onFrame
-        carries e f h i g = simp (eq-eqb _ _ z, sym p ∙ e, sym q ∙ f, sym w ∙ h, bit-clear (getD s 1 0) 0 i, g)
+  pub this-chip : (x : Said) → getD s 0 0 ≡ 0 → x ≡ says (addressed a port s) o → x ≡ says (onFrame a port s) o
+  unfolding onFrame
+  this-chip x h g = simp (eq-eqb _ _ h, g)
 
 -- ---- a RESET that every state accepts
 
@@ -136,8 +153,14 @@ module _ (s : List ℕ) where
 
 -- ---- replies
 
-module _ (a : Adapter) (trn ch err len d : ℕ) (r : Reaction) where
-  pub replied : (b : Adapter) (k d2 d3 d0 d1 : ℕ) → r ≡ sends b (a .link .port) (0 ∷ k ∷ trn ∷ ch ∷ err ∷ len ∷ d2 ∷ d3 ∷ d0 ∷ d1 ∷ [])
-      → b ≡ sendUp a → k ≡ replyControl a → d2 ≡ byteOf d 2 → d3 ≡ byteOf d 3 → d0 ≡ byteOf d 0 → d1 ≡ byteOf d 1 → r ≡ replies a trn ch err len d
+pub body-of : (control trn ch err len d d2 d3 d0 d1 : ℕ) → d2 ≡ byteOf d 2 → d3 ≡ byteOf d 3 → d0 ≡ byteOf d 0 → d1 ≡ byteOf d 1
+    → (0 ∷ control ∷ trn ∷ ch ∷ err ∷ len ∷ d2 ∷ d3 ∷ d0 ∷ d1 ∷ []) ≡ replyBody control trn ch err len d
+body-of control trn ch err len d d2 d3 d0 d1 e2 e3 e0 e1 = simp (e2, e3, e0, e1)
+
+module _ (a : Adapter) (trn ch err len d : ℕ) (o : List ℕ) (x : Said) where
+  pub replied : (l : Link) (k : ℕ) (s : List ℕ) → l ≡ sendUp (a .link) → k ≡ replyControl (a .link) → s ≡ replyBody k trn ch err len d
+      → x ≡ says (sends (withLink a l) (a .link .port) s) o → x ≡ says (replies a trn ch err len d) o
   unfolding replies
-  replied b k d2 d3 d0 d1 e p q e2 e3 e0 e1 = simp (e, p, q, e2, e3, e0, e1)
+  replied l k s p q b e =
+      e ∙ ap (λ (m : Link). says (sends (withLink a m) (a .link .port) s) o) p
+      ∙ ap (λ (t : List ℕ). says (sends (withLink a (sendUp (a .link))) (a .link .port) t) o) (b ∙ ap (λ (c : ℕ). replyBody c trn ch err len d) q)

@@ -2,25 +2,29 @@
 use Prim.Native.Nat.{ℕ, _≤_, _<_, _^_}
 use mathlib.Core.List.{List}
 use mathlib.Core.Path.{_≡_}
-use lib.ListN.{length, getD}
-use Rattle.chip.specs.Event.{Event, frame, completion, sample, upset}
+use lib.ListN.{length}
+use Rattle.parts.proofs.Laws.{AreBytes}
+use Rattle.chip.specs.Event.{Completion, spi, Event, frame, completion, sample, upset}
 
 pub record FrameFits (p : ℕ) (s : List ℕ) : Type 0 where
   pub port : p ≤ 1
   pub short : 2 ≤ length s
   pub long : length s ≤ 16
-  pub bytes : (i : ℕ) → getD s i 0 < 256
+  pub bytes : AreBytes s
 
-pub record CompletionFits (s : List ℕ) : Type 0 where
+pub record SpiReceived (s : List ℕ) : Type 0 where
   pub sixteen : length s ≡ 16
-  pub bytes : (i : ℕ) → getD s i 0 < 256
+  pub bytes : AreBytes s
 
 pub record SampleFits (l k : ℕ) : Type 0 where
   pub levels : l < 2 ^ 32
   pub kind : k ≤ 2
 
+abbrev pub CompletionFits : Completion → Type 0
+CompletionFits (spi received) = SpiReceived received
+
 abbrev pub EventFits : Event → Type 0
 EventFits (frame port body) = FrameFits port body
-EventFits (completion received) = CompletionFits received
+EventFits (completion c) = CompletionFits c
 EventFits (sample levels kind) = SampleFits levels kind
 EventFits upset = Unit

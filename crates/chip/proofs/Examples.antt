@@ -3,7 +3,7 @@
 use Prim.Native.Nat.{ℕ, _*_}
 use mathlib.Core.List.{List, [], _∷_, map}
 use mathlib.Core.Path.{_≡_, refl}
-use lib.ListN.{length, take, getD}
+use lib.ListN.{getD}
 use Rattle.bits.specs.Bits.{word}
 use Rattle.commands.specs.Channels.{channelOf}
 use Rattle.commands.specs.Controller.{controllerCommand}
@@ -19,14 +19,14 @@ use Rattle.commands.specs.ChipId.{idCommand}
 use Rattle.registers.specs.ChipId.{idAnswer, actId}
 use Rattle.commands.specs.Dac.{dacCommand}
 use Rattle.registers.specs.Dac.{dacAnswer, actDac}
-use Rattle.chip.specs.Event.{Event, frame, completion, sample, upset}
+use Rattle.parts.specs.Words.{word as fourBytes, wordsOf}
+use Rattle.chip.specs.Event.{spi, Event, frame, completion, sample, upset}
 use Rattle.chip.specs.State.{poweredOn, powerOn, withSeu}
-use Rattle.chip.specs.Answer.{padded}
-use Rattle.chip.specs.Request.{byteOf, fourBytes, onChannel, answered, replies, requested}
-use Rattle.chip.specs.Frame.{commanded, numbered, carried, onFrame}
-use Rattle.chip.specs.Chip.{reaction, onCompletion, onSample, onUpset}
+use Rattle.chip.specs.Answer.{Reaction}
+use Rattle.chip.specs.Request.{byteOf, onChannel, answered, replies, requested}
+use Rattle.chip.specs.Frame.{commanded, numbered, carried, addressed, onFrame}
+use Rattle.chip.specs.Chip.{reaction, onSpi, onSample, onUpset}
 use Rattle.chip.specs.declared.Adapter.{Adapter}
-use Rattle.chip.specs.declared.Reaction.{Reaction}
 
 -- the bench's chip
 abbrev fresh : Adapter
@@ -37,9 +37,14 @@ abbrev after : Adapter → List Event → Adapter
 after a [] = a
 after a (e ∷ es) = after (reaction a e .adapter) es
 
+-- the body of the frame that an answer sends, none where it sends none
+abbrev bodyOf : List (List ℕ) → List ℕ
+bodyOf [] = []
+bodyOf (body ∷ more) = body
+
 -- what the listing shows of an answer: the number, the port and the body
 abbrev shown : Reaction → List ℕ
-shown r = r .number ∷ r .port ∷ take (r .length) (r .body)
+shown r = r .number ∷ r .port ∷ bodyOf (r .frames)
 
 abbrev run : Adapter → List Event → List (List ℕ)
 run a [] = []
@@ -83,8 +88,8 @@ framed n trn q =
 -- an answer's number and its reply's ERR, LEN and D
 abbrev told : Reaction → List ℕ
 told r =
-    r .number ∷ getD (r .body) 4 0 ∷ getD (r .body) 5 0
-    ∷ fourBytes (getD (r .body) 8 0) (getD (r .body) 9 0) (getD (r .body) 6 0) (getD (r .body) 7 0) ∷ []
+    let s = bodyOf (r .frames) in
+    r .number ∷ getD s 4 0 ∷ getD s 5 0 ∷ fourBytes (getD s 8 0) (getD s 9 0) (getD s 6 0) (getD s 7 0) ∷ []
 
 abbrev asked : Adapter → List Ask → List (List ℕ)
 asked a [] = []
@@ -143,7 +148,7 @@ whole =
 -- 16 received bytes
 abbrev received : Event
 received =
-    completion (0xAA ∷ 0xBB ∷ 0xCC ∷ 0xDD ∷ 0x11 ∷ 0x22 ∷ 0x33 ∷ 0x44 ∷ 0x55 ∷ 0x66 ∷ 0x77 ∷ 0x88 ∷ 0x01 ∷ 0x02 ∷ 0x03 ∷ 0x04 ∷ [])
+    completion (spi (0xAA ∷ 0xBB ∷ 0xCC ∷ 0xDD ∷ 0x11 ∷ 0x22 ∷ 0x33 ∷ 0x44 ∷ 0x55 ∷ 0x66 ∷ 0x77 ∷ 0x88 ∷ 0x01 ∷ 0x02 ∷ 0x03 ∷ 0x04 ∷ []))
 
 -- line 0 with an interrupt on rising; on falling; and with interrupts off
 abbrev armed : Adapter
@@ -244,7 +249,7 @@ pub record Tables : Type 0 where
 
 pub tables : Tables
 unfolding
-    reaction onFrame commanded carried numbered requested answered onChannel replies onCompletion onSample onUpset padded poweredOn word
+    reaction onFrame addressed commanded carried numbered requested answered onChannel replies onSpi onSample onUpset wordsOf poweredOn word
     channelOf controllerAnswer actControl controllerCommand spiAnswer actSpi spiCommand spiCompleted completedWord gpioAnswer actGpio
     gpioCommand gpioSampled datainAfter firingLines seuAnswer actSeu seuCommand idAnswer actId idCommand dacAnswer actDac dacCommand
 tables =

@@ -7,22 +7,20 @@ use lib.Dec.{lit<}
 use Rattle.commands.specs.declared.request.Request.{Request}
 use Rattle.commands.specs.declared.request.Reply.{Reply}
 use Rattle.registers.specs.Controller.{controllerAnswer, spiEnabled, gpioEnabled, seuEnabled}
-use Rattle.registers.specs.Spi.{spiCompleted}
-use Rattle.registers.specs.Pins.{gpioSampled}
+use Rattle.parts.specs.Words.{wordsOf}
 use Rattle.chip.specs.Event.{Event}
 use Rattle.chip.proofs.EventFits.{EventFits}
-use Rattle.chip.specs.State.{poweredOn, powerOn, withLink, withSpi, withGpio}
-use Rattle.chip.specs.Link.{receiveUp, sendUp}
-use Rattle.chip.specs.Request.{requestOf, replies}
-use Rattle.chip.specs.Frame.{informationOf}
-use Rattle.chip.specs.Chip.{receivedWords, reaction}
+use Rattle.chip.specs.State.{poweredOn, powerOn, withLink}
+use Rattle.chip.specs.Link.{sendUp}
+use Rattle.chip.specs.Request.{requestOf}
+use Rattle.chip.specs.Frame.{informationOf, counted}
+use Rattle.chip.specs.Chip.{reaction}
 use Rattle.chip.specs.declared.Adapter.{Adapter}
 use Rattle.chip.specs.declared.link.Link.{Link}
-use Rattle.chip.specs.declared.Reaction.{Reaction}
 use Rattle.bits.proofs.Tests.{cond-cases}
-use Rattle.chip.proofs.Steps.{Touched, refused, by-controller, by-spi, by-gpio, by-seu, by-id, by-dac, step-cases}
+use Rattle.chip.proofs.Steps.{Touched, refused, by-controller, by-spi, by-gpio, by-seu, by-id, by-dac, Commanded, connects, resets, tests, Moved, requests, completes, samples, counts, state-cases}
 use Rattle.registers.proofs.Fits.{RequestFits, ControlFits, SpiFits, GpioFits, DacFits, control-zero-fits, spi-zero-fits, gpio-zero-fits, dac-zero-fits, controller-fits, spi-fits, gpio-fits, seu-fits, dac-fits, completed-fits, sampled-fits}
-use Rattle.chip.proofs.Bodies.{Bytes, drop-bytes}
+use Rattle.parts.proofs.Laws.{AreBytes, bytes-drop}
 
 pub record LinkFits (l : Link) : Type 0 where
   pub send : l .send .0 < 2 ^ 8
@@ -60,11 +58,11 @@ with-link : (a : Adapter) (l : Link) → Fits a → LinkFits l → Fits (withLin
 with-link a l f g = record { link = g; control = f .control; spi = f .spi; gpio = f .gpio; dac = f .dac; seu = f .seu; id = f .id }
 
 -- the request's TRN and D fit where the body is bytes
-request-fits : (body : List ℕ) → Bytes body → RequestFits (requestOf (informationOf body))
+request-fits : (body : List ℕ) → AreBytes body → RequestFits (requestOf (informationOf body))
 request-fits body f =
     record {
-      trn = drop-bytes 2 body f 0;
-      value = omega (arith, drop-bytes 2 body f 4, drop-bytes 2 body f 5, drop-bytes 2 body f 6, drop-bytes 2 body f 7);
+      trn = bytes-drop 2 body f 0;
+      value = omega (arith, bytes-drop 2 body f 4, bytes-drop 2 body f 5, bytes-drop 2 body f 6, bytes-drop 2 body f 7);
     }
 
 touched-fits : (a : Adapter) (q : Request) (b : Adapter) (r : Reply) → Touched a q b r → Fits a → RequestFits q → Fits b
@@ -89,40 +87,29 @@ touched-fits a q b r by-id f v = f
 touched-fits a q b r by-dac f v =
     record { link = f .link; control = f .control; spi = f .spi; gpio = f .gpio; dac = dac-fits (a .dac) q (f .dac) .0; seu = f .seu; id = f .id }
 
-receive-up-fits : (a : Adapter) → Fits a → Fits (receiveUp a)
-receive-up-fits a f = with-link a _ f (record { send = f .link .send; receive = omega arith; port = f .link .port })
+counted-fits : (a : Adapter) → Fits a → Fits (counted a)
+counted-fits a f = with-link a _ f (record { send = f .link .send; receive = omega arith; port = f .link .port })
 
-send-up-fits : (a : Adapter) → Fits a → Fits (sendUp a)
-send-up-fits a f = with-link a _ f (record { send = omega arith; receive = f .link .receive; port = f .link .port })
-
-with-spi-fits : (a : Adapter) (received : List ℕ) → Fits a → Fits (withSpi a (spiCompleted (a .spi) received .spi))
-with-spi-fits a received f =
-    record { link = f .link; control = f .control; spi = completed-fits (a .spi) received (f .spi) .0; gpio = f .gpio; dac = f .dac; seu = f .seu; id = f .id }
-
-with-gpio-fits : (a : Adapter) (levels kind : ℕ) → Fits a → Fits (withGpio a (gpioSampled (a .gpio) levels kind .gpio))
-with-gpio-fits a levels kind f =
-    record { link = f .link; control = f .control; spi = f .spi; gpio = sampled-fits (a .gpio) levels kind (f .gpio); dac = f .dac; seu = f .seu; id = f .id }
+raised-fits : (a : Adapter) → Fits a → Fits (withLink a (sendUp (a .link)))
+raised-fits a f = with-link a _ f (record { send = omega arith; receive = f .link .receive; port = f .link .port })
 
 port-byte : {p : ℕ} → p ≤ 1 → p < 256
 port-byte h = omega arith
 
+commanded-fits : (a : Adapter) (port control : ℕ) (b : Adapter) → Commanded a port control b → Fits a → port ≤ 1 → Fits b
+commanded-fits a port control b (connects _) f p = with-link a _ f (record { send = lit< tt; receive = lit< tt; port = port-byte p })
+commanded-fits a port control b (resets _) f p = powered-fits port (a .id) (port-byte p) (f .id)
+commanded-fits a port control b (tests _) f p = with-link a _ f (record { send = f .link .send; receive = f .link .receive; port = f .link .port })
+
+moved-fits : (a : Adapter) (e : Event) (b : Adapter) → Moved a e b → Fits a → EventFits e → Fits b
+moved-fits a e b (requests port body b₁ r t) f g = touched-fits _ _ b₁ r t (counted-fits a f) (request-fits body (g .bytes))
+moved-fits a e b (completes received h) f g =
+    record { link = f .link; control = f .control; spi = completed-fits (a .spi) (wordsOf 4 received) (f .spi) .0; gpio = f .gpio; dac = f .dac; seu = f .seu; id = f .id }
+moved-fits a e b (samples levels kind h) f g =
+    record { link = f .link; control = f .control; spi = f .spi; gpio = sampled-fits (a .gpio) levels kind (f .gpio); dac = f .dac; seu = f .seu; id = f .id }
+moved-fits a e b counts f g =
+    record { link = f .link; control = f .control; spi = f .spi; gpio = f .gpio; dac = f .dac; seu = omega arith; id = f .id }
+
 pub fits-kept : (a : Adapter) (e : Event) → Fits a → EventFits e → Fits (reaction a e .adapter)
-unfolding replies
 fits-kept a e f g =
-    step-cases a e (λ (r : Reaction). Fits (r .adapter))
-    (record {
-      drops = λ _ _ _. f;
-      connects = λ port body h. with-link a _ f (record { send = lit< tt; receive = lit< tt; port = port-byte (subst EventFits h g .port) });
-      resets = λ port body h. powered-fits port (a .id) (port-byte (subst EventFits h g .port)) (f .id);
-      tests = λ port body h. with-link a _ f (record { send = f .link .send; receive = f .link .receive; port = f .link .port });
-      echoes = λ _ _ _. f;
-      rejects = λ _ _ _. f;
-      answers = λ port body h b err len d t.
-          send-up-fits b (touched-fits _ _ b _ t (receive-up-fits a f) (request-fits body (subst EventFits h g .bytes)));
-      starts = λ port body h b t.
-          touched-fits _ _ b _ t (receive-up-fits a f) (request-fits body (subst EventFits h g .bytes));
-      completes = λ received _ _. send-up-fits _ (with-spi-fits a (receivedWords received) f);
-      interrupts = λ levels kind _ _. send-up-fits _ (with-gpio-fits a levels kind f);
-      samples = λ levels kind _ _. with-gpio-fits a levels kind f;
-      upsets = record { link = f .link; control = f .control; spi = f .spi; gpio = f .gpio; dac = f .dac; seu = omega arith; id = f .id };
-    })
+    state-cases a e Fits f (λ port body b h c. commanded-fits a port _ b c f (subst EventFits h g .port)) (λ b m. moved-fits a e b m f g) raised-fits

@@ -15,14 +15,13 @@ use Rattle.registers.specs.Gpio.{gpioZero, gpioIsZero, gpioAnswer}
 use Rattle.chip.specs.Event.{Event}
 use Rattle.chip.proofs.EventFits.{EventFits}
 use Rattle.chip.specs.State.{poweredOn, powerOn, inRange, withLink, withSpi, withGpio}
-use Rattle.chip.specs.Link.{receiveUp, sendUp}
-use Rattle.chip.specs.Request.{replies}
+use Rattle.chip.specs.Link.{sendUp}
+use Rattle.chip.specs.Frame.{counted}
 use Rattle.chip.specs.Chip.{reaction}
 use Rattle.chip.specs.declared.Adapter.{Adapter}
 use Rattle.chip.specs.declared.link.Link.{Link}
-use Rattle.chip.specs.declared.Reaction.{Reaction}
 use Rattle.bits.proofs.Tests.{and-left, and-right, or-second}
-use Rattle.chip.proofs.Steps.{Touched, refused, by-controller, by-spi, by-gpio, by-seu, by-id, by-dac, step-cases}
+use Rattle.chip.proofs.Steps.{Touched, refused, by-controller, by-spi, by-gpio, by-seu, by-id, by-dac, Commanded, connects, resets, tests, Moved, requests, completes, samples, counts, state-cases}
 use Rattle.registers.proofs.Laws.{controller-in-range, spi-zero-is-zero, gpio-zero-is-zero, spi-zero-idle, spi-off, gpio-off, spi-is-zero, gpio-is-zero}
 use Rattle.chip.proofs.Fits.{Fits}
 
@@ -88,11 +87,11 @@ power-on-in-range n h = in-range (powerOn n) (powered-in-range 0 n (lit≤ tt) h
 relinked : (a : Adapter) (l : Link) → InRange a → l .send .0 ≤ 7 → l .receive .0 ≤ 7 → l .port ≤ 1 → InRange (withLink a l)
 relinked a l r s t p = record { send = s; receive = t; port = p; id = r .id; control = r .control; spi = r .spi; gpio = r .gpio }
 
-receive-up-in-range : (a : Adapter) → InRange a → InRange (receiveUp a)
-receive-up-in-range a r = relinked a _ r (r .send) (omega arith) (r .port)
+counted-in-range : (a : Adapter) → InRange a → InRange (counted a)
+counted-in-range a r = relinked a _ r (r .send) (omega arith) (r .port)
 
-send-up-in-range : (a : Adapter) → InRange a → InRange (sendUp a)
-send-up-in-range a r = relinked a _ r (omega arith) (r .receive) (r .port)
+raised-in-range : (a : Adapter) → InRange a → InRange (withLink a (sendUp (a .link)))
+raised-in-range a r = relinked a _ r (omega arith) (r .receive) (r .port)
 
 held-spi : (on : Bool) (s : Spi) → on ≡ false → spiIsZero (cond on s spiZero) ≡ true
 held-spi true s h = absurd (true≢false h)
@@ -145,24 +144,21 @@ sampled-in-range : (a : Adapter) (g : Gpio) → InRange a → gpioEnabled (a .co
 sampled-in-range a g i on =
     record { send = i .send; receive = i .receive; port = i .port; id = i .id; control = i .control; spi = i .spi; gpio = λ h. absurd (true≢false (sym on ∙ h)) }
 
+commanded-in-range : (a : Adapter) (port control : ℕ) (b : Adapter) → Commanded a port control b → InRange a → port ≤ 1 → InRange b
+commanded-in-range a port control b (connects _) i p = relinked a _ i (lit≤ tt) (lit≤ tt) p
+commanded-in-range a port control b (resets _) i p = powered-in-range port (a .id) p (i .id)
+commanded-in-range a port control b (tests _) i p = relinked a _ i (i .send) (i .receive) (i .port)
+
+moved-in-range : (a : Adapter) (e : Event) (b : Adapter) → Moved a e b → InRange a → InRange b
+moved-in-range a e b (requests port body b₁ r t) i = touched-in-range _ _ b₁ r t (counted-in-range a i)
+moved-in-range a e b (completes received h) i = completed-in-range a _ i h
+moved-in-range a e b (samples levels kind h) i = sampled-in-range a _ i h
+moved-in-range a e b counts i =
+    record { send = i .send; receive = i .receive; port = i .port; id = i .id; control = i .control; spi = i .spi; gpio = i .gpio }
+
 range-stays : (a : Adapter) (e : Event) → InRange a → EventFits e → InRange (reaction a e .adapter)
-unfolding replies
 range-stays a e i g =
-    step-cases a e (λ (r : Reaction). InRange (r .adapter))
-    (record {
-      drops = λ _ _ _. i;
-      connects = λ port body h. relinked a _ i (lit≤ tt) (lit≤ tt) (subst EventFits h g .port);
-      resets = λ port body h. powered-in-range port (a .id) (subst EventFits h g .port) (i .id);
-      tests = λ port body h. relinked a _ i (i .send) (i .receive) (i .port);
-      echoes = λ _ _ _. i;
-      rejects = λ _ _ _. i;
-      answers = λ port body h b err len d t. send-up-in-range b (touched-in-range _ _ b _ t (receive-up-in-range a i));
-      starts = λ port body h b t. touched-in-range _ _ b _ t (receive-up-in-range a i);
-      completes = λ received _ b. send-up-in-range _ (completed-in-range a _ i b);
-      interrupts = λ levels kind _ on. send-up-in-range _ (sampled-in-range a _ i on);
-      samples = λ levels kind _ on. sampled-in-range a _ i on;
-      upsets = record { send = i .send; receive = i .receive; port = i .port; id = i .id; control = i .control; spi = i .spi; gpio = i .gpio };
-    })
+    state-cases a e InRange i (λ port body b h c. commanded-in-range a port _ b c i (subst EventFits h g .port)) (λ b m. moved-in-range a e b m i) raised-in-range
 
 pub range-kept : (a : Adapter) (e : Event) → inRange a ≡ true → EventFits e → inRange (reaction a e .adapter) ≡ true
 range-kept a e h g = in-range (reaction a e .adapter) (range-stays a e (of-in-range a h) g)

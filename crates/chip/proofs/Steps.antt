@@ -1,13 +1,14 @@
--- Every outcome of an event. A law about the step is one call of `step-cases`.
+-- What an event comes to: the shape of its answer, and beside it what changed of the state. A law about answers goes through the shapes
+-- (`shapes`), a law about the state through what can move it (`state-cases`).
 use Prim.Native.Nat.{ℕ, _+_, _%_, _^_, _≤_, _<_}
-use mathlib.Core.Bool.{Bool, true, false, not, _&&_, _||_, cond, false≢true, true≢false}
+use mathlib.Core.Bool.{true, not, _||_}
 use mathlib.Core.List.{List, [], _∷_}
-use mathlib.Core.Path.{_≡_, refl}
+use mathlib.Core.Path.{_≡_, refl, ap}
 use borrow.Author.Tests.{not-false}
 use lib.Dec.{eqb, lit≤, lit<}
 use lib.ListN.{length, getD, drop}
 use Rattle.bits.specs.Bits.{bitOf}
-use Rattle.bits.proofs.Tests.{cond-cases, and-left, and-right, or-second}
+use Rattle.bits.proofs.Tests.{cond-cases}
 use Rattle.commands.specs.declared.channel.Channel.{Channel}
 use Rattle.commands.specs.declared.channel.Channel.the-variants.{Controller, Spi, Gpio, Seu, Id, Dac, Unknown}
 use Rattle.commands.specs.declared.request.Request.{Request}
@@ -22,17 +23,21 @@ use Rattle.registers.specs.Pins.{gpioSampled}
 use Rattle.registers.specs.Seu.{seuAnswer}
 use Rattle.registers.specs.ChipId.{idAnswer}
 use Rattle.registers.specs.Dac.{dacAnswer}
-use Rattle.chip.specs.Event.{Event, frame, completion, sample, upset}
-use Rattle.numbers.specs.Numbers.{otherAddress, otherPort, otherControl, wrongLength, noFrame, notBusy, linesDisabled}
-use Rattle.chip.specs.Numbers.{address, spiChannel, gpioChannel, noTransaction, interruptTransaction, interruptLength}
-use Rattle.chip.specs.State.{withControl, withSpi, withGpio, withDac, withSeu}
-use Rattle.chip.specs.Answer.{sends, gives}
-use Rattle.chip.specs.Link.{rejectControl, acknowledgeControl, receiveNumber, receiveUp, numberIn, connected, reset, looped, inLoopback}
+use Rattle.chip.specs.Event.{Event, frame, completion, sample, upset, spi}
+use Rattle.parts.specs.Words.{wordsOf}
+use Rattle.parts.proofs.Laws.{bytes-drop}
+use Rattle.chip.proofs.EventFits.{EventFits}
+use Rattle.chip.proofs.Replies.{ReplyBytes, control-reply, spi-reply, gpio-reply, seu-reply, id-reply, dac-reply}
+use Rattle.numbers.specs.Numbers.{otherAddress, otherPort, otherControl, badInformation, noFrame, notBusy, linesDisabled}
+use Rattle.chip.specs.Numbers.{address, noTransaction, interruptTransaction}
+use Rattle.chip.specs.State.{withLink, withControl, withSpi, withGpio, withDac, withSeu}
+use Rattle.chip.specs.Answer.{Reaction, sends, gives}
+use Rattle.chip.specs.Link.{rejectControl, acknowledgeControl, receiveNumber, sendUp, numberIn, inLoopback}
 use Rattle.chip.specs.Request.{requestOf, onChannel, answered, replies, finished, requested}
-use Rattle.chip.specs.Frame.{isConnect, isReset, isTest, controlOf, informationOf, commanded, numbered, carried, onFrame}
-use Rattle.chip.specs.Chip.{receivedWords, onCompletion, onSample, onUpset, reaction}
+use Rattle.chip.specs.Frame.{isConnect, isReset, isTest, controlOf, informationOf, connected, reset, looped, counted, commanded, numbered, carried, addressed, onFrame}
+use Rattle.chip.specs.Chip.{onSpi, onSample, onUpset, reaction}
 use Rattle.chip.specs.declared.Adapter.{Adapter}
-use Rattle.chip.specs.declared.Reaction.{Reaction}
+use Rattle.chip.specs.declared.link.Link.{Link}
 use Rattle.chip.specs.declared.request.Answered.{Answered}
 
 -- ---- how a request can change the state: one channel's registers, by that channel's own answer
@@ -82,79 +87,148 @@ touched-id a q b r by-dac = refl
 
 -- ---- what an event can come to
 
-pub record Cases (a : Adapter) (e : Event) (P : Reaction → Type 0) : Type 0 where
+touched-reply : (a : Adapter) (q : Request) (b : Adapter) (r : Reply) → Touched a q b r → ReplyBytes r
+touched-reply a q b r (refused e h) = (h, lit< tt)
+touched-reply a q b r by-controller = control-reply (a .control) q
+touched-reply a q b r by-spi = spi-reply (a .spi) q (spiEnabled (a .control))
+touched-reply a q b r by-gpio = gpio-reply (a .gpio) q (gpioEnabled (a .control))
+touched-reply a q b r by-seu = seu-reply (a .seu) q (seuEnabled (a .control))
+touched-reply a q b r by-id = id-reply (a .id) q (idEnabled (a .control))
+touched-reply a q b r by-dac = dac-reply (a .dac) q
+
+-- ---- how an event can change the state, but for the send number of a reply
+
+-- CONNECT, RESET and TEST
+pub data Commanded (a : Adapter) (port control : ℕ) : Adapter → Type 0 where
+  connects : isConnect control ≡ true → Commanded a port control (connected a port)
+  resets : isReset control ≡ true → Commanded a port control (reset a port)
+  tests : isTest control ≡ true → Commanded a port control (looped a port)
+
+-- by a request, a completion, a pin sample or an upset
+pub data Moved (a : Adapter) : Event → Adapter → Type 0 where
+  requests : (port : ℕ) (body : List ℕ) (b : Adapter) (r : Reply) → Touched (counted a) (requestOf (informationOf body)) b r → Moved a (frame port body) b
+  completes : (received : List ℕ) → spiBusy (a .spi) ≡ true
+      → Moved a (completion (spi received)) (withSpi a (spiCompleted (a .spi) (wordsOf 4 received) .spi))
+  samples : (levels kind : ℕ) → gpioEnabled (a .control) ≡ true → Moved a (sample levels kind) (withGpio a (gpioSampled (a .gpio) levels kind .gpio))
+  counts : Moved a upset (withSeu a ((a .seu + 1) % 2 ^ 32))
+
+-- none of these moves the send number or the active port
+pub moved-send : (a : Adapter) (e : Event) (b : Adapter) → Moved a e b → b .link .send ≡ a .link .send
+moved-send a e b (requests port body b₁ r t) = ap (λ (l : Link). l .send) (touched-link _ _ b₁ r t)
+moved-send a e b (completes received h) = refl
+moved-send a e b (samples levels kind h) = refl
+moved-send a e b counts = refl
+
+pub moved-port : (a : Adapter) (e : Event) (b : Adapter) → Moved a e b → b .link .port ≡ a .link .port
+moved-port a e b (requests port body b₁ r t) = ap (λ (l : Link). l .port) (touched-link _ _ b₁ r t)
+moved-port a e b (completes received h) = refl
+moved-port a e b (samples levels kind h) = refl
+moved-port a e b counts = refl
+
+-- ---- the shapes of an answer
+
+-- TRN, CH, ERR and LEN of a reply are bytes
+pub record HeaderBytes (t c e l : ℕ) : Type 0 where
+  pub trn : t < 256
+  pub ch : c < 256
+  pub err : e < 256
+  pub len : l < 256
+
+pub data Shape (a : Adapter) (e : Event) : Reaction → Type 0 where
   -- 11 to 16
-  pub drops : (n : ℕ) → 11 ≤ n → n ≤ 16 → P (gives a n)
-  -- CONNECT, RESET and TEST
-  pub connects : (port : ℕ) (body : List ℕ) → e ≡ frame port body → P (sends (connected a port) port (address ∷ acknowledgeControl (controlOf body) ∷ []))
-  pub resets : (port : ℕ) (body : List ℕ) → e ≡ frame port body → P (sends (reset a port) port (address ∷ acknowledgeControl (controlOf body) ∷ []))
-  pub tests : (port : ℕ) (body : List ℕ) → e ≡ frame port body → P (sends (looped a port) port (address ∷ acknowledgeControl (controlOf body) ∷ []))
-  -- a loopback echo, and SREJ
-  pub echoes : (port : ℕ) (body : List ℕ) → e ≡ frame port body → P (sends a port body)
-  pub rejects : (port : ℕ) (body : List ℕ) → e ≡ frame port body → P (sends a port (address ∷ rejectControl a ∷ []))
-  -- a request with its reply, and a GO, whose reply comes later
-  pub answers : (port : ℕ) (body : List ℕ) → e ≡ frame port body → (b : Adapter) (err len d : ℕ)
-      → Touched (receiveUp a) (requestOf (informationOf body)) b (Sent err len d)
-      → P (replies b (requestOf (informationOf body) .trn) (requestOf (informationOf body) .ch) err len d)
-  pub starts : (port : ℕ) (body : List ℕ) → e ≡ frame port body → (b : Adapter)
-      → Touched (receiveUp a) (requestOf (informationOf body)) b Later → P (gives b noFrame)
-  -- a completion
-  pub completes : (received : List ℕ) → e ≡ completion received → spiBusy (a .spi) ≡ true
-      → P (replies (withSpi a (spiCompleted (a .spi) (receivedWords received) .spi)) (a .spi .go) spiChannel 0 6 (getD (spiCompleted (a .spi) (receivedWords received) .spi .words) 0 0))
-  -- a pin sample with and without an interrupt
-  pub interrupts : (levels kind : ℕ) → e ≡ sample levels kind → gpioEnabled (a .control) ≡ true
-      → P (replies (withGpio a (gpioSampled (a .gpio) levels kind .gpio)) interruptTransaction gpioChannel 0 interruptLength (gpioSampled (a .gpio) levels kind .gpio .ints))
-  pub samples : (levels kind : ℕ) → e ≡ sample levels kind → gpioEnabled (a .control) ≡ true
-      → P (gives (withGpio a (gpioSampled (a .gpio) levels kind .gpio)) noFrame)
-  -- an upset
-  pub upsets : P (gives (withSeu a ((a .seu + 1) % 2 ^ 32)) noFrame)
+  dropped : (n : ℕ) → 11 ≤ n → n ≤ 16 → Shape a e (gives a n)
+  -- the answer of a command
+  acknowledged : (port : ℕ) (body : List ℕ) → e ≡ frame port body → (b : Adapter) → Commanded a port (controlOf body) b
+      → Shape a e (sends b port (address ∷ acknowledgeControl (controlOf body) ∷ []))
+  -- a loopback's, and SREJ
+  echoed : (port : ℕ) (body : List ℕ) → e ≡ frame port body → Shape a e (sends a port body)
+  rejected : (port : ℕ) (body : List ℕ) → e ≡ frame port body → Shape a e (sends a port (address ∷ rejectControl (a .link) ∷ []))
+  -- a reply or an interrupt
+  replied : (b : Adapter) (trn ch err len d : ℕ) → Moved a e b → (a .spi .go < 256 → EventFits e → HeaderBytes trn ch err len)
+      → Shape a e (replies b trn ch err len d)
+  -- 17
+  quiet : (b : Adapter) → Moved a e b → Shape a e (gives b noFrame)
 
-module _ (a : Adapter) (P : Reaction → Type 0) (port : ℕ) (body : List ℕ) (c : Cases a (frame port body) P) where
-  command-cases : (b : Adapter) → P (sends b port (address ∷ acknowledgeControl (controlOf body) ∷ [])) → P (commanded a b port body)
+module _ (a : Adapter) (port : ℕ) (body : List ℕ) where
+  of-command : (b : Adapter) → Commanded a port (controlOf body) b → Shape a (frame port body) (commanded a b port body)
   unfolding commanded
-  command-cases b p =
-      cond-cases P (not (eqb (length (drop 2 body)) 0)) (λ _. c .drops wrongLength (lit≤ tt) (lit≤ tt)) (λ _. p)
+  of-command b c =
+      cond-cases (Shape a (frame port body)) (not (eqb (length (drop 2 body)) 0)) (λ _. dropped badInformation (lit≤ tt) (lit≤ tt))
+      (λ _. acknowledged port body refl b c)
 
-  finished-cases : (b : Adapter) (r : Reply) → Touched (receiveUp a) (requestOf (informationOf body)) b r
-      → P (finished b (requestOf (informationOf body) .trn) (requestOf (informationOf body) .ch) r)
-  finished-cases b (Sent err len d) t = c .answers port body refl b err len d t
-  finished-cases b Later t = c .starts port body refl b t
+  of-reply : (b : Adapter) (r : Reply) → Touched (counted a) (requestOf (informationOf body)) b r
+      → Shape a (frame port body) (finished b (requestOf (informationOf body) .trn) (requestOf (informationOf body) .ch) r)
+  of-reply b (Sent err len d) t =
+      replied b _ _ err len d (requests port body b _ t)
+      (λ _ f. record {
+        trn = bytes-drop 2 body (f .bytes) 0;
+        ch = bytes-drop 2 body (f .bytes) 1;
+        err = touched-reply _ _ _ _ t .0;
+        len = touched-reply _ _ _ _ t .1;
+      })
+  of-reply b Later t = quiet b (requests port body b _ t)
 
-  request-cases : P (requested (receiveUp a) (drop 2 body))
+  of-request : Shape a (frame port body) (requested (counted a) (drop 2 body))
   unfolding requested
-  request-cases = finished-cases _ _ (touched (receiveUp a) (requestOf (drop 2 body)))
+  of-request = of-reply _ _ (touched (counted a) (requestOf (drop 2 body)))
 
-  order-cases : P (numbered a port (controlOf body) (drop 2 body))
+  of-order : Shape a (frame port body) (numbered a port (controlOf body) (drop 2 body))
   unfolding numbered
-  order-cases = cond-cases P (not (eqb (numberIn (controlOf body)) (receiveNumber a))) (λ _. c .rejects port body refl) (λ _. request-cases)
+  of-order =
+      cond-cases (Shape a (frame port body)) (not (eqb (numberIn (controlOf body)) (receiveNumber (a .link)))) (λ _. rejected port body refl) (λ _. of-request)
 
-  carry-cases : P (carried a port body)
+  of-carried : Shape a (frame port body) (carried a port body)
   unfolding carried
-  carry-cases =
-      cond-cases P (inLoopback a port) (λ _. c .echoes port body refl)
-      (λ _. cond-cases P (not (eqb port (a .link .port))) (λ _. c .drops otherPort (lit≤ tt) (lit≤ tt))
-      (λ _. cond-cases P (not (eqb (length (drop 2 body)) 8)) (λ _. c .drops wrongLength (lit≤ tt) (lit≤ tt))
-      (λ _. order-cases)))
+  of-carried =
+      cond-cases (Shape a (frame port body)) (inLoopback (a .link) port) (λ _. echoed port body refl)
+      (λ _. cond-cases (Shape a (frame port body)) (not (eqb port (a .link .port))) (λ _. dropped otherPort (lit≤ tt) (lit≤ tt))
+      (λ _. cond-cases (Shape a (frame port body)) (not (eqb (length (drop 2 body)) 8)) (λ _. dropped badInformation (lit≤ tt) (lit≤ tt))
+      (λ _. of-order)))
 
-  frame-cases : P (onFrame a port body)
+  of-addressed : Shape a (frame port body) (addressed a port body)
+  unfolding addressed
+  of-addressed =
+      cond-cases (Shape a (frame port body)) (isConnect (controlOf body)) (λ h. of-command _ (connects h))
+      (λ _. cond-cases (Shape a (frame port body)) (isReset (controlOf body)) (λ h. of-command _ (resets h))
+      (λ _. cond-cases (Shape a (frame port body)) (isTest (controlOf body)) (λ h. of-command _ (tests h))
+      (λ _. cond-cases (Shape a (frame port body)) (bitOf (controlOf body) 0) (λ _. dropped otherControl (lit≤ tt) (lit≤ tt))
+      (λ _. of-carried))))
+
+  of-frame : Shape a (frame port body) (onFrame a port body)
   unfolding onFrame
-  frame-cases =
-      cond-cases P (not (eqb (getD body 0 0) 0x00)) (λ _. c .drops otherAddress (lit≤ tt) (lit≤ tt))
-      (λ _. cond-cases P (isConnect (controlOf body)) (λ _. command-cases _ (c .connects port body refl))
-      (λ _. cond-cases P (isReset (controlOf body)) (λ _. command-cases _ (c .resets port body refl))
-      (λ _. cond-cases P (isTest (controlOf body)) (λ _. command-cases _ (c .tests port body refl))
-      (λ _. cond-cases P (bitOf (controlOf body) 0) (λ _. c .drops otherControl (lit≤ tt) (lit≤ tt))
-      (λ _. carry-cases)))))
+  of-frame =
+      cond-cases (Shape a (frame port body)) (not (eqb (getD body 0 0) 0x00)) (λ _. dropped otherAddress (lit≤ tt) (lit≤ tt)) (λ _. of-addressed)
 
-pub step-cases : (a : Adapter) (e : Event) (P : Reaction → Type 0) → Cases a e P → P (reaction a e)
-unfolding reaction onCompletion onSample onUpset spiCompleted
-step-cases a (frame port body) P c = frame-cases a P port body c
-step-cases a (completion received) P c =
-    cond-cases P (not (spiBusy (a .spi))) (λ _. c .drops notBusy (lit≤ tt) (lit≤ tt))
-    (λ h. c .completes received refl (not-false (spiBusy (a .spi)) h))
-step-cases a (sample levels kind) P c =
-    cond-cases P (not (gpioEnabled (a .control))) (λ _. c .drops linesDisabled (lit≤ tt) (lit≤ tt))
-    (λ h. cond-cases P (gpioSampled (a .gpio) levels kind .interrupt)
-    (λ _. c .interrupts levels kind refl (not-false (gpioEnabled (a .control)) h))
-    (λ _. c .samples levels kind refl (not-false (gpioEnabled (a .control)) h)))
-step-cases a upset P c = c .upsets
+-- every event's answer has one of them
+pub shapes : (a : Adapter) (e : Event) → Shape a e (reaction a e)
+unfolding reaction onSpi onSample onUpset spiCompleted
+shapes a (frame port body) = of-frame a port body
+shapes a (completion (spi received)) =
+    cond-cases (Shape a (completion (spi received))) (not (spiBusy (a .spi))) (λ _. dropped notBusy (lit≤ tt) (lit≤ tt))
+    (λ h. replied _ _ _ _ _ _ (completes received (not-false (spiBusy (a .spi)) h))
+    (λ g _. record { trn = g; ch = lit< tt; err = lit< tt; len = lit< tt }))
+shapes a (sample levels kind) =
+    cond-cases (Shape a (sample levels kind)) (not (gpioEnabled (a .control))) (λ _. dropped linesDisabled (lit≤ tt) (lit≤ tt))
+    (λ h. cond-cases (Shape a (sample levels kind)) (gpioSampled (a .gpio) levels kind .interrupt)
+    (λ _. replied _ _ _ _ _ _ (samples levels kind (not-false (gpioEnabled (a .control)) h))
+    (λ _ _. record { trn = lit< tt; ch = lit< tt; err = lit< tt; len = lit< tt }))
+    (λ _. quiet _ (samples levels kind (not-false (gpioEnabled (a .control)) h))))
+shapes a upset = quiet _ counts
+
+-- ---- the state after an event
+
+module _ (a : Adapter) (e : Event) (P : Adapter → Type 0) (stays : P a)
+    (commands : (port : ℕ) (body : List ℕ) (b : Adapter) → e ≡ frame port body → Commanded a port (controlOf body) b → P b)
+    (moves : (b : Adapter) → Moved a e b → P b) (raises : (b : Adapter) → P b → P (withLink b (sendUp (b .link)))) where
+  of-shape : (r : Reaction) → Shape a e r → P (r .adapter)
+  unfolding replies
+  of-shape r (dropped n l u) = stays
+  of-shape r (acknowledged port body h b c) = commands port body b h c
+  of-shape r (echoed port body h) = stays
+  of-shape r (rejected port body h) = stays
+  of-shape r (replied b trn ch err len d m f) = raises b (moves b m)
+  of-shape r (quiet b m) = moves b m
+
+  -- what the state has, each change keeps, and so does a raised send number, the state after the event has
+  pub state-cases : P (reaction a e .adapter)
+  state-cases = of-shape (reaction a e) (shapes a e)

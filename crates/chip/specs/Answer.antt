@@ -1,17 +1,55 @@
--- An event's answer: 0 with the frame's port and length, or another number with both 0. Bytes past the length are 0.
-use Prim.Native.Nat.{ℕ, _-_}
-use mathlib.Core.List.{List, [], _++_}
-use lib.ListN.{length, replicate}
-use Rattle.numbers.specs.Numbers.{sent}
+-- What an event gives. A Reaction is the chip's own: the state after it, document 01's number, and the bodies of the frames that it sends.
+-- A Response is what code gives back of it, with the frame's length in place of its bytes; Said adds the output, where these stand.
+use Prim.Native.Nat.{ℕ, _+_}
+use mathlib.Core.List.{List, [], _∷_}
+use lib.ListN.{length}
+use Rattle.numbers.specs.Numbers.{hasFrame, bodyMost}
+use Rattle.parts.specs.Parts.{put}
 use Rattle.chip.specs.declared.Adapter.{Adapter}
-use Rattle.chip.specs.declared.Reaction.{Reaction}
+use Rattle.chip.specs.declared.Response.{Response}
 
--- a body at the front of 16 bytes
-unfoldable pub padded : List ℕ → List ℕ
-padded body = body ++ replicate (16 - length body) 0
+pub record Reaction : Type 0 where
+  pub adapter : Adapter
+  pub number : ℕ
+  -- the port that the frames leave on
+  pub port : ℕ
+  -- their bodies: none or one
+  pub frames : List (List ℕ)
 
+-- 0 with a frame on a port
 abbrev pub sends : Adapter → ℕ → List ℕ → Reaction
-sends a port body = record { adapter = a; number = sent; port = port; length = length body; body = padded body }
+sends a port body = record { adapter = a; number = hasFrame; port = port; frames = body ∷ [] }
 
+-- another number: no frame, and port 0
 abbrev pub gives : Adapter → ℕ → Reaction
-gives a n = record { adapter = a; number = n; port = 0; length = 0; body = padded [] }
+gives a n = record { adapter = a; number = n; port = 0; frames = [] }
+
+-- ---- what its caller has of it
+
+-- An event's answer 0 comes with port and length, any other with both 0.
+abbrev pub frontLength : List (List ℕ) → ℕ
+frontLength [] = 0
+frontLength (body ∷ more) = length body
+
+abbrev pub response : Reaction → Response
+response r = record { adapter = r .adapter; number = r .number; port = r .port; length = frontLength (r .frames) }
+
+-- frames in the output from a place on, each at the front of its own 16 bytes; no other byte changes
+abbrev pub laidFrom : ℕ → List (List ℕ) → List ℕ → List ℕ
+laidFrom place [] output = output
+laidFrom place (body ∷ more) output = laidFrom (place + bodyMost) more (put place body output)
+
+abbrev pub laid : List (List ℕ) → List ℕ → List ℕ
+laid frames output = laidFrom 0 frames output
+
+pub record Said : Type 0 where
+  pub response : Response
+  pub output : List ℕ
+
+-- as code leaves the two
+abbrev pub said : Response → List ℕ → Said
+said r output = record { response = r; output = output }
+
+-- as they are due
+abbrev pub says : Reaction → List ℕ → Said
+says r output = said (response r) (laid (r .frames) output)

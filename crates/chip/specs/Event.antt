@@ -2,10 +2,14 @@
 use Prim.Native.Nat.{ℕ}
 use mathlib.Core.List.{List}
 
--- A frame body on a port (0 primary, 1 auxiliary); an SPI completion with 16 received bytes, byte 0 holding bits 7 to 0;
--- a pin sample with 32 levels and an edge kind (0 system clock, 1 strobe rising, 2 strobe falling); an upset.
+-- What a channel was waiting for is complete: an SPI transfer with 16 received bytes, byte 0 holding bits 7 to 0.
+pub data Completion : Type 0 where
+  spi : (received : List ℕ) → Completion
+
+-- A frame body on a port (0 primary, 1 auxiliary); a completion; a pin sample with 32 levels and an edge kind (0 system clock,
+-- 1 strobe rising, 2 strobe falling); an upset.
 pub data Event : Type 0 where
   frame : (port : ℕ) (body : List ℕ) → Event
-  completion : (received : List ℕ) → Event
+  completion : (c : Completion) → Event
   sample : (levels kind : ℕ) → Event
   upset : Event

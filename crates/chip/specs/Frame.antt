@@ -4,14 +4,14 @@ use mathlib.Core.Bool.{Bool, not, _&&_, _||_, cond}
 use mathlib.Core.List.{List, [], _∷_}
 use lib.Dec.{eqb}
 use lib.ListN.{length, getD, drop}
-use Rattle.numbers.specs.Numbers.{otherAddress, otherPort, otherControl, wrongLength}
+use Rattle.numbers.specs.Numbers.{otherAddress, otherPort, otherControl, badInformation}
 use Rattle.chip.specs.Numbers.{address}
 use Rattle.bits.specs.Bits.{bitOf}
-use Rattle.chip.specs.Answer.{sends, gives}
-use Rattle.chip.specs.Link.{receiveNumber, receiveUp, numberIn, rejectControl, acknowledgeControl, connected, reset, looped, inLoopback}
+use Rattle.chip.specs.State.{withLink, poweredOn}
+use Rattle.chip.specs.Answer.{Reaction, sends, gives}
+use Rattle.chip.specs.Link.{receiveNumber, receiveUp, numberIn, rejectControl, acknowledgeControl, freshLink, loopedAt, inLoopback}
 use Rattle.chip.specs.Request.{requested}
 use Rattle.chip.specs.declared.Adapter.{Adapter}
-use Rattle.chip.specs.declared.Reaction.{Reaction}
 
 -- The body is address, control and information.
 abbrev pub addressOf : List ℕ → ℕ
@@ -37,37 +37,55 @@ isTest control = eqb control 0xE3 || eqb control 0xF3
 unfoldable pub isResetFrame : List ℕ → Bool
 isResetFrame body = eqb (addressOf body) address && isReset (controlOf body) && eqb (length (informationOf body)) 0
 
+-- CONNECT makes its port active, zeroes both numbers and ends loopback on both ports.
+abbrev pub connected : Adapter → ℕ → Adapter
+connected a port = withLink a (freshLink port)
+
+-- RESET does the same and sets all registers and the SEU counter to power-on; the ID stays.
+abbrev pub reset : Adapter → ℕ → Adapter
+reset a port = poweredOn port (a .id)
+
+-- TEST puts its own port in loopback.
+abbrev pub looped : Adapter → ℕ → Adapter
+looped a port = withLink a (loopedAt (a .link) port)
+
 -- 2. Information not empty is 14; else the command is done, b being the state after it, and acknowledged on the same port.
 unfoldable pub commanded : Adapter → Adapter → ℕ → List ℕ → Reaction
 commanded a b port body =
-    cond (not (eqb (length (informationOf body)) 0)) (gives a wrongLength)
+    cond (not (eqb (length (informationOf body)) 0)) (gives a badInformation)
     (sends b port (address ∷ acknowledgeControl (controlOf body) ∷ []))
+
+-- the receive number up by one
+abbrev pub counted : Adapter → Adapter
+counted a = withLink a (receiveUp (a .link))
 
 -- 7. Bits 3 to 1 of control unlike the receive number: the frame is dropped and SREJ goes out.
 -- 8. Else the receive number goes up by one modulo 8 and the request is answered.
 unfoldable pub numbered : Adapter → ℕ → ℕ → List ℕ → Reaction
 numbered a port control info =
-    cond (not (eqb (numberIn control) (receiveNumber a))) (sends a port (address ∷ rejectControl a ∷ []))
-    (requested (receiveUp a) info)
+    cond (not (eqb (numberIn control) (receiveNumber (a .link)))) (sends a port (address ∷ rejectControl (a .link) ∷ []))
+    (requested (counted a) info)
 
 -- 4. A port in loopback sends the body back unchanged; numbers stay.
 -- 5. Port not active: 12.
 -- 6. Information not 8 bytes: 14.
 unfoldable pub carried : Adapter → ℕ → List ℕ → Reaction
 carried a port body =
-    cond (inLoopback a port) (sends a port body)
+    cond (inLoopback (a .link) port) (sends a port body)
     (cond (not (eqb port (a .link .port))) (gives a otherPort)
-    (cond (not (eqb (length (informationOf body)) 8)) (gives a wrongLength)
+    (cond (not (eqb (length (informationOf body)) 8)) (gives a badInformation)
     (numbered a port (controlOf body) (informationOf body))))
 
--- 1. Address not 0x00: 11.
 -- 2. CONNECT, RESET or TEST, on either port.
 -- 3. Any other control with bit 0 set: 13.
-unfoldable pub onFrame : Adapter → ℕ → List ℕ → Reaction
-onFrame a port body =
-    cond (not (eqb (addressOf body) address)) (gives a otherAddress)
-    (cond (isConnect (controlOf body)) (commanded a (connected a port) port body)
+unfoldable pub addressed : Adapter → ℕ → List ℕ → Reaction
+addressed a port body =
+    cond (isConnect (controlOf body)) (commanded a (connected a port) port body)
     (cond (isReset (controlOf body)) (commanded a (reset a port) port body)
     (cond (isTest (controlOf body)) (commanded a (looped a port) port body)
     (cond (bitOf (controlOf body) 0) (gives a otherControl)
-    (carried a port body)))))
+    (carried a port body))))
+
+-- 1. Address not 0x00: 11.
+unfoldable pub onFrame : Adapter → ℕ → List ℕ → Reaction
+onFrame a port body = cond (not (eqb (addressOf body) address)) (gives a otherAddress) (addressed a port body)

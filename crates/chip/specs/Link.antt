@@ -1,41 +1,39 @@
--- The link: its two numbers, its control field, its commands and acknowledgements.
+-- The link alone: its two numbers, its control field, and its two ports.
 use Prim.Native.Nat.{ℕ, _+_, _*_, _/_, _%_}
-use mathlib.Core.Bool.{Bool, true, cond}
+use mathlib.Core.Bool.{Bool, true, false, cond}
 use lib.Dec.{eqb}
 use Rattle.bits.specs.Bits.{bitOf}
-use Rattle.chip.specs.State.{withLink, freshLink, poweredOn}
-use Rattle.chip.specs.declared.Adapter.{Adapter}
+use Rattle.chip.specs.declared.link.Link.{Link}
+use Rattle.chip.specs.declared.link.Port.{Port}
 
 -- ---- a send number and a receive number, each 0 to 7, counted apart
 
-abbrev pub sendNumber : Adapter → ℕ
-sendNumber a = a .link .send .0 % 8
+abbrev pub sendNumber : Link → ℕ
+sendNumber l = l .send .0 % 8
 
-abbrev pub receiveNumber : Adapter → ℕ
-receiveNumber a = a .link .receive .0 % 8
+abbrev pub receiveNumber : Link → ℕ
+receiveNumber l = l .receive .0 % 8
 
 -- up by one modulo 8
-abbrev pub sendUp : Adapter → Adapter
-sendUp a =
-    withLink a
-    (record {
-      send = record { 0 = (sendNumber a + 1) % 8 };
-      receive = a .link .receive;
-      port = a .link .port;
-      loop0 = a .link .loop0;
-      loop1 = a .link .loop1;
-    })
+abbrev pub sendUp : Link → Link
+sendUp l =
+    record {
+      send = record { 0 = (sendNumber l + 1) % 8 };
+      receive = l .receive;
+      port = l .port;
+      primary = l .primary;
+      auxiliary = l .auxiliary;
+    }
 
-abbrev pub receiveUp : Adapter → Adapter
-receiveUp a =
-    withLink a
-    (record {
-      send = a .link .send;
-      receive = record { 0 = (receiveNumber a + 1) % 8 };
-      port = a .link .port;
-      loop0 = a .link .loop0;
-      loop1 = a .link .loop1;
-    })
+abbrev pub receiveUp : Link → Link
+receiveUp l =
+    record {
+      send = l .send;
+      receive = record { 0 = (receiveNumber l + 1) % 8 };
+      port = l .port;
+      primary = l .primary;
+      auxiliary = l .auxiliary;
+    }
 
 -- ---- the control field
 
@@ -48,38 +46,40 @@ abbrev pub packed : ℕ → ℕ → ℕ
 packed send receive = 2 * send + 32 * receive
 
 -- a reply's or an interrupt's
-abbrev pub replyControl : Adapter → ℕ
-replyControl a = packed (sendNumber a) (receiveNumber a)
+abbrev pub replyControl : Link → ℕ
+replyControl l = packed (sendNumber l) (receiveNumber l)
 
 -- SREJ's: 0x0D plus 32 times the receive number
-abbrev pub rejectControl : Adapter → ℕ
-rejectControl a = 0x0D + 32 * receiveNumber a
+abbrev pub rejectControl : Link → ℕ
+rejectControl l = 0x0D + 32 * receiveNumber l
 
 -- an acknowledgement's: 0x63, or 0x73 when bit 4 of the command was set
 abbrev pub acknowledgeControl : ℕ → ℕ
 acknowledgeControl control = cond (bitOf control 4) 0x73 0x63
 
--- ---- the commands
+-- ---- the ports: 0 primary, 1 auxiliary
 
--- CONNECT makes its port active, zeroes both numbers and ends loopback on both ports.
-abbrev pub connected : Adapter → ℕ → Adapter
-connected a port = withLink a (freshLink port)
+abbrev pub looping : Port
+looping = record { loopback = true }
 
--- RESET does the same and sets all registers and the SEU counter to power-on; the ID stays.
-abbrev pub reset : Adapter → ℕ → Adapter
-reset a port = poweredOn port (a .id)
+abbrev pub notLooping : Port
+notLooping = record { loopback = false }
 
--- TEST puts its own port in loopback.
-abbrev pub looped : Adapter → ℕ → Adapter
-looped a port =
-    withLink a
-    (record {
-      send = a .link .send;
-      receive = a .link .receive;
-      port = a .link .port;
-      loop0 = cond (eqb port 0) true (a .link .loop0);
-      loop1 = cond (eqb port 0) (a .link .loop1) true;
-    })
+-- this port active, both numbers 0, no loopback on either port
+abbrev pub freshLink : ℕ → Link
+freshLink port =
+    record { send = record { 0 = 0 }; receive = record { 0 = 0 }; port = port; primary = notLooping; auxiliary = notLooping }
 
-abbrev pub inLoopback : Adapter → ℕ → Bool
-inLoopback a port = cond (eqb port 0) (a .link .loop0) (a .link .loop1)
+-- this port in loopback, the other as it was
+abbrev pub loopedAt : Link → ℕ → Link
+loopedAt l port =
+    record {
+      send = l .send;
+      receive = l .receive;
+      port = l .port;
+      primary = cond (eqb port 0) looping (l .primary);
+      auxiliary = cond (eqb port 0) (l .auxiliary) looping;
+    }
+
+abbrev pub inLoopback : Link → ℕ → Bool
+inLoopback l port = cond (eqb port 0) (l .primary .loopback) (l .auxiliary .loopback)

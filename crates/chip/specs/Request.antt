@@ -1,5 +1,5 @@
 -- A request's information, what answers it, and the reply's body.
-use Prim.Native.Nat.{ℕ, _+_, _*_, _/_, _%_, _^_}
+use Prim.Native.Nat.{ℕ, _*_, _/_, _%_, _^_}
 use mathlib.Core.Bool.{_||_, cond}
 use mathlib.Core.List.{List, [], _∷_}
 use lib.Dec.{eqb}
@@ -18,19 +18,15 @@ use Rattle.registers.specs.Seu.{seuAnswer}
 use Rattle.registers.specs.ChipId.{idAnswer}
 use Rattle.registers.specs.Dac.{dacAnswer}
 use Rattle.numbers.specs.Numbers.{noFrame}
+use Rattle.parts.specs.Words.{word}
 use Rattle.chip.specs.Numbers.{address, noTransaction, interruptTransaction}
-use Rattle.chip.specs.State.{withControl, withSpi, withGpio, withDac, withSeu}
-use Rattle.chip.specs.Answer.{sends, gives}
+use Rattle.chip.specs.State.{withLink, withControl, withSpi, withGpio, withDac, withSeu}
+use Rattle.chip.specs.Answer.{Reaction, sends, gives}
 use Rattle.chip.specs.Link.{replyControl, sendUp}
 use Rattle.chip.specs.declared.Adapter.{Adapter}
-use Rattle.chip.specs.declared.Reaction.{Reaction}
 use Rattle.chip.specs.declared.request.Answered.{Answered}
 
 -- ---- the information
-
--- four bytes as a number, the lowest first
-abbrev pub fourBytes : ℕ → ℕ → ℕ → ℕ → ℕ
-fourBytes b0 b1 b2 b3 = b0 + 0x100 * b1 + 0x10000 * b2 + 0x1000000 * b3
 
 -- TRN, CH, LEN, CMD, D[23:16], D[31:24], D[7:0], D[15:8]
 abbrev pub requestOf : List ℕ → Request
@@ -40,7 +36,7 @@ requestOf info =
       ch = getD info 1 0;
       len = getD info 2 0;
       cmd = getD info 3 0;
-      value = fourBytes (getD info 6 0) (getD info 7 0) (getD info 4 0) (getD info 5 0);
+      value = word (getD info 6 0) (getD info 7 0) (getD info 4 0) (getD info 5 0);
     }
 
 -- byte k of D: D[7:0], D[15:8], D[23:16], D[31:24]
@@ -79,7 +75,8 @@ answered a q =
 
 -- A reply or an interrupt leaves on the active port; the send number then goes up by one modulo 8.
 unfoldable pub replies : Adapter → ℕ → ℕ → ℕ → ℕ → ℕ → Reaction
-replies a trn ch err len d = sends (sendUp a) (a .link .port) (replyBody (replyControl a) trn ch err len d)
+replies a trn ch err len d =
+    sends (withLink a (sendUp (a .link))) (a .link .port) (replyBody (replyControl (a .link)) trn ch err len d)
 
 -- A reply that is sent is number 0, one that comes later is 17; TRN and CH are the request's.
 abbrev pub finished : Adapter → ℕ → ℕ → Reply → Reaction

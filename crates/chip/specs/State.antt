@@ -1,6 +1,6 @@
 -- The chip's state: at power-on, in range, and with one part of it anew.
 use Prim.Native.Nat.{ℕ}
-use mathlib.Core.Bool.{Bool, false, _&&_, _||_, cond}
+use mathlib.Core.Bool.{Bool, _&&_, _||_, cond}
 use lib.Dec.{leb}
 use Rattle.registers.specs.declared.controller.Control.{Control}
 use Rattle.registers.specs.declared.spi.Spi.{Spi}
@@ -10,12 +10,10 @@ use Rattle.registers.specs.Controller.{controlZero, controlInRange, spiEnabled,
 use Rattle.registers.specs.Spi.{spiZero, spiIsZero}
 use Rattle.registers.specs.Gpio.{gpioZero, gpioIsZero}
 use Rattle.registers.specs.Dac.{dacZero}
+use Rattle.numbers.specs.Numbers.{idMost}
+use Rattle.chip.specs.Link.{freshLink}
 use Rattle.chip.specs.declared.Adapter.{Adapter}
 use Rattle.chip.specs.declared.link.Link.{Link}
-
--- both numbers 0, no loopback
-abbrev pub freshLink : ℕ → Link
-freshLink port = record { send = record { 0 = 0 }; receive = record { 0 = 0 }; port = port; loop0 = false; loop1 = false }
 
 -- Power-on with a port active: all registers, the SEU counter and the numbers 0, no loopback; the chip ID as given.
 unfoldable pub poweredOn : ℕ → ℕ → Adapter
@@ -43,7 +41,7 @@ inRange a =
     -- port over 1
     && leb (a .link .port) 1
     -- ID over 24 bits
-    && leb (a .id) 0xFFFFFF
+    && leb (a .id) idMost
     -- a set bit that reads 0
     && controlInRange (a .control)
     -- a disabled SPI register not 0, a GO open with SPI disabled

@@ -1,15 +1,16 @@
 // The four events, each as one step of the chip.
 ghost use mathlib.Core.Path.{_≡_};
-ghost use Prim.Native.Nat.{_+_, _≤_, _<_};
+ghost use Prim.Native.Nat.{_≤_};
 ghost use lib.ListN.{length};
-ghost use Rattle.chip.specs.Event.{Event, frame, completion, sample, upset};
-ghost use Rattle.chip.specs.Chip.{receivedWord, receivedWords, reaction, acceptedReset};
+ghost use Rattle.numbers.specs.Numbers.{bodyLeast, bodyMost, outputLeast, transferBytes};
+ghost use Rattle.chip.specs.Event.{Completion, Event};
+ghost use Rattle.chip.specs.Answer.{response, said, says};
+ghost use Rattle.chip.specs.Chip.{reaction, acceptedReset};
 use crate::Adapter;
-use crate::Reaction;
+use crate::Response;
 use crate::answer;
 use crate::frame;
 use crate::request;
-use crate::request::four_bytes;
 use registers::controller;
 use registers::gpio;
 use registers::spi;
@@ -22,67 +23,45 @@ const GPIO_CHANNEL: u8 = 0x02;
 const INTERRUPT_LENGTH: u8 = 4;
 
 // A frame body on a port.
-pub fn on_frame(a: Adapter, port: u8, body: &[u8]) -> Reaction
-    requires { ⌜ (2 ≤ length (now body)) × (length (now body) ≤ 16) ⌝ }
-    ensures { λ r. ⌜ r ≡ reaction a (Event.frame port (now (body .entry))) ⌝ }
+pub fn on_frame(a: Adapter, port: u8, body: &[u8], output: &mut [u8]) -> Response
+    requires { ⌜ (bodyLeast ≤ length (now body)) × (length (now body) ≤ bodyMost) ⌝ }
+    requires { ⌜ outputLeast ≤ length (now output) ⌝ }
+    ensures { λ r. ⌜ said r (now (output .exit)) ≡ says (reaction a (Event.frame port (now (body .entry)))) (now (output .entry)) ⌝ }
 {
-    frame::check(a, port, body)
+    frame::check(a, port, body, output)
 }
 
 // Whether a frame body is a RESET that every state accepts.
 pub fn is_reset(body: &[u8]) -> bool
-    requires { ⌜ 2 ≤ length (now body) ⌝ }
+    requires { ⌜ bodyLeast ≤ length (now body) ⌝ }
     ensures { λ r. ⌜ r ≡ acceptedReset (Event.frame 0 (now (body .entry))) ⌝ }
 {
     frame::resets(body)
 }
 
-// 32 of the received bits, from byte k up.
-fn received_word(received: &[u8], k: usize) -> u32
-    requires { ⌜ k + 3 < length (now received) ⌝ }
-    ensures { λ r. ⌜ r ≡ receivedWord (now (received .entry)) k ⌝ }
-{
-    four_bytes(
-        received[k],
-        received[k + 1],
-        received[k + 2],
-        received[k + 3],
-    )
-}
-
-// All 128, byte 0 holding bits 7 to 0.
-fn received_words(received: &[u8]) -> [u32; 4]
-    requires { ⌜ length (now received) ≡ 16 ⌝ }
-    ensures { λ r. ⌜ r ≡ receivedWords (now (received .entry)) ⌝ }
-{
-    let w0 = received_word(received, 0);
-    let w1 = received_word(received, 4);
-    let w2 = received_word(received, 8);
-    let w3 = received_word(received, 12);
-    [w0, w1, w2, w3]
-}
-
 // An SPI completion with 16 received bytes.
-pub fn on_completion(a: Adapter, received: &[u8]) -> Reaction
-    requires { ⌜ length (now received) ≡ 16 ⌝ }
-    ensures { λ r. ⌜ r ≡ reaction a (Event.completion (now (received .entry))) ⌝ }
+pub fn on_spi(a: Adapter, received: &[u8], output: &mut [u8]) -> Response
+    requires { ⌜ length (now received) ≡ transferBytes ⌝ }
+    requires { ⌜ outputLeast ≤ length (now output) ⌝ }
+    ensures { λ r. ⌜ said r (now (output .exit)) ≡ says (reaction a (Event.completion (Completion.spi (now (received .entry))))) (now (output .entry)) ⌝ }
 {
     let s = a.spi;
     let go = s.go;
     if go == 0 {
         return answer::give(a, numbers::NOT_BUSY);
     }
-    let x = spi::completed(s, received_words(received));
-    let mut b = a;
+    let mut words = [0u32; 4];
+    parts::load_words(received, &mut words);
+    let x = spi::completed(s, words);
     let after = x.spi;
-    b.spi = after;
     let told = x.reply;
-    request::finish(b, go, SPI_CHANNEL, told)
+    request::finish(Adapter { spi: after, ..a }, go, SPI_CHANNEL, told, output)
 }
 
 // A pin sample with 32 levels and an edge kind.
-pub fn on_sample(a: Adapter, levels: u32, kind: u8) -> Reaction
-    ensures { λ r. ⌜ r ≡ reaction a (Event.sample levels kind) ⌝ }
+pub fn on_sample(a: Adapter, levels: u32, kind: u8, output: &mut [u8]) -> Response
+    requires { ⌜ outputLeast ≤ length (now output) ⌝ }
+    ensures { λ r. ⌜ said r (now (output .exit)) ≡ says (reaction a (Event.sample levels kind)) (now (output .entry)) ⌝ }
 {
     let control = a.control;
     if controller::gpio_enabled(control) {
@@ -99,6 +78,7 @@ pub fn on_sample(a: Adapter, levels: u32, kind: u8) -> Reaction
                 0,
                 INTERRUPT_LENGTH,
                 after.ints,
+                output,
             )
         } else {
             answer::give(b, numbers::NO_FRAME)
@@ -108,9 +88,9 @@ pub fn on_sample(a: Adapter, levels: u32, kind: u8) -> Reaction
     }
 }
 
-// An upset: a 32-bit counter that wraps to 0.
-pub fn on_upset(a: Adapter) -> Reaction
-    ensures { λ r. ⌜ r ≡ reaction a Event.upset ⌝ }
+// An upset: a 32-bit counter that wraps to 0. No frame is ever sent.
+pub fn on_upset(a: Adapter) -> Response
+    ensures { λ r. ⌜ r ≡ response (reaction a Event.upset) ⌝ }
 {
     let mut b = a;
     b.seu = std::num::wrapping_add_u32(a.seu, 1);

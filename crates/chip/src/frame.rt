@@ -2,9 +2,11 @@
 ghost use mathlib.Core.Path.{_≡_};
 ghost use Prim.Native.Nat.{_≤_};
 ghost use lib.ListN.{length};
-ghost use Rattle.chip.specs.Frame.{isConnect, isReset, isResetFrame, isTest, commanded, numbered, carried, onFrame};
+ghost use Rattle.numbers.specs.Numbers.{bodyLeast, bodyMost, outputLeast};
+ghost use Rattle.chip.specs.Answer.{said, says};
+ghost use Rattle.chip.specs.Frame.{isConnect, isReset, isResetFrame, isTest, connected, looped, commanded, numbered, carried, addressed, onFrame};
 use crate::Adapter;
-use crate::Reaction;
+use crate::Response;
 use crate::answer;
 use crate::link;
 use crate::request;
@@ -61,7 +63,7 @@ fn is_test(control: u8) -> bool
 
 // A body that is RESET: the chip's address, RESET's control, no information.
 pub(crate) fn resets(body: &[u8]) -> bool
-    requires { ⌜ 2 ≤ length (now body) ⌝ }
+    requires { ⌜ bodyLeast ≤ length (now body) ⌝ }
     ensures { λ r. ⌜ r ≡ isResetFrame (now (body .entry)) ⌝ }
 {
     if body[0] != link::ADDRESS {
@@ -74,69 +76,103 @@ pub(crate) fn resets(body: &[u8]) -> bool
     }
 }
 
+// CONNECT's state.
+fn connect(a: Adapter, port: u8) -> Adapter
+    ensures { λ r. ⌜ r ≡ connected a port ⌝ }
+{
+    let link = link::fresh(port);
+    Adapter { link: link, ..a }
+}
+
+// TEST's state.
+fn loop_back(a: Adapter, port: u8) -> Adapter
+    ensures { λ r. ⌜ r ≡ looped a port ⌝ }
+{
+    let link = a.link;
+    let looped = link::loop_back(link, port);
+    Adapter { link: looped, ..a }
+}
+
 // A command on state a that leaves b, unless it carries information.
-fn command(a: Adapter, b: Adapter, port: u8, body: &[u8]) -> Reaction
-    requires { ⌜ 2 ≤ length (now body) ⌝ }
-    ensures { λ r. ⌜ r ≡ commanded a b port (now (body .entry)) ⌝ }
+fn command(a: Adapter, b: Adapter, port: u8, body: &[u8], output: &mut [u8]) -> Response
+    requires { ⌜ bodyLeast ≤ length (now body) ⌝ }
+    requires { ⌜ outputLeast ≤ length (now output) ⌝ }
+    ensures { λ r. ⌜ said r (now (output .exit)) ≡ says (commanded a b port (now (body .entry))) (now (output .entry)) ⌝ }
 {
     if body.len() == 2 {
         let acknowledgement = [link::ADDRESS, link::acknowledge_control(body[1])];
-        answer::send(b, port, &acknowledgement)
+        answer::send(b, port, &acknowledgement, output)
     } else {
-        answer::give(a, numbers::WRONG_LENGTH)
+        answer::give(a, numbers::BAD_INFORMATION)
     }
 }
 
 // Checks 7 and 8.
-fn in_order(a: Adapter, port: u8, control: u8, info: &[u8]) -> Reaction
+fn in_order(a: Adapter, port: u8, control: u8, info: &[u8], output: &mut [u8]) -> Response
     requires { ⌜ length (now info) ≡ 8 ⌝ }
-    ensures { λ r. ⌜ r ≡ numbered a port control (now (info .entry)) ⌝ }
+    requires { ⌜ outputLeast ≤ length (now output) ⌝ }
+    ensures { λ r. ⌜ said r (now (output .exit)) ≡ says (numbered a port control (now (info .entry))) (now (output .entry)) ⌝ }
 {
-    if link::number_in(control) == link::receive_number(a) {
-        request::request(link::receive_up(a), info)
+    let link = a.link;
+    if link::number_in(control) == link::receive_number(link) {
+        let counted = link::receive_up(link);
+        let after = Adapter { link: counted, ..a };
+        request::request(after, info, output)
     } else {
-        let reject = [link::ADDRESS, link::reject_control(a)];
-        answer::send(a, port, &reject)
+        let reject = [link::ADDRESS, link::reject_control(link)];
+        answer::send(a, port, &reject, output)
     }
 }
 
 // Checks 4 to 8.
-fn carry(a: Adapter, port: u8, body: &[u8]) -> Reaction
-    requires { ⌜ (2 ≤ length (now body)) × (length (now body) ≤ 16) ⌝ }
-    ensures { λ r. ⌜ r ≡ carried a port (now (body .entry)) ⌝ }
+fn carry(a: Adapter, port: u8, body: &[u8], output: &mut [u8]) -> Response
+    requires { ⌜ (bodyLeast ≤ length (now body)) × (length (now body) ≤ bodyMost) ⌝ }
+    requires { ⌜ outputLeast ≤ length (now output) ⌝ }
+    ensures { λ r. ⌜ said r (now (output .exit)) ≡ says (carried a port (now (body .entry))) (now (output .entry)) ⌝ }
 {
-    if link::in_loopback(a, port) {
-        return answer::send(a, port, body);
+    let link = a.link;
+    if link::in_loopback(link, port) {
+        return answer::send(a, port, body, output);
     }
-    if port != a.link.port {
+    if port != link.port {
         return answer::give(a, numbers::OTHER_PORT);
     }
     if body.len() - 2 != INFORMATION {
-        return answer::give(a, numbers::WRONG_LENGTH);
+        return answer::give(a, numbers::BAD_INFORMATION);
     }
-    in_order(a, port, body[1], &body[2..])
+    in_order(a, port, body[1], &body[2..], output)
 }
 
-// Checks 1 to 8.
-pub(crate) fn check(a: Adapter, port: u8, body: &[u8]) -> Reaction
-    requires { ⌜ (2 ≤ length (now body)) × (length (now body) ≤ 16) ⌝ }
-    ensures { λ r. ⌜ r ≡ onFrame a port (now (body .entry)) ⌝ }
+// Checks 2 to 8.
+fn check_control(a: Adapter, port: u8, body: &[u8], output: &mut [u8]) -> Response
+    requires { ⌜ (bodyLeast ≤ length (now body)) × (length (now body) ≤ bodyMost) ⌝ }
+    requires { ⌜ outputLeast ≤ length (now output) ⌝ }
+    ensures { λ r. ⌜ said r (now (output .exit)) ≡ says (addressed a port (now (body .entry))) (now (output .entry)) ⌝ }
 {
-    if body[0] != link::ADDRESS {
-        return answer::give(a, numbers::OTHER_ADDRESS);
-    }
     let control = body[1];
     if is_connect(control) {
-        return command(a, link::connect(a, port), port, body);
+        return command(a, connect(a, port), port, body, output);
     }
     if is_reset(control) {
-        return command(a, state::reset_of(a, port), port, body);
+        return command(a, state::reset_of(a, port), port, body, output);
     }
     if is_test(control) {
-        return command(a, link::loop_back(a, port), port, body);
+        return command(a, loop_back(a, port), port, body, output);
     }
     if control & UNNUMBERED != 0 {
         return answer::give(a, numbers::OTHER_CONTROL);
     }
-    carry(a, port, body)
+    carry(a, port, body, output)
+}
+
+// Checks 1 to 8.
+pub(crate) fn check(a: Adapter, port: u8, body: &[u8], output: &mut [u8]) -> Response
+    requires { ⌜ (bodyLeast ≤ length (now body)) × (length (now body) ≤ bodyMost) ⌝ }
+    requires { ⌜ outputLeast ≤ length (now output) ⌝ }
+    ensures { λ r. ⌜ said r (now (output .exit)) ≡ says (onFrame a port (now (body .entry))) (now (output .entry)) ⌝ }
+{
+    if body[0] != link::ADDRESS {
+        return answer::give(a, numbers::OTHER_ADDRESS);
+    }
+    check_control(a, port, body, output)
 }

@@ -1,4 +1,4 @@
-// The chip as a pure machine: its whole state by value, and what each event makes of it.
+// The chip as a machine: its whole state by value, what each event makes of it, and its frame laid into the output that it is lent.
 mod answer;
 pub mod events;
 mod frame;
@@ -22,11 +22,10 @@ pub struct Adapter {
     pub id: u32,
 }
 
-// What an event gives: the state after it, document 01's number, and the frame that is sent with number 0.
-pub struct Reaction {
+// What a call gives: the state after it, document 01's number, and with number 0 the port and the length of the frame in the output.
+pub struct Response {
     pub adapter: Adapter,
     pub number: u8,
     pub port: u8,
     pub length: u8,
-    pub body: [u8; 16],
 }

@@ -1,21 +1,25 @@
-// The link: its numbers, its active port, the ports in loopback, its control field and commands.
+// The link alone: its numbers, its control field, its active port and what belongs to each port.
 ghost use Prim.Native.Nat.{_%_};
 ghost use mathlib.Core.Path.{_≡_};
-ghost use Rattle.chip.specs.State.{freshLink};
-ghost use Rattle.chip.specs.Link.{sendUp, receiveUp, receiveNumber, numberIn, packed, replyControl, rejectControl, acknowledgeControl, connected, looped, inLoopback};
-use crate::Adapter;
+ghost use Rattle.chip.specs.Link.{sendUp, receiveUp, receiveNumber, numberIn, packed, replyControl, rejectControl, acknowledgeControl, freshLink, loopedAt, inLoopback};
 
 // Two types, so that a reply's control cannot take one number for the other.
 pub struct SendNumber(pub u8);
 
 pub struct ReceiveNumber(pub u8);
 
+// What belongs to one port.
+pub struct Port {
+    pub loopback: bool,
+}
+
+// The two numbers, the active port, and the two ports.
 pub struct Link {
     pub send: SendNumber,
     pub receive: ReceiveNumber,
     pub port: u8,
-    pub loop0: bool,
-    pub loop1: bool,
+    pub primary: Port,
+    pub auxiliary: Port,
 }
 
 // The chip's address.
@@ -41,28 +45,28 @@ const ACKNOWLEDGE_FINAL: u8 = 0x73;
 
 const POLL: u8 = 0x10;
 
-pub(crate) fn send_up(a: Adapter) -> Adapter
-    ensures { λ r. ⌜ r ≡ sendUp a ⌝ }
+pub(crate) fn send_up(l: Link) -> Link
+    ensures { λ r. ⌜ r ≡ sendUp l ⌝ }
 {
-    let mut b = a;
-    let next = (a.link.send.0 % NUMBERS + 1) % NUMBERS;
-    b.link.send.0 = next;
+    let mut b = l;
+    let next = (l.send.0 % NUMBERS + 1) % NUMBERS;
+    b.send.0 = next;
     b
 }
 
-pub(crate) fn receive_up(a: Adapter) -> Adapter
-    ensures { λ r. ⌜ r ≡ receiveUp a ⌝ }
+pub(crate) fn receive_up(l: Link) -> Link
+    ensures { λ r. ⌜ r ≡ receiveUp l ⌝ }
 {
-    let mut b = a;
-    let next = (a.link.receive.0 % NUMBERS + 1) % NUMBERS;
-    b.link.receive.0 = next;
+    let mut b = l;
+    let next = (l.receive.0 % NUMBERS + 1) % NUMBERS;
+    b.receive.0 = next;
     b
 }
 
-pub(crate) fn receive_number(a: Adapter) -> u8
-    ensures { λ r. ⌜ r ≡ receiveNumber a ⌝ }
+pub(crate) fn receive_number(l: Link) -> u8
+    ensures { λ r. ⌜ r ≡ receiveNumber l ⌝ }
 {
-    a.link.receive.0 % NUMBERS
+    l.receive.0 % NUMBERS
 }
 
 // Bits 3 to 1 of an incoming control.
@@ -79,18 +83,18 @@ fn control_of(send: SendNumber, receive: ReceiveNumber) -> u8
     ((send.0 & NUMBER_MASK) << SEND_SHIFT) | ((receive.0 & NUMBER_MASK) << RECEIVE_SHIFT)
 }
 
-pub(crate) fn reply_control(a: Adapter) -> u8
-    ensures { λ r. ⌜ r ≡ replyControl a ⌝ }
+pub(crate) fn reply_control(l: Link) -> u8
+    ensures { λ r. ⌜ r ≡ replyControl l ⌝ }
 {
-    let send = a.link.send;
-    let receive = a.link.receive;
+    let send = l.send;
+    let receive = l.receive;
     control_of(send, receive)
 }
 
-pub(crate) fn reject_control(a: Adapter) -> u8
-    ensures { λ r. ⌜ r ≡ rejectControl a ⌝ }
+pub(crate) fn reject_control(l: Link) -> u8
+    ensures { λ r. ⌜ r ≡ rejectControl l ⌝ }
 {
-    REJECT | ((a.link.receive.0 & NUMBER_MASK) << RECEIVE_SHIFT)
+    REJECT | ((l.receive.0 & NUMBER_MASK) << RECEIVE_SHIFT)
 }
 
 pub(crate) fn acknowledge_control(control: u8) -> u8
@@ -103,7 +107,7 @@ pub(crate) fn acknowledge_control(control: u8) -> u8
     }
 }
 
-// Both numbers 0, no loopback.
+// This port active, both numbers 0, no loopback on either port.
 pub(crate) fn fresh(port: u8) -> Link
     ensures { λ r. ⌜ r ≡ freshLink port ⌝ }
 {
@@ -111,37 +115,29 @@ pub(crate) fn fresh(port: u8) -> Link
         send: SendNumber(0),
         receive: ReceiveNumber(0),
         port: port,
-        loop0: false,
-        loop1: false,
+        primary: Port { loopback: false },
+        auxiliary: Port { loopback: false },
     }
 }
 
-pub(crate) fn connect(a: Adapter, port: u8) -> Adapter
-    ensures { λ r. ⌜ r ≡ connected a port ⌝ }
+pub(crate) fn loop_back(l: Link, port: u8) -> Link
+    ensures { λ r. ⌜ r ≡ loopedAt l port ⌝ }
 {
-    let mut b = a;
-    b.link = fresh(port);
-    b
-}
-
-pub(crate) fn loop_back(a: Adapter, port: u8) -> Adapter
-    ensures { λ r. ⌜ r ≡ looped a port ⌝ }
-{
-    let mut b = a;
+    let mut b = l;
     if port == 0 {
-        b.link.loop0 = true;
+        b.primary.loopback = true;
     } else {
-        b.link.loop1 = true;
+        b.auxiliary.loopback = true;
     }
     b
 }
 
-pub(crate) fn in_loopback(a: Adapter, port: u8) -> bool
-    ensures { λ r. ⌜ r ≡ inLoopback a port ⌝ }
+pub(crate) fn in_loopback(l: Link, port: u8) -> bool
+    ensures { λ r. ⌜ r ≡ inLoopback l port ⌝ }
 {
     if port == 0 {
-        a.link.loop0
+        l.primary.loopback
     } else {
-        a.link.loop1
+        l.auxiliary.loopback
     }
 }

@@ -1,11 +1,13 @@
 // A request's information, what answers it, and the reply's body.
 ghost use mathlib.Core.Path.{_≡_};
-ghost use Prim.Native.Nat.{_+_, _*_, _<_};
+ghost use Prim.Native.Nat.{_≤_, _<_};
 ghost use lib.ListN.{length};
+ghost use Rattle.numbers.specs.Numbers.{outputLeast};
 ghost use Rattle.chip.specs.State.{withControl};
-ghost use Rattle.chip.specs.Request.{fourBytes, requestOf, byteOf, onChannel, answered, replies, finished, requested};
+ghost use Rattle.chip.specs.Answer.{said, says};
+ghost use Rattle.chip.specs.Request.{requestOf, byteOf, onChannel, answered, replyBody, replies, finished, requested};
 use crate::Adapter;
-use crate::Reaction;
+use crate::Response;
 use crate::answer;
 use crate::link;
 use commands::channel;
@@ -34,25 +36,11 @@ pub struct Answered {
     pub reply: Reply,
 }
 
-// A byte as a number of 32 bits.
-fn wide(x: u8) -> u32
-    ensures { λ r. ⌜ (r ≡ x) × (r < 256) ⌝ }
-{
-    x as u32
-}
-
-// Four bytes as a number, the lowest first.
-pub(crate) fn four_bytes(b0: u8, b1: u8, b2: u8, b3: u8) -> u32
-    ensures { λ r. ⌜ r ≡ fourBytes b0 b1 b2 b3 ⌝ }
-{
-    wide(b0) + 0x100 * wide(b1) + 0x10000 * wide(b2) + 0x1000000 * wide(b3)
-}
-
 fn request_of(info: &[u8]) -> Request
     requires { ⌜ length (now info) ≡ 8 ⌝ }
     ensures { λ r. ⌜ r ≡ requestOf (now (info .entry)) ⌝ }
 {
-    let value = four_bytes(info[6], info[7], info[4], info[5]);
+    let value = parts::word_of(info[6], info[7], info[4], info[5]);
     Request {
         trn: info[0],
         ch: info[1],
@@ -174,13 +162,13 @@ fn byte_of(value: u32, k: u32) -> u8
     ((value >> (8 * k)) & 0xFF) as u8
 }
 
-// A reply or an interrupt, on the active port.
-pub(crate) fn reply(a: Adapter, trn: u8, ch: u8, err: u8, len: u8, value: u32) -> Reaction
-    ensures { λ r. ⌜ r ≡ replies a trn ch err len value ⌝ }
+// The body of a reply or an interrupt, D in the wire's order.
+fn reply_body(control: u8, trn: u8, ch: u8, err: u8, len: u8, value: u32) -> [u8; 10]
+    ensures { λ r. ⌜ r ≡ replyBody control trn ch err len value ⌝ }
 {
-    let body = [
+    [
         link::ADDRESS,
-        link::reply_control(a),
+        control,
         trn,
         ch,
         err,
@@ -189,31 +177,52 @@ pub(crate) fn reply(a: Adapter, trn: u8, ch: u8, err: u8, len: u8, value: u32) -
         byte_of(value, 3),
         byte_of(value, 0),
         byte_of(value, 1),
-    ];
-    answer::send(link::send_up(a), a.link.port, &body)
+    ]
+}
+
+// A reply or an interrupt, on the active port; the send number then goes up.
+pub(crate) fn reply(
+    a: Adapter,
+    trn: u8,
+    ch: u8,
+    err: u8,
+    len: u8,
+    value: u32,
+    output: &mut [u8],
+) -> Response
+    requires { ⌜ outputLeast ≤ length (now output) ⌝ }
+    ensures { λ r. ⌜ said r (now (output .exit)) ≡ says (replies a trn ch err len value) (now (output .entry)) ⌝ }
+{
+    let link = a.link;
+    let body = reply_body(link::reply_control(link), trn, ch, err, len, value);
+    let raised = link::send_up(link);
+    let after = Adapter { link: raised, ..a };
+    answer::send(after, link.port, &body, output)
 }
 
 // A reply that is sent, or none yet.
-pub(crate) fn finish(a: Adapter, trn: u8, ch: u8, told: Reply) -> Reaction
-    ensures { λ r. ⌜ r ≡ finished a trn ch told ⌝ }
+pub(crate) fn finish(a: Adapter, trn: u8, ch: u8, told: Reply, output: &mut [u8]) -> Response
+    requires { ⌜ outputLeast ≤ length (now output) ⌝ }
+    ensures { λ r. ⌜ said r (now (output .exit)) ≡ says (finished a trn ch told) (now (output .entry)) ⌝ }
 {
     match told {
         Reply::Sent {
             error,
             length,
             value,
-        } => reply(a, trn, ch, error, length, value),
+        } => reply(a, trn, ch, error, length, value, output),
         Reply::Later => answer::give(a, numbers::NO_FRAME),
     }
 }
 
-pub(crate) fn request(a: Adapter, info: &[u8]) -> Reaction
+pub(crate) fn request(a: Adapter, info: &[u8], output: &mut [u8]) -> Response
     requires { ⌜ length (now info) ≡ 8 ⌝ }
-    ensures { λ r. ⌜ r ≡ requested a (now (info .entry)) ⌝ }
+    requires { ⌜ outputLeast ≤ length (now output) ⌝ }
+    ensures { λ r. ⌜ said r (now (output .exit)) ≡ says (requested a (now (info .entry))) (now (output .entry)) ⌝ }
 {
     let q = request_of(info);
     let x = answer_to(a, q);
     let after = x.adapter;
     let told = x.reply;
-    finish(after, q.trn, q.ch, told)
+    finish(after, q.trn, q.ch, told, output)
 }

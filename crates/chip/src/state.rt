@@ -5,7 +5,7 @@ ghost use Rattle.registers.specs.Controller.{spiEnabled, gpioEnabled};
 ghost use Rattle.registers.specs.Spi.{spiIsZero};
 ghost use Rattle.registers.specs.Gpio.{gpioIsZero};
 ghost use Rattle.chip.specs.State.{poweredOn, powerOn, inRange};
-ghost use Rattle.chip.specs.Link.{reset};
+ghost use Rattle.chip.specs.Frame.{reset};
 use crate::Adapter;
 use crate::link;
 use registers::controller;
@@ -19,8 +19,6 @@ use registers::spi::Spi;
 const LAST_NUMBER: u8 = 7;
 
 const LAST_PORT: u8 = 1;
-
-const LAST_ID: u32 = 0xFFFFFF;
 
 // Power-on with a port active.
 fn powered_on(port: u8, id: u32) -> Adapter
@@ -81,6 +79,6 @@ pub fn in_range(a: Adapter) -> bool
     let s = a.spi;
     let g = a.gpio;
     let numbers = (a.link.send.0 <= LAST_NUMBER) & (a.link.receive.0 <= LAST_NUMBER);
-    let values = numbers & (a.link.port <= LAST_PORT) & (a.id <= LAST_ID);
+    let values = numbers & (a.link.port <= LAST_PORT) & (a.id <= numbers::ID_MOST);
     values & controller::in_range(c) & spi_fits(c, s) & gpio_fits(c, g)
 }

@@ -5,10 +5,12 @@
 mod print;
 mod requests;
 
-use chip::events;
 use chip::state;
 use requests::ask;
-use requests::show;
+use requests::completion;
+use requests::frame;
+use requests::sample;
+use requests::upset;
 
 // The controller is always enabled. A register stands in D[31:24], the second byte of data.
 fn controller(a: chip::Adapter) -> chip::Adapter {
@@ -68,9 +70,9 @@ fn spi_transfer(a: chip::Adapter) -> chip::Adapter {
     let a = ask(a, 0x01, 2, 0x01, 0);
     // s 5 r 6: CA. The GO's reply, LEN 6: of 11223344 the low 8 bits become the received 5A. DATA[31:0] is 1122335A: 22 11 5A 33.
     let received = [0x5A, 0xFF, 0, 0, 0, 0, 0, 0, 0, 0, 0, 0, 0, 0, 0, 0];
-    let a = show(events::on_completion(a, &received));
+    let a = completion(a, &received);
     // 15: SPI is not busy any more.
-    show(events::on_completion(a, &received))
+    completion(a, &received)
 }
 
 fn lines(a: chip::Adapter) -> chip::Adapter {
@@ -106,24 +108,24 @@ fn lines(a: chip::Adapter) -> chip::Adapter {
 
 fn samples(a: chip::Adapter) -> chip::Adapter {
     // 17: lines 0 and 1 take 1, line 8 waits for the strobe, line 16 is an output. Line 0 fires, but INTENABLE is 0.
-    let a = show(events::on_sample(a, 0x00010103, 0));
+    let a = sample(a, 0x00010103, 0);
     // s 4 r 5: A8. LEN 4/2. D[0] alone is read.
     let a = ask(a, 0x02, 4, 0x60, 0xFFFFFFFF);
     // s 5 r 6: CA. LEN 1/4. INTENABLE is 1: 00 00 01 00.
     let a = ask(a, 0x02, 1, 0x61, 0);
     // s 6 r 6: CC. Lines 0 and 1 fall, line 1 fires: an interrupt, TRN FF, CH 02, LEN 4. INTS becomes 00000002: 00 00 02 00.
-    let a = show(events::on_sample(a, 0x00000000, 0));
+    let a = sample(a, 0x00000000, 0);
     // s 7 r 7: EE. LEN 1/4. INTS is 00000002: 00 00 02 00.
     let a = ask(a, 0x02, 1, 0x71, 0);
     // 17: the strobe falls, line 8 alone takes 1; INTSEL does not have it.
-    let a = show(events::on_sample(a, 0x00000103, 2));
+    let a = sample(a, 0x00000103, 2);
     // s 0 r 0: 00. LEN 1/4. DATAIN is 00000100: 00 00 00 01.
     ask(a, 0x02, 1, 0x01, 0)
 }
 
 fn upsets_and_id(a: chip::Adapter) -> chip::Adapter {
     // 17: the counter is 1.
-    let a = show(events::on_upset(a));
+    let a = upset(a);
     // s 1 r 1: 22. LEN 4/4. The counter, low byte in D[7:0]: 00 00 01 00.
     let a = ask(a, 0x13, 4, 0xF1, 0);
     // s 2 r 2: 44. LEN 4/2.
@@ -154,15 +156,15 @@ fn outputs(a: chip::Adapter) -> chip::Adapter {
 
 fn link(a: chip::Adapter) -> chip::Adapter {
     // TEST on port 1, bit 4 clear: 00 63. Port 1 is in loopback.
-    let a = show(events::on_frame(a, 1, &[0x00, 0xE3]));
+    let a = frame(a, 1, &[0x00, 0xE3]);
     // Port 1 sends back what it gets, though it is not active and this is no request: 00 02 AB.
-    let a = show(events::on_frame(a, 1, &[0x00, 0x02, 0xAB]));
+    let a = frame(a, 1, &[0x00, 0x02, 0xAB]);
     // CONNECT on port 1, bit 4 set: 00 73. Port 1 is active, s and r are 0, no port is in loopback.
-    let a = show(events::on_frame(a, 1, &[0x00, 0x3F]));
+    let a = frame(a, 1, &[0x00, 0x3F]);
     // 12: port 0 is not active.
     let a = ask(a, 0x00, 2, 0x03, 0);
     // RESET on port 0, bit 4 clear: 00 63. Port 0 is active, s and r are 0, every register is 0.
-    let a = show(events::on_frame(a, 0, &[0x00, 0x8F]));
+    let a = frame(a, 0, &[0x00, 0x8F]);
     // s 0 r 1: 20. LEN 2/4. CRB is 00.
     ask(a, 0x00, 2, 0x03, 0)
 }

@@ -1,6 +1,4 @@
 // An answer as a line of text.
-use chip::Reaction;
-
 const STDOUT: i32 = 1;
 
 fn digit(n: u8) -> u8 {
@@ -14,11 +12,10 @@ fn byte(b: u8) {
 }
 
 // The number in decimal; with a frame, the bytes of its body in hex.
-pub(crate) fn line(r: Reaction) {
-    let number = [digit(r.number / 10 % 10), digit(r.number % 10)];
-    io::write_all(STDOUT, &number);
-    let body = r.body;
-    let length = r.length as usize;
+pub(crate) fn line(number: u8, count: u8, body: [u8; 16]) {
+    let digits = [digit(number / 10 % 10), digit(number % 10)];
+    io::write_all(STDOUT, &digits);
+    let length = count as usize;
     if 0 < length {
         io::write_all(STDOUT, b" ");
     }

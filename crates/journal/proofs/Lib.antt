@@ -1,3 +1,4 @@
+pub mod Formats
 pub mod OneOutcome
 pub mod Record
 pub mod Ring

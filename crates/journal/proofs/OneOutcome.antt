@@ -1,11 +1,9 @@
 -- Any two outcomes that a function's contract allows coincide: the result and every lent byte, for every public function.
 use mathlib.Core.Path.{sym, _∙_}
-use lib.Dec.{lit≤}
 use denote.Ref.{now}
-use Rattle.chip.specs.Event.{upset}
-use Rattle.chip.specs.State.{powerOn}
-use Rattle.chip.proofs.Laws.{power-on-in-range}
 use Rattle.parts.proofs.Outcome.{One}
+use Rattle.journal.proofs.is_wrong_length.Kinds as is-wrong-length-kinds
+use Rattle.journal.proofs.is_wrong_length.Reads as is-wrong-length
 use Rattle.journal.proofs.is_well_formed.Kinds as is-well-formed-kinds
 use Rattle.journal.proofs.is_well_formed.Reads as is-well-formed
 use Rattle.journal.proofs.empty.Kinds as empty-kinds
@@ -27,17 +25,20 @@ use Rattle.journal.proofs.image.state_of.Reads as state-of
 use Rattle.journal.proofs.image.is_spelled.Kinds as is-spelled-kinds
 use Rattle.journal.proofs.image.is_spelled.Reads as is-spelled
 
+pub is-wrong-length-one : One 1 is-wrong-length-kinds.ps is-wrong-length-kinds.r is-wrong-length.Post (λ κs x s. x)
+is-wrong-length-one κs a x y s t p q = p ∙ sym q
+
 pub is-well-formed-one : One 1 is-well-formed-kinds.ps is-well-formed-kinds.r is-well-formed.Post (λ κs x s. x)
 is-well-formed-one κs a x y s t p q = p ∙ sym q
 
 pub empty-one : One 1 empty-kinds.ps empty-kinds.r empty.Post (λ κs x s. now (s .0))
 empty-one κs a x y s t p q = p ∙ sym q
 
-pub push-one : One 1 push-kinds.ps push-kinds.r push.Post (λ κs x s. now (s .0))
-push-one κs a x y s t p q = p upset ∙ sym (q upset)
+pub push-one : One 2 push-kinds.ps push-kinds.r push.Post (λ κs x s. now (s .0))
+push-one κs a x y s t p q = p ∙ sym q
 
 pub is-sound-one : One 1 is-sound-kinds.ps is-sound-kinds.r is-sound.Post (λ κs x s. x)
-is-sound-one κs a x y s t p q = p (powerOn 0) (power-on-in-range 0 (lit≤ tt)) ∙ sym (q (powerOn 0) (power-on-in-range 0 (lit≤ tt)))
+is-sound-one κs a x y s t p q = p ∙ sym q
 
 pub copy-image-one : One 2 copy-image-kinds.ps copy-image-kinds.r copy-image.Post (λ κs x s. now (s .1 .0))
 copy-image-one κs a x y s t p q = p ∙ sym q

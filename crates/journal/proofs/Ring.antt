@@ -1,40 +1,42 @@
--- The laws of the ring, over every format: a record pushed is the newest, the others are each one older; one given up, each is one newer.
+-- The laws of the ring, for every format of the table: a record pushed is the newest, the others are each one older; one given up, each is one newer.
 -- Assumes nothing.
 use Prim.Native.Nat.{ℕ, suc, _+_, _*_, _-_, _/_, _%_, min, _≤_, _<_}
-use mathlib.Core.Path.{_≡_, refl, ap, _∙_}
+use mathlib.Core.Path.{_≡_, refl, sym, ap, _∙_}
 use mathlib.Core.List.{List, _++_}
-use mathlib.Core.Bool.{Bool, true, false, cond, _&&_, false≢true}
+use mathlib.Core.Bool.{Bool, true, false, cond, _&&_}
 use mathlib.Core.Logic.{_⊎_, inl, inr, ⊎-elim}
 use native.Mathlib.Decide.{decLt}
 use native.Mathlib.Nat.{eq-or-lt-of-le, mod-lt, mod-eq-of-lt, mod-eq-sub-mod, mod-add-mod}
 use native.Mathlib.Omega.{arith}
 use lib.ListN.{length, take, drop, getD, set, length-set}
 use lib.Seq.{getD-set-same, getD-set-other}
-use lib.Dec.{eqb, lit<}
-use borrow.Author.Tests.{eq-eqb, ne-eqb, eqb-true, le-leb, leb-true, lt-ltb, ltb-true}
+use lib.Dec.{eqb, leb, ltb, lit<}
+use borrow.Author.Tests.{eq-eqb, ne-eqb, eqb-true, le-leb, leb-true, lt-ltb, ltb-true, not-true}
 use Rattle.bits.proofs.Tests.{both, cond-cases}
 use Rattle.parts.specs.Parts.{part, put}
 use Rattle.parts.specs.Words.{wordsOf}
 use Rattle.parts.proofs.Laws.{length-put, part-put-front, part-put-before, part-put-after, getD-put-before, part-set}
-use Rattle.journal.specs.Layout.{Format, version1, sizeOf, header, firstOf, keptOf, wellFormed, placeOf, past, emptied, firstAfter, pushed, lowered}
+use Rattle.journal.specs.declared.Format.{Format}
+use Rattle.journal.specs.Layout.{header, formatOf, slotsOf, wrongLength, firstOf, keptOf, wellFormed, placeOf, past, emptied, firstAfter, keptUp, pushed, lowered}
+use Rattle.journal.proofs.Formats.{its-size, some-slots, same-length}
 
 -- ---- a well-formed journal, as facts
 
-pub record Well (f : Format) (j : List ℕ) : Type 0 where
-  pub size : length j ≡ sizeOf f
+pub record Well (j : List ℕ) : Type 0 where
+  pub size : wrongLength j ≡ false
   pub m0 : getD j 0 0 ≡ 0x53
   pub m1 : getD j 1 0 ≡ 0x43
   pub m2 : getD j 2 0 ≡ 0x4A
-  pub v0 : getD j 3 0 ≡ f .version % 256
-  pub v1 : getD j 4 0 ≡ f .version / 256
-  pub first : firstOf j < f .slots
-  pub few : keptOf j ≤ f .slots
+  pub v0 : getD j 3 0 ≡ formatOf (length j) .version % 256
+  pub v1 : getD j 4 0 ≡ formatOf (length j) .version / 256
+  pub first : firstOf j < slotsOf j
+  pub few : keptOf j ≤ slotsOf j
 
-pub well-of : {f : Format} {j : List ℕ} → Well f j → wellFormed f j ≡ true
+pub well-of : {j : List ℕ} → Well j → wellFormed j ≡ true
 unfolding wellFormed
 well-of w =
     simp (
-      eq-eqb _ _ (w .size),
+      w .size,
       eq-eqb _ _ (w .m0),
       eq-eqb _ _ (w .m1),
       eq-eqb _ _ (w .m2),
@@ -44,9 +46,9 @@ well-of w =
       le-leb _ _ (w .few),
     )
 
-pub of-well : (f : Format) (j : List ℕ) → wellFormed f j ≡ true → Well f j
+pub of-well : (j : List ℕ) → wellFormed j ≡ true → Well j
 unfolding wellFormed
-of-well f j h =
+of-well j h =
     let p = both _ _ h in
     let q6 = both _ _ (p .1) in
     let q5 = both _ _ (q6 .0) in
@@ -55,7 +57,7 @@ of-well f j h =
     let q2 = both _ _ (q3 .0) in
     let q1 = both _ _ (q2 .0) in
     record {
-      size = eqb-true _ _ (p .0);
+      size = not-true _ (p .0);
       m0 = eqb-true _ _ (q1 .0);
       m1 = eqb-true _ _ (q1 .1);
       m2 = eqb-true _ _ (q2 .1);
@@ -67,23 +69,31 @@ of-well f j h =
 
 -- ---- an emptied journal
 
-pub emptied-well : (f : Format) (j : List ℕ) → length j ≡ sizeOf f → 0 < f .slots → Well f (emptied f j)
+emptied-size : (j : List ℕ) → wrongLength j ≡ false → length (emptied j) ≡ length j
+unfolding emptied
+emptied-size j s = length-put 0 (header (formatOf (length j)) 0 0) j (omega (arith, its-size j s))
+
+pub emptied-slots : (j : List ℕ) → wrongLength j ≡ false → slotsOf (emptied j) ≡ slotsOf j
+emptied-slots j s = ap (λ (n : ℕ). formatOf n .slots) (emptied-size j s)
+
+pub emptied-well : (j : List ℕ) → wrongLength j ≡ false → Well (emptied j)
 unfolding emptied put
-emptied-well f j s h =
+emptied-well j s =
+    let l = emptied-size j s in
     record {
-      size = length-put 0 (header f 0 0) j (omega arith) ∙ s;
+      size = same-length (emptied j) j l s;
       m0 = refl;
       m1 = refl;
       m2 = refl;
-      v0 = refl;
-      v1 = refl;
-      first = h;
+      v0 = ap (λ (n : ℕ). formatOf n .version % 256) (sym l);
+      v1 = ap (λ (n : ℕ). formatOf n .version / 256) (sym l);
+      first = rw (emptied-slots j s) (some-slots j s);
       few = omega arith;
     }
 
-pub emptied-kept : (f : Format) (j : List ℕ) → keptOf (emptied f j) ≡ 0
+pub emptied-kept : (j : List ℕ) → keptOf (emptied j) ≡ 0
 unfolding emptied put
-emptied-kept f j = refl
+emptied-kept j = refl
 
 -- ---- the ring's arithmetic
 
@@ -134,16 +144,22 @@ counted n first k i h l = ⊎-elim full more (eq-or-lt-of-le h)
 
 -- ---- a record more
 
-module _ (f : Format) (r j : List ℕ) (w : Well f j) (small : length r ≤ 256) where
+module _ (r j : List ℕ) (w : Well j) (small : length r ≤ 256) where
   place : ℕ
-  place = placeOf f j (keptOf j)
+  place = placeOf (slotsOf j) (firstOf j) (keptOf j)
 
-  some : 0 < f .slots
-  some = let h = w .first in omega arith
+  some : 0 < slotsOf j
+  some = some-slots j (w .size)
 
   room : place + 256 ≤ length j
   unfolding place
-  room = rw (w .size) (slot-small (f .slots) (firstOf j + keptOf j) some)
+  room = rw (its-size j (w .size)) (slot-small (slotsOf j) (firstOf j + keptOf j) some)
+
+  first : ℕ
+  first = firstAfter (slotsOf j) (firstOf j) (keptOf j)
+
+  kept : ℕ
+  kept = keptUp (slotsOf j) (keptOf j)
 
   -- the journal with the record written, its header not yet
   held : List ℕ
@@ -153,77 +169,79 @@ module _ (f : Format) (r j : List ℕ) (w : Well f j) (small : length r ≤ 256)
   unfolding held
   held-size = let h = room in length-put place r j (omega arith)
 
-  pushed-size : length (pushed f r j) ≡ length j
+  pushed-size : length (pushed r j) ≡ length j
   unfolding pushed held place
   pushed-size = simp length-set held-size
 
-  pushed-byte : (i : ℕ) → i < 5 → getD (pushed f r j) i 0 ≡ getD j i 0
-  unfolding pushed held place
+  -- so the format stays
+  pub pushed-slots : slotsOf (pushed r j) ≡ slotsOf j
+  pushed-slots = ap (λ (n : ℕ). formatOf n .slots) pushed-size
+
+  pushed-byte : (i : ℕ) → i < 5 → getD (pushed r j) i 0 ≡ getD j i 0
+  unfolding pushed held place first kept
   pushed-byte i h =
-      getD-set-other (set held 5 (firstAfter f j)) 6 i (min (f .slots) (keptOf j + 1)) 0 (λ e. omega arith)
-      ∙ getD-set-other held 5 i (firstAfter f j) 0 (λ e. omega arith)
+      getD-set-other (set held 5 first) 6 i kept 0 (λ e. omega arith)
+      ∙ getD-set-other held 5 i first 0 (λ e. omega arith)
       ∙ (let q = room in getD-put-before place r j i (omega arith) (omega arith))
 
-  pub pushed-first : firstOf (pushed f r j) ≡ firstAfter f j
-  unfolding pushed held place
+  pub pushed-first : firstOf (pushed r j) ≡ firstAfter (slotsOf j) (firstOf j) (keptOf j)
+  unfolding pushed held place first kept
   pushed-first =
-      getD-set-other (set held 5 (firstAfter f j)) 6 5 (min (f .slots) (keptOf j + 1)) 0 (λ e. omega arith)
-      ∙ getD-set-same held 5 (firstAfter f j) 0 (let h = room in let l = held-size in omega arith)
+      getD-set-other (set held 5 first) 6 5 kept 0 (λ e. omega arith)
+      ∙ getD-set-same held 5 first 0 (let h = room in let l = held-size in omega arith)
 
-  pub pushed-kept : keptOf (pushed f r j) ≡ min (f .slots) (keptOf j + 1)
-  unfolding pushed held place
-  pushed-kept =
-      getD-set-same (set held 5 (firstAfter f j)) 6 (min (f .slots) (keptOf j + 1)) 0
-      (rw length-set (let h = room in let l = held-size in omega arith))
+  pub pushed-kept : keptOf (pushed r j) ≡ min (slotsOf j) (keptOf j + 1)
+  unfolding pushed held place first kept
+  pushed-kept = getD-set-same (set held 5 first) 6 kept 0 (rw length-set (let h = room in let l = held-size in omega arith))
 
-  first-small : firstAfter f j < f .slots
-  first-small = cond-cases (λ (x : ℕ). x < f .slots) (eqb (keptOf j) (f .slots)) (λ _. mod-lt (firstOf j + 1) some) (λ _. w .first)
+  first-small : firstAfter (slotsOf j) (firstOf j) (keptOf j) < slotsOf j
+  first-small = cond-cases (λ (x : ℕ). x < slotsOf j) (eqb (keptOf j) (slotsOf j)) (λ _. mod-lt (firstOf j + 1) some) (λ _. w .first)
 
-  pub pushed-well : Well f (pushed f r j)
+  pub pushed-well : Well (pushed r j)
   pushed-well =
       record {
-        size = pushed-size ∙ w .size;
+        size = same-length (pushed r j) j pushed-size (w .size);
         m0 = pushed-byte 0 (omega arith) ∙ w .m0;
         m1 = pushed-byte 1 (omega arith) ∙ w .m1;
         m2 = pushed-byte 2 (omega arith) ∙ w .m2;
-        v0 = pushed-byte 3 (omega arith) ∙ w .v0;
-        v1 = pushed-byte 4 (omega arith) ∙ w .v1;
-        first = rw pushed-first first-small;
-        few = rw pushed-kept (omega arith);
+        v0 = pushed-byte 3 (omega arith) ∙ rw pushed-size (w .v0);
+        v1 = pushed-byte 4 (omega arith) ∙ rw pushed-size (w .v1);
+        first = rw (pushed-first, pushed-slots) first-small;
+        few = rw (pushed-kept, pushed-slots) (omega arith);
       }
 
   -- what stands in the slots
-  pushed-part : (at n : ℕ) → 1024 ≤ at → part at n (pushed f r j) ≡ part at n held
-  unfolding pushed held place
-  pushed-part at n h =
-      part-set (set held 5 (firstAfter f j)) 6 (min (f .slots) (keptOf j + 1)) at n (omega arith)
-      ∙ part-set held 5 (firstAfter f j) at n (omega arith)
+  pushed-part : (at n : ℕ) → 1024 ≤ at → part at n (pushed r j) ≡ part at n held
+  unfolding pushed held place first kept
+  pushed-part at n h = part-set (set held 5 first) 6 kept at n (omega arith) ∙ part-set held 5 first at n (omega arith)
 
   -- the bytes of the record's slot behind the record
   abbrev pub behind : List ℕ
-  behind = part (placeOf f j (keptOf j) + length r) (256 - length r) j
+  behind = part (placeOf (slotsOf j) (firstOf j) (keptOf j) + length r) (256 - length r) j
 
   -- the slot of the i-th newest after the push
-  slot-after : (i : ℕ) → i < min (f .slots) (keptOf j + 1) → placeOf f (pushed f r j) (keptOf (pushed f r j) - 1 - i) ≡ placeOf f j (keptOf j - i)
+  slot-after : (i : ℕ) → i < min (slotsOf j) (keptOf j + 1)
+      → placeOf (slotsOf (pushed r j)) (firstOf (pushed r j)) (keptOf (pushed r j) - 1 - i) ≡ placeOf (slotsOf j) (firstOf j) (keptOf j - i)
   slot-after i h =
-      rw (pushed-first, pushed-kept) (ap (λ (x : ℕ). 1024 + 256 * x) (counted (f .slots) (firstOf j) (keptOf j) i (w .few) h))
+      rw (pushed-first, pushed-kept, pushed-slots)
+      (ap (λ (x : ℕ). 1024 + 256 * x) (counted (slotsOf j) (firstOf j) (keptOf j) i (w .few) h))
 
-  pub pushed-newest : past f (pushed f r j) 0 ≡ r ++ behind
+  pub pushed-newest : past (pushed r j) 0 ≡ r ++ behind
   unfolding past held place
   pushed-newest =
       let k : keptOf j - 0 ≡ keptOf j = omega arith in
-      ap (λ (p : ℕ). part p 256 (pushed f r j)) (slot-after 0 (let s = some in omega arith) ∙ ap (placeOf f j) k)
+      ap (λ (p : ℕ). part p 256 (pushed r j)) (slot-after 0 (let s = some in omega arith) ∙ ap (placeOf (slotsOf j) (firstOf j)) k)
       ∙ pushed-part place 256 (omega arith)
       ∙ part-put-front place r j 256 (let q = room in omega arith) small
 
-  pub pushed-older : (i : ℕ) → suc i < min (f .slots) (keptOf j + 1) → past f (pushed f r j) (suc i) ≡ past f j i
+  pub pushed-older : (i : ℕ) → suc i < min (slotsOf j) (keptOf j + 1) → past (pushed r j) (suc i) ≡ past j i
   unfolding past held place
   pushed-older i h =
       let k : keptOf j - suc i ≡ keptOf j - 1 - i = omega arith in
-      let d : (firstOf j + (keptOf j - 1 - i)) % f .slots ≡ (firstOf j + keptOf j) % f .slots → ⊥ =
-      λ e. ring-apart (f .slots) (firstOf j) (keptOf j - 1 - i) (keptOf j) (w .first) (omega arith) (w .few) (omega (arith, w .few)) e in
-      let old : ℕ = placeOf f j (keptOf j - 1 - i) in
-      ap (λ (p : ℕ). part p 256 (pushed f r j)) (slot-after (suc i) h ∙ ap (placeOf f j) k)
+      let d : (firstOf j + (keptOf j - 1 - i)) % slotsOf j ≡ (firstOf j + keptOf j) % slotsOf j → ⊥ =
+      λ e. ring-apart (slotsOf j) (firstOf j) (keptOf j - 1 - i) (keptOf j) (w .first) (omega arith) (w .few) (omega (arith, w .few)) e in
+      let old : ℕ = placeOf (slotsOf j) (firstOf j) (keptOf j - 1 - i) in
+      ap (λ (p : ℕ). part p 256 (pushed r j)) (slot-after (suc i) h ∙ ap (placeOf (slotsOf j) (firstOf j)) k)
       ∙ pushed-part old 256 (omega arith)
       ∙ ⊎-elim
       (λ (l : old + 256 ≤ place). let q = room in part-put-before place r j old 256 (omega arith) l)
@@ -232,58 +250,115 @@ module _ (f : Format) (r j : List ℕ) (w : Well f j) (small : length r ≤ 256)
 
 -- ---- the newest record given up
 
-module _ (f : Format) (j : List ℕ) (w : Well f j) where
+module _ (j : List ℕ) (w : Well j) where
   lowered-byte : (i : ℕ) → (i ≡ 6 → ⊥) → getD (lowered j) i 0 ≡ getD j i 0
   unfolding lowered
   lowered-byte i h = getD-set-other j 6 i (keptOf j - 1) 0 h
 
+  lowered-size : length (lowered j) ≡ length j
+  unfolding lowered
+  lowered-size = length-set j 6 (keptOf j - 1)
+
+  -- the format stays
+  pub lowered-slots : slotsOf (lowered j) ≡ slotsOf j
+  lowered-slots = ap (λ (n : ℕ). formatOf n .slots) lowered-size
+
   pub lowered-kept : keptOf (lowered j) ≡ keptOf j - 1
   unfolding lowered
-  lowered-kept = getD-set-same j 6 (keptOf j - 1) 0 (omega (arith, w .size))
+  lowered-kept = getD-set-same j 6 (keptOf j - 1) 0 (omega (arith, its-size j (w .size)))
 
-  pub lowered-well : Well f (lowered j)
-  unfolding lowered
+  pub lowered-well : Well (lowered j)
   lowered-well =
       record {
-        size = length-set j 6 (keptOf j - 1) ∙ w .size;
+        size = same-length (lowered j) j lowered-size (w .size);
         m0 = lowered-byte 0 (λ e. omega arith) ∙ w .m0;
         m1 = lowered-byte 1 (λ e. omega arith) ∙ w .m1;
         m2 = lowered-byte 2 (λ e. omega arith) ∙ w .m2;
-        v0 = lowered-byte 3 (λ e. omega arith) ∙ w .v0;
-        v1 = lowered-byte 4 (λ e. omega arith) ∙ w .v1;
-        first = rw (lowered-byte 5 (λ e. omega arith)) (w .first);
-        few = rw lowered-kept (let h = w .few in omega arith);
+        v0 = lowered-byte 3 (λ e. omega arith) ∙ rw lowered-size (w .v0);
+        v1 = lowered-byte 4 (λ e. omega arith) ∙ rw lowered-size (w .v1);
+        first = rw (lowered-byte 5 (λ e. omega arith), lowered-slots) (w .first);
+        few = rw (lowered-kept, lowered-slots) (let h = w .few in omega arith);
       }
 
-  pub lowered-past : (i : ℕ) → past f (lowered j) i ≡ past f j (suc i)
+  pub lowered-past : (i : ℕ) → past (lowered j) i ≡ past j (suc i)
   unfolding past lowered
   lowered-past i =
       let k : keptOf j - 1 - 1 - i ≡ keptOf j - 1 - suc i = omega arith in
-      part-set j 6 (keptOf j - 1) (placeOf f (lowered j) (keptOf (lowered j) - 1 - i)) 256 (omega arith)
-      ∙ ap (λ (p : ℕ). part p 256 j) (rw (lowered-byte 5 (λ e. omega arith), lowered-kept) (ap (placeOf f j) k))
+      part-set j 6 (keptOf j - 1) (placeOf (slotsOf (lowered j)) (firstOf (lowered j)) (keptOf (lowered j) - 1 - i)) 256 (omega arith)
+      ∙ ap (λ (p : ℕ). part p 256 j) (rw (lowered-byte 5 (λ e. omega arith), lowered-kept, lowered-slots) (ap (placeOf (slotsOf j) (firstOf j)) k))
 
--- ---- what a well-formed journal of version 1 is to the code
+-- ---- what a well-formed journal is to the code
 
-pub size-in : (j : List ℕ) → wellFormed version1 j ≡ true → length j ≡ 17408
-size-in j h = of-well version1 j h .size
+pub size-in : (j : List ℕ) → wellFormed j ≡ true → wrongLength j ≡ false
+size-in j h = of-well j h .size
 
-pub in-journal : (j : List ℕ) (i : ℕ) → wellFormed version1 j ≡ true → i < 17408 → i < length j
-in-journal j i h l = let s = of-well version1 j h .size in omega arith
+in-header : (j : List ℕ) (i : ℕ) → wrongLength j ≡ false → i < 1024 → i < length j
+in-header j i h l = omega (arith, its-size j h)
 
-pub first-in : (j : List ℕ) → wellFormed version1 j ≡ true → firstOf j < 64
-first-in j h = of-well version1 j h .first
+pub in-journal : (j : List ℕ) (i : ℕ) → wellFormed j ≡ true → i < 1024 → i < length j
+in-journal j i h l = in-header j i (size-in j h) l
 
-pub kept-in : (j : List ℕ) → wellFormed version1 j ≡ true → keptOf j ≤ 64
-kept-in j h = of-well version1 j h .few
+pub header-in : (j : List ℕ) → wrongLength j ≡ false → 0 + 7 ≤ length j
+header-in j h = omega (arith, its-size j h)
 
-pub slot-in : (j : List ℕ) (at k : ℕ) → wellFormed version1 j ≡ true → at ≡ 1024 + 256 * ((firstOf j + k) % 64) → at + 256 ≤ length j
-slot-in j at k h e = let s = of-well version1 j h .size in omega arith
+-- the test of a journal: its length, then its header
+module _ (j : List ℕ) (wrong : Bool) (e : wrong ≡ wrongLength j) where
+  pub of-wrong-length : wrong ≡ true → false ≡ wellFormed j
+  unfolding wellFormed
+  of-wrong-length h = simp (sym e ∙ h)
 
-pub newest-read : (j ws : List ℕ) (at : ℕ) → at ≡ 1024 + 256 * ((firstOf j + (keptOf j - 1)) % 64) → ws ≡ wordsOf 18 (take (at + 256 - at) (drop at j)) → ws ≡ wordsOf 18 (past version1 j 0)
+  pub header-known : (i : ℕ) → wrong ≡ false → i < 1024 → i < length j
+  header-known i h l = in-header j i (sym e ∙ h) l
+
+  pub by-header : (f : Format) → wrong ≡ false → f ≡ formatOf (length j)
+      → (eqb (getD j 0 0) 0x53
+      && eqb (getD j 1 0) 0x43
+      && eqb (getD j 2 0) 0x4A
+      && eqb (getD j 3 0) (f .version % 256)
+      && eqb (getD j 4 0) (f .version / 256)
+      && ltb (firstOf j) (f .slots)
+      && leb (keptOf j) (f .slots)) ≡ wellFormed j
+  unfolding wellFormed
+  by-header f h g = simp (sym e ∙ h, g)
+
+pub ruleset forming = (of-wrong-length, header-known, by-header, lit<)
+
+-- what the code reads of a well-formed journal
+module _ (j : List ℕ) (f : Format) (h : wellFormed j ≡ true) (e : f ≡ formatOf (length j)) where
+  its-slots : f .slots ≡ slotsOf j
+  its-slots = ap (λ (x : Format). x .slots) e
+
+  pub some-in : 0 < f .slots
+  some-in = rw its-slots (some-slots j (size-in j h))
+
+  pub first-in : firstOf j < f .slots
+  first-in = rw its-slots (of-well j h .first)
+
+  pub kept-in : keptOf j ≤ f .slots
+  kept-in = rw its-slots (of-well j h .few)
+
+  pub slot-in : (at k : ℕ) → at ≡ placeOf (f .slots) (firstOf j) k → at + 256 ≤ length j
+  slot-in at k q =
+      let l = slot-small (slotsOf j) (firstOf j + k) (some-slots j (size-in j h)) in
+      let p : at ≡ placeOf (slotsOf j) (firstOf j) k = rw its-slots at q in
+      omega (arith, its-size j (size-in j h))
+
+  pub room-in : (at k n : ℕ) → at ≡ placeOf (f .slots) (firstOf j) k → 4 * n ≤ 256 → at + 4 * n ≤ length j
+  room-in at k n q l = let m = slot-in at k q in omega arith
+
+-- what the code writes of a record more
+pub pushed-by : (r j k : List ℕ) (f : Format) (at first kept : ℕ) → f ≡ formatOf (length j) → at ≡ placeOf (f .slots) (firstOf j) (keptOf j)
+    → first ≡ firstAfter (f .slots) (firstOf j) (keptOf j) → kept ≡ keptUp (f .slots) (keptOf j) → k ≡ put at r j
+    → set (set k 5 first) 6 kept ≡ pushed r j
+unfolding pushed
+pushed-by r j k f at first kept q e g h p = rw (p, e, g, h, q) refl
+
+pub newest-read : (j ws : List ℕ) (at : ℕ) (f : Format) → f ≡ formatOf (length j) → at ≡ placeOf (f .slots) (firstOf j) (keptOf j - 1)
+    → ws ≡ wordsOf 18 (take (at + 256 - at) (drop at j)) → ws ≡ wordsOf 18 (past j 0)
 unfolding past part
-newest-read j ws at e h =
+newest-read j ws at f q e h =
     let k : keptOf j - 1 - 0 ≡ keptOf j - 1 = omega arith in
     let n : at + 256 - at ≡ 256 = omega arith in
-    h ∙ rw (n, k, e) refl
+    h ∙ rw (n, k, e, q) refl
 
-pub ruleset journal-needs = (in-journal, first-in, kept-in, slot-in, lit<)
+pub ruleset journal-needs = (in-journal, some-in, first-in, kept-in, slot-in, room-in, lit<)

@@ -79,11 +79,11 @@ module _ (low high : ℕ) (hl : low < 65536) (hh : high < 65536) where
 
 module _ (a : Adapter) (f : Fits a) where
   flags-of : ℕ
-  flags-of = flags (a .link .loop0) (a .link .loop1) (a .gpio .intenable)
+  flags-of = flags (a .link .primary .loopback) (a .link .auxiliary .loopback) (a .gpio .intenable)
 
   flags-byte : flags-of < 256
   unfolding flags-of
-  flags-byte = let q = flags-read (a .link .loop0) (a .link .loop1) (a .gpio .intenable) in omega (arith, q .few)
+  flags-byte = let q = flags-read (a .link .primary .loopback) (a .link .auxiliary .loopback) (a .gpio .intenable) in omega (arith, q .few)
 
   pub image-words : Words (imageWords a)
   unfolding imageWords flags-of
@@ -110,7 +110,7 @@ module _ (a : Adapter) (f : Fits a) where
   read-link : linkOf (word (a .link .send .0) (a .link .receive .0) (a .link .port) flags-of) ≡ a .link
   unfolding flags-of
   read-link =
-      let q = flags-read (a .link .loop0) (a .link .loop1) (a .gpio .intenable) in
+      let q = flags-read (a .link .primary .loopback) (a .link .auxiliary .loopback) (a .gpio .intenable) in
       simp (
         byte0 _ _ _ flags-of (f .link .send) (f .link .receive) (f .link .port),
         byte1 _ _ _ flags-of (f .link .send) (f .link .receive) (f .link .port),
@@ -124,7 +124,7 @@ module _ (a : Adapter) (f : Fits a) where
   read-intenable : bitOf (word (a .link .send .0) (a .link .receive .0) (a .link .port) flags-of) 26 ≡ a .gpio .intenable
   unfolding flags-of
   read-intenable =
-      let q = flags-read (a .link .loop0) (a .link .loop1) (a .gpio .intenable) in
+      let q = flags-read (a .link .primary .loopback) (a .link .auxiliary .loopback) (a .gpio .intenable) in
       simp (over-26 _ _ _ flags-of (f .link .send) (f .link .receive) (f .link .port), q .third)
 
   read-control : controlOf (word (a .control .crb) (a .control .crc) (a .control .crd) (a .spi .go)) ≡ a .control
@@ -162,7 +162,7 @@ module _ (a : Adapter) (f : Fits a) where
   pub image-spelled : spelled (imageWords a) ≡ true
   unfolding spelled imageWords flags-of
   image-spelled =
-      let q = flags-read (a .link .loop0) (a .link .loop1) (a .gpio .intenable) in
+      let q = flags-read (a .link .primary .loopback) (a .link .auxiliary .loopback) (a .gpio .intenable) in
       let top : word (a .link .send .0) (a .link .receive .0) (a .link .port) flags-of < 134217728 =
       under-27 _ _ _ flags-of (f .link .send) (f .link .receive) (f .link .port) (q .few) in
       let low : word (a .spi .ss) 0 0 0 < 256 = omega (arith, f .spi .ss) in

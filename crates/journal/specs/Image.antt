@@ -15,9 +15,9 @@ use Rattle.parts.specs.Words.{word}
 
 -- ---- from the state to words
 
--- bit 0 loopback of port 0, bit 1 loopback of port 1, bit 2 INTENABLE
+-- bit 0 loopback of the primary port, bit 1 loopback of the auxiliary port, bit 2 INTENABLE
 abbrev pub flags : Bool → Bool → Bool → ℕ
-flags loop0 loop1 intenable = digit loop0 + 2 * digit loop1 + 4 * digit intenable
+flags primary auxiliary intenable = digit primary + 2 * digit auxiliary + 4 * digit intenable
 
 -- two numbers of 16 bits
 abbrev pub halves : ℕ → ℕ → ℕ
@@ -25,7 +25,7 @@ halves low high = low + 65536 * high
 
 unfoldable pub imageWords : Adapter → List ℕ
 imageWords a =
-    word (a .link .send .0) (a .link .receive .0) (a .link .port) (flags (a .link .loop0) (a .link .loop1) (a .gpio .intenable))
+    word (a .link .send .0) (a .link .receive .0) (a .link .port) (flags (a .link .primary .loopback) (a .link .auxiliary .loopback) (a .gpio .intenable))
     ∷ word (a .control .crb) (a .control .crc) (a .control .crd) (a .spi .go)
     ∷ halves (a .spi .control) (a .spi .freq)
     ∷ word (a .spi .ss) 0 0 0
@@ -57,8 +57,8 @@ linkOf w =
       send = record { 0 = w % 256 };
       receive = record { 0 = byteFrom 8 w };
       port = byteFrom 16 w;
-      loop0 = bitOf w 24;
-      loop1 = bitOf w 25;
+      primary = record { loopback = bitOf w 24 };
+      auxiliary = record { loopback = bitOf w 25 };
     }
 
 abbrev pub controlOf : ℕ → Control

@@ -1,19 +1,12 @@
 -- The journal's bytes: a header of 1,024, then a ring of slots of 256 bytes for the records. docs/JOURNAL.md has it byte by byte.
 use Prim.Native.Nat.{ℕ, _+_, _*_, _-_, _/_, _%_, min}
-use mathlib.Core.Bool.{Bool, cond, _&&_}
+use mathlib.Core.Bool.{Bool, not, cond, _&&_}
 use mathlib.Core.List.{List, [], _∷_}
 use lib.ListN.{length, getD, set}
 use lib.Dec.{eqb, leb, ltb}
+use Rattle.bits.specs.Table.{Row, row, look}
 use Rattle.parts.specs.Parts.{part, put}
-
--- how many slots a journal has, and the version that its header says
-pub record Format : Type 0 where
-  pub slots : ℕ
-  pub version : ℕ
-
--- 64 records, version 1
-abbrev pub version1 : Format
-version1 = record { slots = 64; version = 1 }
+use Rattle.journal.specs.declared.Format.{Format}
 
 abbrev pub headerBytes : ℕ
 headerBytes = 1024
@@ -21,8 +14,34 @@ headerBytes = 1024
 abbrev pub slotBytes : ℕ
 slotBytes = 256
 
+-- ---- the formats: how many slots a journal has, and the version that its header says
+
 abbrev pub sizeOf : Format → ℕ
 sizeOf f = headerBytes + slotBytes * f .slots
+
+-- a row of the table: bytes of a format's size have this format
+abbrev pub sized : Format → Row Format
+sized f = row (sizeOf f) f
+
+-- THE FORMATS THAT ARE KNOWN, found by a journal's length. 17,408 bytes: 64 records, version 1.
+abbrev pub formats : List (Row Format)
+formats = sized (record { slots = 64; version = 1 }) ∷ []
+
+-- of bytes that no row is as long as: one without slots
+abbrev pub noFormat : Format
+noFormat = record { slots = 0; version = 0 }
+
+-- the format of as many bytes
+unfoldable pub formatOf : ℕ → Format
+formatOf n = look formats noFormat n
+
+-- how many records a journal has room for
+abbrev pub slotsOf : List ℕ → ℕ
+slotsOf j = formatOf (length j) .slots
+
+-- no format has this length: the one thing that the emptying call refuses
+unfoldable pub wrongLength : List ℕ → Bool
+wrongLength j = eqb (slotsOf j) 0
 
 -- ---- the header: the mark SCJ, the version in 16 bits, low byte first, the slot of the oldest record, the kept number
 
@@ -36,9 +55,10 @@ abbrev pub keptOf : List ℕ → ℕ
 keptOf j = getD j 6 0
 
 -- What 4 refuses is all else: a wrong length, mark, version, a first slot that is none, a kept number over the slots.
-unfoldable pub wellFormed : Format → List ℕ → Bool
-wellFormed f j =
-    eqb (length j) (sizeOf f)
+unfoldable pub wellFormed : List ℕ → Bool
+wellFormed j =
+    let f = formatOf (length j) in
+    not (wrongLength j)
     && (eqb (getD j 0 0) 0x53
     && eqb (getD j 1 0) 0x43
     && eqb (getD j 2 0) 0x4A
@@ -49,29 +69,32 @@ wellFormed f j =
 
 -- ---- the ring
 
--- where the slot stands that is k slots after the oldest record's
-abbrev pub placeOf : Format → List ℕ → ℕ → ℕ
-placeOf f j k = headerBytes + slotBytes * ((firstOf j + k) % f .slots)
+-- where the slot stands that is k slots after the first
+abbrev pub placeOf : (slots first k : ℕ) → ℕ
+placeOf slots first k = headerBytes + slotBytes * ((first + k) % slots)
 
 -- the slot of the i-th newest record: the newest is 0
-unfoldable pub past : Format → List ℕ → ℕ → List ℕ
-past f j i = part (placeOf f j (keptOf j - 1 - i)) slotBytes j
+unfoldable pub past : List ℕ → ℕ → List ℕ
+past j i = part (placeOf (slotsOf j) (firstOf j) (keptOf j - 1 - i)) slotBytes j
 
 -- ---- what is written
 
 -- An empty journal: the header's seven bytes are written, no other.
-unfoldable pub emptied : Format → List ℕ → List ℕ
-emptied f j = put 0 (header f 0 0) j
+unfoldable pub emptied : List ℕ → List ℕ
+emptied j = put 0 (header (formatOf (length j)) 0 0) j
 
 -- A record more: in the slot after the newest, which in a full ring is the oldest's, so that the ring then starts one slot later.
-abbrev pub advanced : Format → ℕ → ℕ → ℕ
-advanced f first kept = cond (eqb kept (f .slots)) ((first + 1) % f .slots) first
+abbrev pub firstAfter : (slots first kept : ℕ) → ℕ
+firstAfter slots first kept = cond (eqb kept slots) ((first + 1) % slots) first
 
-abbrev pub firstAfter : Format → List ℕ → ℕ
-firstAfter f j = advanced f (firstOf j) (keptOf j)
+-- The kept number goes up by one, to at most the slots.
+abbrev pub keptUp : (slots kept : ℕ) → ℕ
+keptUp slots kept = min slots (kept + 1)
 
-unfoldable pub pushed : Format → List ℕ → List ℕ → List ℕ
-pushed f r j = set (set (put (placeOf f j (keptOf j)) r j) 5 (firstAfter f j)) 6 (min (f .slots) (keptOf j + 1))
+unfoldable pub pushed : List ℕ → List ℕ → List ℕ
+pushed r j =
+    set (set (put (placeOf (slotsOf j) (firstOf j) (keptOf j)) r j) 5 (firstAfter (slotsOf j) (firstOf j) (keptOf j))) 6
+    (keptUp (slotsOf j) (keptOf j))
 
 -- The newest record given up: the kept number goes down by one, no other byte changes.
 unfoldable pub lowered : List ℕ → List ℕ

@@ -1,6 +1,7 @@
 // The image of the state: 18 words. docs/JOURNAL.md has the table; the chip's ID is not in it.
 use chip::Adapter;
 use chip::link::Link;
+use chip::link::Port;
 use chip::link::ReceiveNumber;
 use chip::link::SendNumber;
 use registers::controller::Control;
@@ -11,10 +12,10 @@ ghost use mathlib.Core.Path.{_≡_};
 ghost use Prim.Native.Nat.{_/_, _%_, _*_};
 ghost use Rattle.journal.specs.Image.{flags, imageWords, stateOf, spelled, linkOf, controlOf, spiOf, gpioOf, dacOf};
 
-fn flags_of(loop0: bool, loop1: bool, intenable: bool) -> u8
-    ensures { λ r. ⌜ r ≡ flags loop0 loop1 intenable ⌝ }
+fn flags_of(primary: bool, auxiliary: bool, intenable: bool) -> u8
+    ensures { λ r. ⌜ r ≡ flags primary auxiliary intenable ⌝ }
 {
-    (loop0 as u8) + 2 * (loop1 as u8) + 4 * (intenable as u8)
+    (primary as u8) + 2 * (auxiliary as u8) + 4 * (intenable as u8)
 }
 
 fn halves(low: u16, high: u16) -> u32
@@ -28,7 +29,11 @@ pub fn words_of(a: Adapter) -> [u32; 18]
     ensures { λ r. ⌜ r ≡ imageWords a ⌝ }
 {
     let d = a.spi.words;
-    let f = flags_of(a.link.loop0, a.link.loop1, a.gpio.intenable);
+    let f = flags_of(
+        a.link.primary.loopback,
+        a.link.auxiliary.loopback,
+        a.gpio.intenable,
+    );
     let w0 = parts::word_of(a.link.send.0, a.link.receive.0, a.link.port, f);
     let w1 = parts::word_of(a.control.crb, a.control.crc, a.control.crd, a.spi.go);
     let w2 = halves(a.spi.control, a.spi.freq);
@@ -63,8 +68,12 @@ fn link_of(w: u32) -> Link
         send: SendNumber((w % 256) as u8),
         receive: ReceiveNumber((w / 256 % 256) as u8),
         port: (w / 65536 % 256) as u8,
-        loop0: w / 16777216 % 2 == 1,
-        loop1: w / 33554432 % 2 == 1,
+        primary: Port {
+            loopback: w / 16777216 % 2 == 1,
+        },
+        auxiliary: Port {
+            loopback: w / 33554432 % 2 == 1,
+        },
     }
 }
 

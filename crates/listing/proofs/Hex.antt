@@ -1,12 +1,12 @@
 -- The laws of characters: hex digits, pairs in and out. Assumes nothing.
 use Prim.Native.Nat.{ℕ, zero, suc, _+_, _*_, _-_, _/_, _%_, _≤_, _<_}
 use mathlib.Core.Path.{_≡_, refl, sym, ap, _∙_}
-use mathlib.Core.Bool.{Bool, true, false, cond, _&&_, _||_}
+use mathlib.Core.Bool.{Bool, true, false, cond, _&&_}
 use mathlib.Core.List.{List, [], _∷_, _++_}
 use native.Mathlib.Numerals.{add-one}
 use native.Mathlib.Omega.{arith}
 use lib.ListN.{length, take, drop, getD, set, drop-of-length-le}
-use lib.Seq.{drop-cons, take-suc-set, take-suc, take-all, drop-drop, length-take-le}
+use lib.Seq.{drop-cons, take-suc-set, take-all, drop-drop}
 use lib.Dec.{eqb, leb, ltb}
 use borrow.Author.Tests.{leb-true, lt-ltb, le-ltb}
 use Rattle.bits.proofs.Tests.{and-left, and-right}

@@ -5,7 +5,7 @@ use mathlib.Core.List.{List, [], _∷_, _++_}
 use lib.ListN.{length}
 use lib.Dec.{eqb, leb}
 use Rattle.parts.specs.Parts.{put}
-use Rattle.numbers.specs.Numbers.{sent}
+use Rattle.numbers.specs.Numbers.{hasFrame}
 use Rattle.listing.specs.Characters.{space, lineFeed, hexText}
 
 -- one character where it is wanted
@@ -21,7 +21,7 @@ frameText port body = space ∷ (decimal port ++ (space ∷ hexText body))
 
 unfoldable pub answerText : ℕ → ℕ → ℕ → List ℕ → List ℕ
 answerText number kept port body =
-    decimal number ++ (space ∷ (decimal kept ++ (cond (eqb number sent) (frameText port body) [] ++ (lineFeed ∷ []))))
+    decimal number ++ (space ∷ (decimal kept ++ (cond (eqb number hasFrame) (frameText port body) [] ++ (lineFeed ∷ []))))
 
 -- ---- in a lent buffer
 

@@ -5,7 +5,7 @@ use mathlib.Core.Bool.{Bool, cond, _&&_}
 use mathlib.Core.List.{List, foldl}
 use lib.ListN.{length, take, drop, getD}
 use lib.Dec.{eqb}
-use Rattle.chip.specs.Event.{Event, frame, completion, sample, upset}
+use Rattle.chip.specs.Event.{spi, Event, frame, completion, sample, upset}
 use Rattle.listing.specs.declared.Form.{Form}
 use Rattle.listing.specs.declared.Form.the-variants.{Frame, Completion, Sample, Upset, Back, Unreadable}
 use Rattle.listing.specs.Characters.{space, between, isDigit, hexValue, arePairs, pairBytes}
@@ -74,7 +74,7 @@ frameOf l = frame (hexValue (getD l 2 0)) (pairBytes (length (drop 4 l) / 2) (dr
 
 -- byte 0 first
 abbrev pub completionOf : List ℕ → Event
-completionOf l = completion (pairBytes 16 (drop 2 l))
+completionOf l = completion (spi (pairBytes 16 (drop 2 l)))
 
 -- the top digit first
 abbrev pub topFirst : List ℕ → ℕ

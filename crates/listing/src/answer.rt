@@ -82,6 +82,6 @@ pub fn put_answer(out: &mut [u8], at: usize, number: u8, kept: u8, port: u8, bod
     let a = put_decimal(out, at, number);
     let b = put_byte(out, a, SPACE);
     let c = put_decimal(out, b, kept);
-    let d = put_frame(out, c, number == numbers::SENT, port, body);
+    let d = put_frame(out, c, number == numbers::HAS_FRAME, port, body);
     put_byte(out, d, LINE_FEED)
 }

@@ -1,7 +1,6 @@
 // What a line says: its form, and the fields of each form.
 ghost use mathlib.Core.Path.{_≡_};
-ghost use mathlib.Core.Bool.{true};
-ghost use lib.ListN.{length, drop, getD};
+ghost use lib.ListN.{length, drop};
 ghost use Rattle.listing.specs.Characters.{pairBytes};
 ghost use Rattle.listing.specs.Line.{isFrame, isCompletion, isSample, formOf, topFirst};
 use crate::Form;

@@ -1,9 +1,10 @@
--- The numbers that calls give back: document 01, "Numbers given back". A call is refused when it gives 1 to 10.
+-- The numbers that calls give back: document 01, "Numbers given back". A call is refused when it gives 1 to 10. Then the sizes that
+-- document 01 asks of what a call is handed.
 use Prim.Native.Nat.{ℕ}
 
 -- A frame was read or sent.
-abbrev pub sent : ℕ
-sent = 0
+abbrev pub hasFrame : ℕ
+hasFrame = 0
 
 -- The output is under 16 bytes, for the transmitter under 24.
 abbrev pub shortOutput : ℕ
@@ -58,8 +59,8 @@ abbrev pub otherControl : ℕ
 otherControl = 13
 
 -- The information is not as long as its frame asks.
-abbrev pub wrongLength : ℕ
-wrongLength = 14
+abbrev pub badInformation : ℕ
+badInformation = 14
 
 -- A completion when not busy.
 abbrev pub notBusy : ℕ
@@ -88,3 +89,31 @@ wrongFcs = 23
 -- Seven ones.
 abbrev pub aborted : ℕ
 aborted = 24
+
+-- The bytes of the shortest body.
+abbrev pub bodyLeast : ℕ
+bodyLeast = 2
+
+-- The bytes of the longest body.
+abbrev pub bodyMost : ℕ
+bodyMost = 16
+
+-- The bytes of the longest frame on the cable, the transmitter's least output.
+abbrev pub cableMost : ℕ
+cableMost = 24
+
+-- The most bytes of a receiver's input.
+abbrev pub inputMost : ℕ
+inputMost = 65536
+
+-- The least output of an event and of a receiver.
+abbrev pub outputLeast : ℕ
+outputLeast = 16
+
+-- The bytes received in an SPI transfer.
+abbrev pub transferBytes : ℕ
+transferBytes = 16
+
+-- The greatest chip ID.
+abbrev pub idMost : ℕ
+idMost = 0xFFFFFF

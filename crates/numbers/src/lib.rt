@@ -1,7 +1,8 @@
-// The numbers that calls give back: document 01, "Numbers given back". A call is refused when it gives 1 to 10.
+// The numbers that calls give back: document 01, "Numbers given back". A call is refused when it gives 1 to 10. Then the sizes that
+// document 01 asks of what a call is handed.
 
 // A frame was read or sent.
-pub const SENT: u8 = 0;
+pub const HAS_FRAME: u8 = 0;
 // The output is under 16 bytes, for the transmitter under 24.
 pub const SHORT_OUTPUT: u8 = 1;
 // The body is not 2 to 16 bytes.
@@ -29,7 +30,7 @@ pub const OTHER_PORT: u8 = 12;
 // An unknown control with bit 0 set.
 pub const OTHER_CONTROL: u8 = 13;
 // The information is not as long as its frame asks.
-pub const WRONG_LENGTH: u8 = 14;
+pub const BAD_INFORMATION: u8 = 14;
 // A completion when not busy.
 pub const NOT_BUSY: u8 = 15;
 // A pin sample with GPIO disabled.
@@ -44,3 +45,18 @@ pub const BROKEN_CONTENT: u8 = 22;
 pub const WRONG_FCS: u8 = 23;
 // Seven ones.
 pub const ABORTED: u8 = 24;
+
+// The bytes of the shortest body.
+pub const BODY_LEAST: usize = 2;
+// The bytes of the longest body.
+pub const BODY_MOST: usize = 16;
+// The bytes of the longest frame on the cable, the transmitter's least output.
+pub const CABLE_MOST: usize = 24;
+// The most bytes of a receiver's input.
+pub const INPUT_MOST: usize = 65536;
+// The least output of an event and of a receiver.
+pub const OUTPUT_LEAST: usize = 16;
+// The bytes received in an SPI transfer.
+pub const TRANSFER_BYTES: usize = 16;
+// The greatest chip ID.
+pub const ID_MOST: u32 = 0xFFFFFF;

@@ -1,20 +1,18 @@
 -- The laws of a listing played in parts. Assumes nothing.
-use Prim.Native.Nat.{ℕ, _+_, _*_, _≤_, _<_}
+use Prim.Native.Nat.{ℕ, _+_, _≤_, _<_}
 use mathlib.Core.Path.{_≡_, refl, sym, ap, _∙_}
 use mathlib.Core.Bool.{Bool, true, false, cond}
-use mathlib.Core.List.{List, [], _∷_, _++_, foldl, foldl-append}
+use mathlib.Core.List.{List, [], _∷_, foldl, foldl-append}
 use native.Mathlib.Numerals.{add-one}
 use native.Mathlib.Omega.{arith}
-use lib.ListN.{length, take, drop, getD, set, length-set}
+use lib.ListN.{length, take, getD, set}
 use lib.Seq.{take-suc, take-all, length-take-le}
-use lib.Dec.{eqb, ltb}
+use lib.Dec.{ltb}
 use borrow.Author.Tests.{ltb-true, lt-ltb, le-ltb, eq-eqb, ne-eqb}
 use Rattle.chip.specs.declared.Adapter.{Adapter}
-use Rattle.parts.specs.Parts.{put}
 use Rattle.player.specs.declared.Played.{Played}
-use Rattle.listing.specs.Characters.{lineFeed}
 use Rattle.listing.specs.Answer.{Wrote, wrote, written}
-use Rattle.player.specs.Play.{Turn, turn}
+use Rattle.player.specs.Play.{turn}
 use Rattle.player.specs.Parts.{Left, left, leaves, Held, held, added, Player, player, sofar, ends, joins, takes, closes, Feeding, feeds}
 use Rattle.listing.proofs.Writing.{next-place, written-then, written-none}
 

@@ -1,13 +1,13 @@
 -- The laws of a line that is played: each form by what its line says. Assumes nothing.
-use Prim.Native.Nat.{ℕ, _+_, _*_, _-_, _/_, _≤_, _<_}
+use Prim.Native.Nat.{ℕ, _*_, _-_, _/_, _≤_, _<_}
 use mathlib.Core.Path.{_≡_, refl, sym, ap, _∙_}
 use mathlib.Core.List.{List}
 use native.Mathlib.Omega.{arith}
 use lib.ListN.{length, take, drop, getD, length-drop}
 use lib.Seq.{take-all, length-take-le}
 use Rattle.chip.specs.declared.Adapter.{Adapter}
-use Rattle.chip.specs.Event.{Event, frame, completion, sample, upset}
-use Rattle.adapter.specs.declared.Answer.{Answer}
+use Rattle.chip.specs.Event.{spi, frame, completion, sample, upset}
+use Rattle.chip.specs.declared.Response.{Response}
 use Rattle.adapter.specs.declared.KeptNumber.{KeptNumber}
 use Rattle.adapter.specs.Calls.{Outcome, outcome, plain, called, Stepped, stepped, steppedBack, keptIn}
 use Rattle.listing.specs.declared.Form.{Form}
@@ -38,7 +38,7 @@ module _ (a : Adapter) (j l o : List ℕ) (f : Form) (e : f ≡ formOf l) where
   pub hears-upset : (x : Outcome) → f ≡ Upset → x ≡ called a j upset o → x ≡ heard a j (read l) o
   hears-upset x h g = g ∙ sym (said Upset h)
 
-  pub hears-back : (r : Answer) (k : List ℕ) → f ≡ Back → stepped r k ≡ steppedBack a j → outcome r k o ≡ heard a j (read l) o
+  pub hears-back : (r : Response) (k : List ℕ) → f ≡ Back → stepped r k ≡ steppedBack a j → outcome r k o ≡ heard a j (read l) o
   hears-back r k h g = ap (λ (s : Stepped). outcome (s .answer) (s .journal) o) g ∙ sym (said Back h)
 
   pub hears-nothing : f ≡ Unreadable → outcome (plain a 10) j o ≡ heard a j (read l) o
@@ -50,9 +50,9 @@ module _ (a : Adapter) (j o : List ℕ) (x : Outcome) where
   pub frame-call : (port : ℕ) (body s : List ℕ) → x ≡ called a j (frame port body) o → body ≡ s → x ≡ called a j (frame port s) o
   frame-call port body s h e = h ∙ ap (λ (t : List ℕ). called a j (frame port t) o) e
 
-  pub completion-call : (l received : List ℕ) → x ≡ called a j (completion received) o → received ≡ pairBytes 16 (take (length l - 2) (drop 2 l))
+  pub completion-call : (l received : List ℕ) → x ≡ called a j (completion (spi received)) o → received ≡ pairBytes 16 (take (length l - 2) (drop 2 l))
       → x ≡ called a j (completionOf l) o
-  completion-call l received h e = h ∙ ap (λ (t : List ℕ). called a j (completion t) o) (e ∙ ap (pairBytes 16) (to-end 2 l))
+  completion-call l received h e = h ∙ ap (λ (t : List ℕ). called a j (completion (spi t)) o) (e ∙ ap (pairBytes 16) (to-end 2 l))
 
   pub sample-call : (l : List ℕ) (levels kind : ℕ) → x ≡ called a j (sample levels kind) o → levels ≡ topFirst (pairBytes 4 (drop 2 l)) → kind ≡ hexValue (getD l 11 0)
       → x ≡ called a j (sampleOf l) o
@@ -87,7 +87,7 @@ pub all-of : (s : List ℕ) (n : ℕ) (at m : ℕ) (o z : List ℕ) (number kept
     → wrote m z ≡ written at (answerText number kept port s) o → wrote m z ≡ written at (answerText number kept port (take n s)) o
 all-of s n at m o z number kept port e h g = rw (take-all n s (omega arith)) g
 
-pub plays : (a : Adapter) (j l out : List ℕ) (at : ℕ) (r : Answer) (j′ reply out′ : List ℕ) (k : KeptNumber) (next : ℕ)
+pub plays : (a : Adapter) (j l out : List ℕ) (at : ℕ) (r : Response) (j′ reply out′ : List ℕ) (k : KeptNumber) (next : ℕ)
     → outcome r j′ reply ≡ heard a j (read l) noReply
     → k ≡ keptIn j′
     → wrote next out′ ≡ written at (answerText (r .number) (k .kept) (r .port) (take (r .length) reply)) out

@@ -1,21 +1,20 @@
 -- A listing cut into blocks anywhere gives the bytes that the whole gives. Assumes nothing.
-use Prim.Native.Nat.{ℕ, zero, suc, _+_, _≤_, _<_}
+use Prim.Native.Nat.{ℕ, _+_, _≤_, _<_}
 use mathlib.Core.Path.{_≡_, refl, sym, ap, _∙_}
 use mathlib.Core.Bool.{Bool, true, false, cond}
 use mathlib.Core.List.{List, [], _∷_, _++_, foldl, foldl-append, append-assoc, append-nil, flatten}
 use native.Mathlib.Numerals.{add-one}
 use native.Mathlib.Omega.{arith}
-use lib.ListN.{length, take, getD, set, replicate, length-append, length-set, length-take, length-replicate}
+use lib.ListN.{length, take, set, replicate, length-append, length-set, length-take, length-replicate}
 use lib.Seq.{take-all, take-suc-set, take-append-le, length-take-le}
 use lib.Dec.{eqb, ltb}
-use borrow.Author.Tests.{eqb-true, eqb-false, eq-eqb, ne-eqb, ltb-true, ltb-false, lt-ltb, le-ltb}
+use borrow.Author.Tests.{eqb-true, eqb-false, eq-eqb, ne-eqb, ltb-true, ltb-false}
 use Rattle.chip.specs.declared.Adapter.{Adapter}
 use Rattle.adapter.specs.Calls.{created}
 use Rattle.listing.specs.declared.Form.{Form}
-use Rattle.listing.specs.declared.Form.the-variants.{Unreadable}
-use Rattle.listing.specs.Line.{formOf, saidBy, read, unreadable}
+use Rattle.listing.specs.Line.{saidBy, read, unreadable}
 use Rattle.player.specs.Play.{Turn, turn, linesFrom, lastLine, answers, chipId, emptyJournal, played}
-use Rattle.player.specs.Parts.{Held, held, added, Player, player, sofar, ends, joins, takes, closes, begins, handedOver, playedIn}
+use Rattle.player.specs.Parts.{Held, held, added, Player, sofar, ends, joins, takes, closes, begins, handedOver, playedIn}
 use Rattle.listing.proofs.Reading.{frame-long, completion-other, sample-other, letter-other, form-none}
 use Rattle.player.proofs.Feeding.{takes-end, takes-char}
 
@@ -141,10 +140,6 @@ none-begun : (line : List ℕ) → length line ≡ 81 → Begun (held 0 line) []
 none-begun line e = record { long = e; few = omega arith; same = refl }
 
 -- ---- the whole
-
-no-line : (l : List ℕ) → length (take 81 l) ≡ 0 → l ≡ []
-no-line [] e = refl
-no-line (c ∷ l) e = let f : ⊥ = omega arith in absurd f
 
 abbrev at : Adapter → List ℕ → Held → List ℕ → Player
 at a j h t = record { adapter = a; journal = j; line = h; text = t }

@@ -1,12 +1,11 @@
 -- One line played, and a whole listing, from all input bytes to all output bytes.
 use Prim.Native.Nat.{ℕ}
-use mathlib.Core.Bool.{Bool, cond}
+use mathlib.Core.Bool.{cond}
 use mathlib.Core.List.{List, [], _∷_, _++_}
 use lib.ListN.{take, replicate}
 use lib.Dec.{eqb}
 use Rattle.chip.specs.declared.Adapter.{Adapter}
 use Rattle.numbers.specs.Numbers as numbers
-use Rattle.journal.specs.Layout.{version1, sizeOf}
 use Rattle.adapter.specs.Calls.{Outcome, outcome, plain, called, steppedBack, keptIn, created, madeEmpty}
 use Rattle.listing.specs.Characters.{lineFeed}
 use Rattle.listing.specs.Line.{Line, happens, back, unreadable, read}
@@ -60,9 +59,9 @@ answers a journal (l ∷ ls) = turn a journal l .text ++ answers (turn a journal
 abbrev pub chipId : ℕ
 chipId = 0x00000A
 
--- a journal that the emptying call made of zeros
+-- a journal of 17,408 bytes that the emptying call made of zeros
 abbrev pub emptyJournal : List ℕ
-emptyJournal = madeEmpty (replicate (sizeOf version1) 0) .journal
+emptyJournal = madeEmpty (replicate 17408 0) .journal
 
 unfoldable pub played : List ℕ → List ℕ
 played input = answers (created chipId .adapter) emptyJournal (linesFrom [] input)

@@ -1,6 +1,6 @@
 // What a line does: the call of the adapter that its form and its fields say.
-use adapter::Answer;
 use chip::Adapter;
+use chip::Response;
 use listing::Form;
 use listing::characters;
 use listing::line;
@@ -16,11 +16,11 @@ ghost use Rattle.player.specs.Play.{heard};
 fn call_frame(
     a: Adapter,
     journal: &mut [u8],
-    port: u8,
+    port: u32,
     hex: &[u8],
     body: &mut [u8],
     reply: &mut [u8],
-) -> Answer
+) -> Response
     requires { ⌜ 2 * length (now body) ≤ length (now hex) ⌝ }
     ensures { λ r. ⌜ outcome r (now (journal .exit)) (now (reply .exit)) ≡ called a (now (journal .entry)) (Event.frame port (pairBytes (length (now (body .entry))) (now (hex .entry)))) (now (reply .entry)) ⌝ }
 {
@@ -29,7 +29,7 @@ fn call_frame(
 }
 
 // A line that is a frame.
-fn hear_frame(a: Adapter, journal: &mut [u8], l: &[u8], reply: &mut [u8]) -> Answer
+fn hear_frame(a: Adapter, journal: &mut [u8], l: &[u8], reply: &mut [u8]) -> Response
     requires { ⌜ 6 ≤ length (now l) ⌝ }
     requires { ⌜ length (now l) ≤ 80 ⌝ }
     ensures { λ r. ⌜ outcome r (now (journal .exit)) (now (reply .exit)) ≡ called a (now (journal .entry)) (frameOf (now (l .entry))) (now (reply .entry)) ⌝ }
@@ -37,11 +37,11 @@ fn hear_frame(a: Adapter, journal: &mut [u8], l: &[u8], reply: &mut [u8]) -> Ans
     let mut body = [0u8; 38];
     let n = (l.len() - 4) / 2;
     let port = characters::hex_value(l[2]);
-    call_frame(a, journal, port, &l[4..], &mut body[..n], reply)
+    call_frame(a, journal, port as u32, &l[4..], &mut body[..n], reply)
 }
 
 // A line that is a completion.
-fn hear_completion(a: Adapter, journal: &mut [u8], l: &[u8], reply: &mut [u8]) -> Answer
+fn hear_completion(a: Adapter, journal: &mut [u8], l: &[u8], reply: &mut [u8]) -> Response
     requires { ⌜ length (now l) ≡ 34 ⌝ }
     ensures { λ r. ⌜ outcome r (now (journal .exit)) (now (reply .exit)) ≡ called a (now (journal .entry)) (completionOf (now (l .entry))) (now (reply .entry)) ⌝ }
 {
@@ -51,17 +51,17 @@ fn hear_completion(a: Adapter, journal: &mut [u8], l: &[u8], reply: &mut [u8]) -
 }
 
 // A line that is a sample.
-fn hear_sample(a: Adapter, journal: &mut [u8], l: &[u8], reply: &mut [u8]) -> Answer
+fn hear_sample(a: Adapter, journal: &mut [u8], l: &[u8], reply: &mut [u8]) -> Response
     requires { ⌜ length (now l) ≡ 12 ⌝ }
     ensures { λ r. ⌜ outcome r (now (journal .exit)) (now (reply .exit)) ≡ called a (now (journal .entry)) (sampleOf (now (l .entry))) (now (reply .entry)) ⌝ }
 {
     let levels = line::levels(l);
     let kind = characters::hex_value(l[11]);
-    adapter::sample(a, journal, levels, kind, reply)
+    adapter::sample(a, journal, levels, kind as u32, reply)
 }
 
 // What a line does; a frame's answer is written into reply.
-pub fn hear(a: Adapter, journal: &mut [u8], l: &[u8], reply: &mut [u8]) -> Answer
+pub fn hear(a: Adapter, journal: &mut [u8], l: &[u8], reply: &mut [u8]) -> Response
     ensures { λ r. ⌜ outcome r (now (journal .exit)) (now (reply .exit)) ≡ heard a (now (journal .entry)) (read (now (l .entry))) (now (reply .entry)) ⌝ }
 {
     let form = line::form_of(l);
@@ -71,7 +71,7 @@ pub fn hear(a: Adapter, journal: &mut [u8], l: &[u8], reply: &mut [u8]) -> Answe
         Form::Sample => hear_sample(a, journal, l, reply),
         Form::Upset => adapter::upset(a, journal, reply),
         Form::Back => adapter::step_back(a, journal),
-        Form::Unreadable => Answer {
+        Form::Unreadable => Response {
             adapter: a,
             number: numbers::UNREADABLE,
             port: 0,

@@ -52,10 +52,10 @@ unfolding frame
 frame-cut body rest = simp append-assoc refl
 
 heard-body : (body rest : List ℕ) → ((i : ℕ) → getD body i 0 < 256) → 2 ≤ length body → length body ≤ 16
-    → heard opened (stuff 0 (contentOf body) ++ (flag ++ rest)) ≡ record { number = number.sent; body = body } ∷ heard opened rest
+    → heard opened (stuff 0 (contentOf body) ++ (flag ++ rest)) ≡ record { number = number.hasFrame; body = body } ∷ heard opened rest
 unfolding spoken
 heard-body body rest small least most =
-    heard-after opened (stuff 0 (contentOf body) ++ (flag ++ rest)) (record { number = number.sent; body = body }) opened
+    heard-after opened (stuff 0 (contentOf body) ++ (flag ++ rest)) (record { number = number.hasFrame; body = body }) opened
     (length (stuff 0 (contentOf body)) + 8) rest (read-opened body small least most rest) (past (stuff 0 (contentOf body)) flag rest 8 refl)
 
 -- ---- over calls
@@ -105,7 +105,7 @@ module _ (n : ℕ) {rx : Receiver} {input output : List ℕ} {start : ℕ} (a : 
     pub any-body : (body rest : List ℕ) → ((i : ℕ) → getD body i 0 < 256) → 2 ≤ length body → length body ≤ 16
         → drop start (wire input) ≡ before ++ (frame body ++ rest)
         → spoken (receives n rx input start output .answers)
-        ≡ heard (view rx) (before ++ flag) ++ (record { number = number.sent; body = body } ∷ heard opened rest)
+        ≡ heard (view rx) (before ++ flag) ++ (record { number = number.hasFrame; body = body } ∷ heard opened rest)
     any-body body rest small least most e =
         answers-along ∙ ap (heard (view rx)) (e ∙ ap (λ (l : List ℕ). before ++ l) (frame-cut body rest))
         ∙ through-flag (view rx) before (stuff 0 (contentOf body) ++ (flag ++ rest))

@@ -1,7 +1,7 @@
 -- ERR: for every request the reply is the one that `firstError` says. Assumes nothing.
 use Prim.Native.Nat.{ℕ}
 use mathlib.Core.Bool.{Bool, true, false, not, _||_, cond}
-use mathlib.Core.Path.{_≡_, refl, sym, ap, subst, _∙_}
+use mathlib.Core.Path.{_≡_, refl, sym, ap}
 use mathlib.Core.List.{List}
 use native.Mathlib.Omega.{arith}
 use borrow.Author.Tests.{eq-eqb, eqb-false}
@@ -48,14 +48,13 @@ use Rattle.registers.specs.ChipId.{idAnswer, actId}
 use Rattle.registers.specs.Dac.{dacAnswer, actDac, doDac}
 use Rattle.numbers.specs.Numbers.{noFrame}
 use Rattle.chip.specs.declared.Adapter.{Adapter}
-use Rattle.chip.specs.declared.Reaction.{Reaction}
-use Rattle.chip.specs.declared.request.Answered.{Answered}
+use Rattle.chip.specs.Answer.{Reaction}
 use Rattle.chip.specs.Event.{frame}
 use Rattle.chip.specs.State.{inRange}
 use Rattle.chip.specs.Answer.{gives}
-use Rattle.chip.specs.Link.{receiveUp, receiveNumber, numberIn, inLoopback}
+use Rattle.chip.specs.Link.{receiveNumber, numberIn, inLoopback}
 use Rattle.chip.specs.Request.{requestOf, onChannel, answered, replies, finished, requested}
-use Rattle.chip.specs.Frame.{addressOf, controlOf, informationOf, isConnect, isReset, isTest, numbered, carried, onFrame}
+use Rattle.chip.specs.Frame.{addressOf, controlOf, informationOf, isConnect, isReset, isTest, counted, numbered, carried, addressed, onFrame}
 use Rattle.chip.specs.Chip.{reaction}
 use Rattle.chip.proofs.Laws.{Fits, error-keeps}
 use Rattle.chip.proofs.Errors.{IsError}
@@ -222,13 +221,13 @@ pub record InOrder (a : Adapter) (port : ℕ) (body : List ℕ) : Type 0 where
   pub no-reset : isReset (controlOf body) ≡ false
   pub no-test : isTest (controlOf body) ≡ false
   pub even : bitOf (controlOf body) 0 ≡ false
-  pub not-looped : inLoopback a port ≡ false
+  pub not-looped : inLoopback (a .link) port ≡ false
   pub active : port ≡ a .link .port
   pub eight : length (informationOf body) ≡ 8
-  pub number : numberIn (controlOf body) ≡ receiveNumber a
+  pub number : numberIn (controlOf body) ≡ receiveNumber (a .link)
 
-in-order : (a : Adapter) (port : ℕ) (body : List ℕ) → InOrder a port body → reaction a (frame port body) ≡ requested (receiveUp a) (informationOf body)
-unfolding reaction onFrame carried numbered
+in-order : (a : Adapter) (port : ℕ) (body : List ℕ) → InOrder a port body → reaction a (frame port body) ≡ requested (counted a) (informationOf body)
+unfolding reaction onFrame addressed carried numbered
 in-order a port body i =
     simp (
       eq-eqb _ _ (i .addressed),
@@ -243,13 +242,13 @@ in-order a port body i =
     )
 
 -- the receive number up by one leaves a state in range there
-up-ranged : (a : Adapter) → inRange a ≡ true → inRange (receiveUp a) ≡ true
+up-ranged : (a : Adapter) → inRange a ≡ true → inRange (counted a) ≡ true
 up-ranged a ranged =
     let r = of-in-range a ranged in
-    in-range (receiveUp a)
+    in-range (counted a)
     (record { send = r .send; receive = omega arith; port = r .port; id = r .id; control = r .control; spi = r .spi; gpio = r .gpio })
 
-up-fits : (a : Adapter) → Fits a → Fits (receiveUp a)
+up-fits : (a : Adapter) → Fits a → Fits (counted a)
 up-fits a f =
     record {
       link = record { send = f .link .send; receive = omega arith; port = f .link .port };
@@ -262,7 +261,7 @@ up-fits a f =
     }
 
 -- and does not change what is wrong with a request
-up-first : (a : Adapter) (q : Request) (ch : Channel) → firstOf (receiveUp a) q ch ≡ firstOf a q ch
+up-first : (a : Adapter) (q : Request) (ch : Channel) → firstOf (counted a) q ch ≡ firstOf a q ch
 up-first a q Controller = refl
 up-first a q Spi = refl
 up-first a q Gpio = refl
@@ -271,14 +270,14 @@ up-first a q Id = refl
 up-first a q Dac = refl
 up-first a q Unknown = refl
 
-up-error : (a : Adapter) (q : Request) → firstError (receiveUp a) q ≡ firstError a q
+up-error : (a : Adapter) (q : Request) → firstError (counted a) q ≡ firstError a q
 unfolding firstError
 up-error a q = up-first a q (channelOf (q .ch))
 
 -- THE FIRST ERROR: every request that reaches a state in range is answered with the ERR that `firstError` says, no register changed, and
--- with no error where it is 0. `receiveUp` is check 8's "the receive number goes up by one".
+-- with no error where it is 0. `counted` is check 8's "the receive number goes up by one".
 pub first-error : (a : Adapter) → inRange a ≡ true → Fits a → (port : ℕ) (body : List ℕ) → InOrder a port body
-    → Ruled (receiveUp a) (requestOf (informationOf body)) (firstError a (requestOf (informationOf body))) (reaction a (frame port body))
+    → Ruled (counted a) (requestOf (informationOf body)) (firstError a (requestOf (informationOf body))) (reaction a (frame port body))
 first-error a ranged fits port body i =
     rw (in-order a port body i, sym (up-error a (requestOf (informationOf body))))
-    (requested-ruled (receiveUp a) (up-ranged a ranged) (up-fits a fits) (informationOf body))
+    (requested-ruled (counted a) (up-ranged a ranged) (up-fits a fits) (informationOf body))

@@ -3,7 +3,7 @@ use Prim.Native.Nat.{ℕ, zero, suc, _<_, _^_}
 use mathlib.Core.Path.{_≡_, refl, ap, _∙_}
 use mathlib.Core.List.{List, [], _∷_}
 use mathlib.Core.Bool.{Bool, true, _&&_}
-use lib.ListN.{length, getD, replicate, length-replicate}
+use lib.ListN.{getD, replicate, length-replicate}
 use lib.Dec.{ltb, lit<, lit≤}
 use borrow.Author.Tests.{ltb-true}
 use Rattle.bits.specs.Bits.{word}
@@ -20,11 +20,10 @@ use Rattle.registers.specs.Dac.{dacAnswer, actDac}
 use Rattle.parts.specs.Parts.{put}
 use Rattle.wire.specs.Bits.{low, wire}
 use Rattle.wire.specs.Frame.{stuff}
-use Rattle.chip.specs.Event.{frame, completion, sample, upset}
+use Rattle.chip.specs.Event.{spi, frame, completion, sample, upset}
 use Rattle.chip.specs.State.{poweredOn}
-use Rattle.chip.specs.Answer.{padded}
 use Rattle.chip.specs.Request.{onChannel, answered, replies, requested}
-use Rattle.chip.specs.Frame.{isResetFrame, commanded, numbered, carried, onFrame}
+use Rattle.chip.specs.Frame.{isResetFrame, commanded, numbered, carried, addressed, onFrame}
 use Rattle.chip.specs.Chip.{reaction, onSample, onUpset}
 use Rattle.listing.specs.Characters.{isHex, hexValue, allHex, arePairs, pairBytes, hexDigit, hexText}
 use Rattle.listing.specs.Line as Line
@@ -37,6 +36,7 @@ use Rattle.promises.specs.Text.{text}
 use Rattle.promises.specs.Table.{listing, listingOutput, inputText, outputText, request, Give, everything, everythingOutput, Table}
 use Rattle.bits.proofs.Tests.{and-left, and-right}
 use Rattle.promises.proofs.Runs.{demand3}
+use Rattle.promises.proofs.Formats.{slots-64, any-17408}
 use Rattle.promises.proofs.Lines.{textLines, lines-told}
 use Rattle.promises.proofs.Text.{ofLine, joined, Says, none, happens, steps, answers-text}
 
@@ -54,7 +54,7 @@ bytes (x ∷ xs) h (suc i) = bytes xs (and-right (ltb x 256) (below xs) h) i
 literal : List Call → Bool
 literal [] = true
 literal (event (frame port body) o ∷ ks) = below body && literal ks
-literal (event (completion received) o ∷ ks) = below received && literal ks
+literal (event (completion (spi received)) o ∷ ks) = below received && literal ks
 literal (event (sample levels kind) o ∷ ks) = ltb levels (2 ^ 32) && literal ks
 literal (event upset o ∷ ks) = literal ks
 literal (back ∷ ks) = literal ks
@@ -64,7 +64,7 @@ typed : (ks : List Call) → literal ks ≡ true → AllOfTheirTypes ks
 unfolding literal
 typed [] h = tt
 typed (event (frame port body) o ∷ ks) h = (bytes body (and-left (below body) (literal ks) h), typed ks (and-right (below body) (literal ks) h))
-typed (event (completion received) o ∷ ks) h =
+typed (event (completion (spi received)) o ∷ ks) h =
     (bytes received (and-left (below received) (literal ks) h), typed ks (and-right (below received) (literal ks) h))
 typed (event (sample levels kind) o ∷ ks) h =
     (ltb-true levels (2 ^ 32) (and-left (ltb levels (2 ^ 32)) (literal ks) h), typed ks (and-right (ltb levels (2 ^ 32)) (literal ks) h))
@@ -72,15 +72,15 @@ typed (event upset o ∷ ks) h = (tt, typed ks h)
 typed (back ∷ ks) h = (tt, typed ks h)
 typed (empty ∷ ks) h = (tt, typed ks h)
 
-listing-text : textLines 0x00000A atStart listing ≡ listingOutput
+listing-text : textLines 0x00000A (atStart 64) listing ≡ listingOutput
 unfolding
-    reaction onFrame commanded carried numbered requested answered onChannel replies padded poweredOn isResetFrame put channelOf
+    reaction onFrame addressed commanded carried numbered requested answered onChannel replies poweredOn isResetFrame put channelOf
     controllerAnswer actControl controllerCommand spiAnswer actSpi spiCommand gpioAnswer actGpio gpioCommand
 listing-text = refl
 
-everything-text : textLines 0x00000A atStart everything ≡ everythingOutput
+everything-text : textLines 0x00000A (atStart 64) everything ≡ everythingOutput
 unfolding
-    reaction onFrame commanded carried numbered requested answered onChannel replies onSample onUpset padded poweredOn isResetFrame put
+    reaction onFrame addressed commanded carried numbered requested answered onChannel replies onSample onUpset poweredOn isResetFrame put
     channelOf controllerAnswer actControl controllerCommand gpioSampled datainAfter firingLines word
 everything-text = refl
 
@@ -97,21 +97,23 @@ listing-joined : joined listingOutput ≡ text outputText
 unfolding joined ofLine answerText decimal frameText hexText hexDigit text
 listing-joined = refl
 
+-- the answers due to calls are the lines that the delivered calls give
+give : (calls : List Call) (output : List (List ℕ)) → literal calls ≡ true → textLines 0x00000A (atStart 64) calls ≡ output → Give calls output
+give calls output t e b size =
+    lines-told ours demand3 0x00000A (lit≤ tt) b (any-17408 b size) calls (typed calls t)
+    ∙ ap (λ (most : ℕ). textLines 0x00000A (atStart most) calls) (slots-64 b size) ∙ e
+
 eight-text : Listing.played (text inputText) ≡ text outputText
 unfolding Listing.played literal below
 eight-text =
     answers-text listing-says _ _
-    ∙ ap joined (lines-told ours demand3 0x00000A (lit≤ tt) (replicate 17408 0) (length-replicate {A = ℕ} 17408 0) listing (typed listing refl) ∙ listing-text)
+    ∙ ap joined (give listing listingOutput refl listing-text (replicate 17408 0) (length-replicate {A = ℕ} 17408 0))
     ∙ listing-joined
-
--- the answers due to calls are the lines that the delivered calls give
-give : (calls : List Call) (output : List (List ℕ)) → literal calls ≡ true → textLines 0x00000A atStart calls ≡ output → Give calls output
-give calls output t e b size = lines-told ours demand3 0x00000A (lit≤ tt) b size calls (typed calls t) ∙ e
 
 -- THE TABLE HOLDS.
 pub table : Table
 unfolding
-    reaction onFrame commanded carried numbered requested answered onChannel replies padded poweredOn isResetFrame put channelOf
+    reaction onFrame addressed commanded carried numbered requested answered onChannel replies poweredOn isResetFrame put channelOf
     controllerAnswer actControl controllerCommand dacAnswer actDac dacCommand stuff wire low literal below
 table =
     record {

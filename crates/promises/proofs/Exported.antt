@@ -3,35 +3,36 @@ use Prim.Native.Nat.{ℕ, zero, suc, _+_, _*_, _/_, _%_, _≤_, _<_}
 use mathlib.Core.Path.{_≡_, refl, sym, ap, _∙_}
 use mathlib.Core.Bool.{Bool, true, false, not, cond}
 use mathlib.Core.List.{List, [], _∷_, foldl}
-use mathlib.Core.Logic.{_⊎_, inl, inr, ⊎-elim}
+use mathlib.Core.Logic.{_⊎_, inl, inr}
 use native.Mathlib.Omega.{arith}
-use lib.ListN.{length, take, getD}
-use lib.Dec.{eqb, ltb, lit<, lit≤}
+use lib.ListN.{length, take}
+use lib.Dec.{eqb, lit<}
 use borrow.Author.Tests.{eq-eqb, ltb-false}
 use Rattle.numbers.specs.Numbers as number
 use Rattle.chip.specs.declared.Adapter.{Adapter}
-use Rattle.chip.specs.declared.Reaction.{Reaction}
+use Rattle.chip.specs.Answer.{Reaction, frontLength}
 use Rattle.chip.specs.Event.{Event, frame}
 use Rattle.chip.specs.State.{inRange}
 use Rattle.chip.specs.Request.{replies}
 use Rattle.chip.specs.Chip.{reaction}
 use Rattle.chip.proofs.Fits.{Fits}
 use Rattle.chip.proofs.Laws.{number-given}
-use Rattle.chip.proofs.Steps.{touched-link, step-cases}
+use Rattle.chip.proofs.Steps.{Shape, dropped, acknowledged, echoed, rejected, replied, quiet, moved-port, shapes}
 use Rattle.journal.specs.Layout as Layout
-use Rattle.journal.specs.Layout.{version1, wellFormed, keptOf, past}
+use Rattle.journal.specs.Layout.{slotsOf, wrongLength, wellFormed, keptOf, past}
 use Rattle.journal.specs.Record.{sound}
+use Rattle.journal.proofs.Formats.{slots-small}
 use Rattle.journal.proofs.Ring.{of-well}
-use Rattle.adapter.specs.declared.Answer.{Answer}
+use Rattle.chip.specs.declared.Response.{Response}
 use Rattle.adapter.specs.declared.KeptNumber.{KeptNumber}
 use Rattle.adapter.specs.declared.Verdict.{Verdict}
 use Rattle.adapter.specs.declared.Verdict.the-variants.{Refused, Passed}
 use Rattle.adapter.specs.Refusals.{wrongArgument, wrongBody, inOrder, verdict, backVerdict}
 use Rattle.adapter.specs.Calls as Calls
-use Rattle.adapter.specs.Calls.{Outcome, called, done, judgedBack, keptIn}
+use Rattle.adapter.specs.Calls.{called, done, judgedBack, keptIn}
 use Rattle.adapter.proofs.Laws.{called-refused, called-done}
-use Rattle.adapter.proofs.Cases.{Passing, passing, short}
-use Rattle.sca.specs.Adapter.{stateBytes, stateIn, isState, packAnswer, packKept, created, emptied, kept, happened, steppedBack}
+use Rattle.adapter.proofs.Cases.{passing, body-short}
+use Rattle.sca.specs.Adapter.{stateBytes, stateIn, packAnswer, packKept, created, emptied, kept, happened, steppedBack}
 use Rattle.sca.proofs.States.{state-back, state-bytes}
 use Rattle.promises.specs.Runs.{Call, event, back, empty, Given, AllOfTheirTypes, Run, left, bare, refuses, Demand3}
 use Rattle.promises.specs.Ours.{Handed, shown, givesOurs, leavesOurs, ours}
@@ -50,12 +51,12 @@ module _ (n l p : ℕ) (hn : n < 256) (hl : l < 256) (hp : p < 256) where
   its-port : (n + 256 * l + 65536 * p) / 65536 % 256 ≡ p
   its-port = omega arith
 
-pub record Small (x : Answer) : Type 0 where
+pub record Small (x : Response) : Type 0 where
   pub number : x .number < 256
   pub length : x .length < 256
   pub port : x .port < 256
 
-pub unpacked-answer : (x : Answer) (output : List ℕ) → Small x → unpacked (packAnswer x) output ≡ shown x output
+pub unpacked-answer : (x : Response) (output : List ℕ) → Small x → unpacked (packAnswer x) output ≡ shown x output
 unpacked-answer x output s =
     simp (
       its-number (x .number) (x .length) (x .port) (s .number),
@@ -86,24 +87,25 @@ small-given n (inr l) = omega arith
 port-of : (e : Event) (port : ℕ) (body : List ℕ) → wrongArgument e ≡ false → e ≡ frame port body → port < 256
 port-of e port body h g = let l = ltb-false 1 port (rw g at h) in omega arith
 
-small-port : (a : Adapter) (e : Event) → Fits a → wrongArgument e ≡ false → reaction a e .port < 256
+-- no body has over 16 bytes
+length-of : (e : Event) (port : ℕ) (body : List ℕ) → wrongBody e ≡ false → e ≡ frame port body → length body < 256
+length-of e port body h g = let l = body-short port body (rw g at h) in omega arith
+
+record SmallFrame (r : Reaction) : Type 0 where
+  port : r .port < 256
+  length : frontLength (r .frames) < 256
+
+small-frame : (a : Adapter) (e : Event) → Fits a → wrongArgument e ≡ false → wrongBody e ≡ false → SmallFrame (reaction a e)
 unfolding replies
-small-port a e f h =
-    step-cases a e (λ (r : Reaction). r .port < 256)
-    (record {
-      drops = λ _ _ _. lit< tt;
-      connects = λ port body g. port-of e port body h g;
-      resets = λ port body g. port-of e port body h g;
-      tests = λ port body g. port-of e port body h g;
-      echoes = λ port body g. port-of e port body h g;
-      rejects = λ port body g. port-of e port body h g;
-      answers = λ _ _ _ b _ _ _ t. rw (touched-link _ _ b _ t) (f .link .port);
-      starts = λ _ _ _ _ _. lit< tt;
-      completes = λ _ _ _. f .link .port;
-      interrupts = λ _ _ _ _. f .link .port;
-      samples = λ _ _ _ _. lit< tt;
-      upsets = lit< tt;
-    })
+small-frame a e f h k = by (reaction a e) (shapes a e)
+  where
+    by : (r : Reaction) → Shape a e r → SmallFrame r
+    by r (dropped n l u) = record { port = lit< tt; length = lit< tt }
+    by r (acknowledged port body g b c) = record { port = port-of e port body h g; length = lit< tt }
+    by r (echoed port body g) = record { port = port-of e port body h g; length = length-of e port body k g }
+    by r (rejected port body g) = record { port = port-of e port body h g; length = lit< tt }
+    by r (replied b trn ch err len d m g) = record { port = rw (moved-port a e b m) (f .link .port); length = lit< tt }
+    by r (quiet b m) = record { port = lit< tt; length = lit< tt }
 
 pub called-number : (a : Adapter) (j : List ℕ) (e : Event) (o : List ℕ) → called a j e o .answer .number < 256
 unfolding done verdict
@@ -126,8 +128,8 @@ called-small a j e o f = go (verdict a j e o) refl
     go Passed q =
         let c = called-done a j e o q in
         let p = passing a j e o Passed (sym q) refl in
-        let l = short a e (p .body) in
-        record { number = called-number a j e o; length = rw c (omega arith); port = rw c (small-port a e f (p .argument)) }
+        let l = small-frame a e f (p .argument) (p .body) in
+        record { number = called-number a j e o; length = rw c (l .length); port = rw c (l .port) }
 
 small-back : (s f n d : Bool) → SmallVerdict (cond s (Refused 6) (cond f (Refused 4) (cond n (Refused 5) (cond d (Refused 4) Passed))))
 small-back true f n d = lit< tt
@@ -139,7 +141,7 @@ small-back false false false false = tt
 pub back-small : (a : Adapter) (j : List ℕ) → Small (Calls.steppedBack a j .answer)
 unfolding Calls.steppedBack backVerdict
 back-small a j =
-    go (backVerdict a j) (small-back (not (inRange a)) (not (wellFormed version1 j)) (eqb (keptOf j) 0) (not (sound a (past version1 j 0))))
+    go (backVerdict a j) (small-back (not (inRange a)) (not (wellFormed j)) (eqb (keptOf j) 0) (not (sound a (past j 0))))
   where
     go : (v : Verdict) → SmallVerdict v → Small (judgedBack v a j .answer)
     go (Refused n) s = record { number = s; length = lit< tt; port = lit< tt }
@@ -147,23 +149,23 @@ back-small a j =
 
 empty-bare : (j : List ℕ) → unpacked (Calls.madeEmpty j .number) [] ≡ bare (Calls.madeEmpty j .number) []
 unfolding Calls.madeEmpty
-empty-bare j = go (eqb (length j) 17408)
+empty-bare j = go (wrongLength j)
   where
-    go : (b : Bool) → unpacked ((cond b (Calls.cleared number.noFrame (Layout.emptied version1 j)) (Calls.cleared number.badJournal j)) .number) []
-        ≡ bare ((cond b (Calls.cleared number.noFrame (Layout.emptied version1 j)) (Calls.cleared number.badJournal j)) .number) []
+    go : (b : Bool) → unpacked ((cond b (Calls.cleared number.badJournal j) (Calls.cleared number.noFrame (Layout.emptied j))) .number) []
+        ≡ bare ((cond b (Calls.cleared number.badJournal j) (Calls.cleared number.noFrame (Layout.emptied j))) .number) []
     go true = refl
     go false = refl
 
-kept-again : (k : ℕ) → k ≤ 64 → ((17 + 256 * k) % 256 ≡ 17) × ((17 + 256 * k) / 256 % 256 ≡ k)
-kept-again k h = (omega arith, omega arith)
+kept-again : (k n : ℕ) → k ≤ n → n < 256 → ((17 + 256 * k) % 256 ≡ 17) × ((17 + 256 * k) / 256 % 256 ≡ k)
+kept-again k n h l = (omega arith, omega arith)
 
 kept-unpacked : (j : List ℕ) → unpackedKept (packKept (keptIn j)) ≡ keptIn j
 unfolding keptIn
-kept-unpacked j = go (wellFormed version1 j) refl
+kept-unpacked j = go (wellFormed j) refl
   where
-    go : (b : Bool) → wellFormed version1 j ≡ b → unpackedKept (packKept (keptIn j)) ≡ keptIn j
+    go : (b : Bool) → wellFormed j ≡ b → unpackedKept (packKept (keptIn j)) ≡ keptIn j
     go true h =
-        let k = kept-again (keptOf j) (of-well version1 j h .few) in simp (h, k .0, k .1)
+        let k = kept-again (keptOf j) (slotsOf j) (of-well j h .few) (slots-small j) in simp (h, k .0, k .1)
     go false h = simp h
 
 -- ---- one call

@@ -1,7 +1,7 @@
 -- DEMAND 1 of the exports, for every input: "A refused call [..] changes no state, no journal byte and no output byte." A call is refused
 -- where the number in its packed result is 1 to 10.
 use Prim.Native.Nat.{ℕ, _+_, _*_, _%_, _<_}
-use mathlib.Core.Path.{_≡_, refl, sym, ap, ap₂, _∙_}
+use mathlib.Core.Path.{_≡_, refl, sym, ap, _∙_}
 use mathlib.Core.Bool.{Bool, true, false, cond, _&&_, false≢true}
 use mathlib.Core.List.{List}
 use native.Mathlib.Omega.{arith}
@@ -19,10 +19,11 @@ use Rattle.receiver.specs.declared.Receiver.{Receiver}
 use Rattle.receiver.specs.declared.Received.{Received}
 use Rattle.receiver.specs.Receiver.{inRange, view}
 use Rattle.receiver.specs.Receive.{readFrom, receivedAs, received}
+use Rattle.journal.specs.Layout.{wrongLength}
 use Rattle.adapter.specs.Calls as Calls
-use Rattle.adapter.specs.Calls.{Outcome, outcome, plain, Stepped, stepped}
-use Rattle.sca.specs.Adapter.{stateBytes, stateIn, isState, packAnswer, Left, left, happened, Backed, backed, steppedBack, created, emptied}
-use Rattle.sca.specs.Link.{receiverBytes, receiverOf, packReceived, transmitResult, transmitOutput, newResult, newReceiver, receiveResult, receiveReceiver, receiveOutput}
+use Rattle.adapter.specs.Calls.{Outcome, Stepped}
+use Rattle.sca.specs.Adapter.{stateBytes, stateIn, isState, packAnswer, left, happened, backed, steppedBack, created, emptied}
+use Rattle.sca.specs.Link.{receiverBytes, receiverOf, transmitResult, transmitOutput, newResult, newReceiver, receiveResult, receiveReceiver, receiveOutput}
 use Rattle.sca.proofs.States.{state-again}
 use Rattle.sca.proofs.Spelling.{spelled-again}
 use Rattle.promises.specs.Runs.{isRefusal}
@@ -81,11 +82,11 @@ create-keeps s id h = by (eqb (length s) 76) refl (ltb 0xFFFFFF id) refl
 -- sca_empty
 pub empty-keeps : (journal : List ℕ) → isRefusal (resultNumber (emptied journal .result)) ≡ true → emptied journal .bytes ≡ journal
 unfolding emptied Calls.madeEmpty
-empty-keeps journal h = by (eqb (length journal) 17408) refl
+empty-keeps journal h = by (wrongLength journal) refl
   where
-    by : (t : Bool) → eqb (length journal) 17408 ≡ t → emptied journal .bytes ≡ journal
-    by true q = absurd (false≢true (rw q at h))
-    by false q = rw q refl
+    by : (t : Bool) → wrongLength journal ≡ t → emptied journal .bytes ≡ journal
+    by true q = rw q refl
+    by false q = absurd (false≢true (rw q at h))
 
 -- ---- the link's calls
 

@@ -44,7 +44,7 @@ module _ {c : List ℕ} (bits : AreBits c) (least : 32 ≤ length c) (most : len
       bytes-pack (take (length c - 16) c) (bits-take (length c - 16) bits) z
 
   -- Right: the body is the bytes before the FCS.
-  pub right-fcs : FcsRight c → atFlag c ≡ record { number = number.sent; body = bytesBefore c }
+  pub right-fcs : FcsRight c → atFlag c ≡ record { number = number.hasFrame; body = bytesBefore c }
   right-fcs h =
       ap atFlag (residue-content bits enough whole (last-residue bits enough whole h))
       ∙ content-answer (bytesBefore c) before-small (omega (arith, before-length)) (omega (arith, before-length))
@@ -60,18 +60,18 @@ module _ {c : List ℕ} (bits : AreBits c) (least : 32 ≤ length c) (most : len
   -- and 23 is wrong.
   pub wrong-exactly : (atFlag c .number ≡ number.wrongFcs) ↔ (FcsRight c → ⊥)
   wrong-exactly = (
-    λ n r. let z : number.sent ≡ number.wrongFcs = sym (ap (λ (x : Answer). x .number) (right-fcs r)) ∙ n in omega arith,
+    λ n r. let z : number.hasFrame ≡ number.wrongFcs = sym (ap (λ (x : Answer). x .number) (right-fcs r)) ∙ n in omega arith,
     λ w. ap (λ (x : Answer). x .number) (wrong-fcs w),
   )
 
 -- ---- any content
 
 -- WHAT COMES BACK STOOD THERE: content that a flag answers with a body is that body and its FCS.
-pub sent-content : {c : List ℕ} → AreBits c → atFlag c .number ≡ number.sent → c ≡ contentOf (atFlag c .body)
+pub sent-content : {c : List ℕ} → AreBits c → atFlag c .number ≡ number.hasFrame → c ≡ contentOf (atFlag c .body)
 unfolding atFlag
 sent-content {c = c} bits h =
-    split (ltb (length c) 32) (λ e. let z : number.noFrame ≡ number.sent = rw e at h in absurd (omega arith))
-    (λ e. split (ltb 144 (length c)) (λ f. let z : number.longContent ≡ number.sent = rw (e, f) at h in absurd (omega arith))
+    split (ltb (length c) 32) (λ e. let z : number.noFrame ≡ number.hasFrame = rw e at h in absurd (omega arith))
+    (λ e. split (ltb 144 (length c)) (λ f. let z : number.longContent ≡ number.hasFrame = rw (e, f) at h in absurd (omega arith))
     (λ f. split (eqb (length c % 8) 0)
     (λ g. split (eqb (register preset c) residue)
     (λ r.
@@ -80,8 +80,8 @@ sent-content {c = c} bits h =
     let whole : length c % 8 ≡ 0 = eqb-true (length c % 8) 0 g in
     let same : c ≡ contentOf (bytesBefore c) = residue-content bits (omega arith) whole (eqb-true (register preset c) residue r) in
     same ∙ ap contentOf (sym (ap (λ (x : Answer). x .body) (right-fcs bits least most whole (content-last bits (omega arith) whole same)))))
-    (λ r. let z : number.wrongFcs ≡ number.sent = rw (e, f, g, r) at h in absurd (omega arith)))
-    (λ g. let z : number.brokenContent ≡ number.sent = rw (e, f, g) at h in absurd (omega arith))))
+    (λ r. let z : number.wrongFcs ≡ number.hasFrame = rw (e, f, g, r) at h in absurd (omega arith)))
+    (λ g. let z : number.brokenContent ≡ number.hasFrame = rw (e, f, g) at h in absurd (omega arith))))
 
 -- ---- the call
 
@@ -106,8 +106,8 @@ module _ {rx : Receiver} {input output : List ℕ} {start : ℕ} (a : Accepted r
       (λ q. w .0 (sym n ∙ q), λ q. n ∙ w .1 q)
 
   -- and a body at the front of the output is the one whose content stood between the flags.
-  pub body-received : received rx input start output .number ≡ number.sent
+  pub body-received : received rx input start output .number ≡ number.hasFrame
       → destuff raw ≡ contentOf (take (received rx input start output .length) (outputAfter rx input start output))
   body-received q =
-      let n : atFlag (destuff raw) .number ≡ number.sent = sym (ap (λ (x : Answer). x .number) told-flag) ∙ q in
+      let n : atFlag (destuff raw) .number ≡ number.hasFrame = sym (ap (λ (x : Answer). x .number) told-flag) ∙ q in
       sent-content (bits-unstuff raw 0) n ∙ ap (λ (x : Answer). contentOf (x .body)) (sym told-flag)

@@ -98,7 +98,7 @@ module _ (body : List ℕ) (b : Body body) where
 -- ---- over bits
 
 calls-found : (n : ℕ) (s : State) (bits body rest : List ℕ) (m : ℕ) → reading s bits ≡ found body m → drop m bits ≡ rest
-    → calls (suc n) s bits .answers ≡ record { number = number.sent; body = body } ∷ calls n opened rest .answers
+    → calls (suc n) s bits .answers ≡ record { number = number.hasFrame; body = body } ∷ calls n opened rest .answers
 unfolding calls
 calls-found n s bits body rest m e d =
     ap₂ (λ (a : Answer) (l : List Answer). a ∷ l) (ap (λ (r : Reading). r .answer) e)
@@ -116,7 +116,7 @@ calls-cable (body ∷ bodies) bs k h =
     ap (λ (l : List ℕ). calls (suc (suc (length bodies))) opened (replicate k 1 ++ l) .answers) (framed-bits body b (cable bodies))
     ∙ calls-found (suc (length bodies)) opened (replicate k 1 ++ (frame body ++ rest)) body rest (k + length (frame body))
     (filled-read body b k rest h) (past-frame body b k rest)
-    ∙ ap (λ (l : List Answer). record { number = number.sent; body = body } ∷ l)
+    ∙ ap (λ (l : List Answer). record { number = number.hasFrame; body = body } ∷ l)
     (calls-cable bodies (bs .1) (filling body) (filling-most body))
 
 heard-cable : (bodies : List (List ℕ)) → Bodies bodies → (k : ℕ) → k ≤ 7
@@ -127,9 +127,9 @@ heard-cable (body ∷ bodies) bs k h =
     let b : Body body = bs .0 in
     let rest : List ℕ = replicate (filling body) 1 ++ wire (cable bodies) in
     ap (λ (l : List ℕ). heard opened (replicate k 1 ++ l)) (framed-bits body b (cable bodies))
-    ∙ heard-after opened (replicate k 1 ++ (frame body ++ rest)) (record { number = number.sent; body = body }) opened (k + length (frame body)) rest
+    ∙ heard-after opened (replicate k 1 ++ (frame body ++ rest)) (record { number = number.hasFrame; body = body }) opened (k + length (frame body)) rest
     (filled-read body b k rest h) (past-frame body b k rest)
-    ∙ ap (λ (l : List Answer). record { number = number.sent; body = body } ∷ l) (heard-cable bodies (bs .1) (filling body) (filling-most body))
+    ∙ ap (λ (l : List Answer). record { number = number.hasFrame; body = body } ∷ l) (heard-cable bodies (bs .1) (filling body) (filling-most body))
 
 -- ---- over calls
 
@@ -201,7 +201,7 @@ frames-come-back (body ∷ bodies) bs output short room =
     ∙ ap (λ (l : List ℕ). calls (suc (suc (length bodies))) hunting l .answers) (framed-bits body b (cable bodies))
     ∙ calls-found (suc (length bodies)) hunting (frame body ++ rest) body rest (length (frame body))
     (read-hunting body (b .small) (b .least) (b .most) rest) (drop-at (frame body) rest (length (frame body)) refl)
-    ∙ ap (λ (l : List Answer). record { number = number.sent; body = body } ∷ l)
+    ∙ ap (λ (l : List Answer). record { number = number.hasFrame; body = body } ∷ l)
     (calls-cable bodies (bs .1) (filling body) (filling-most body)))
 
 -- FROM ANY RECEIVER IN RANGE, whatever it read before: after the answers to what came before the first frame's flag, the bodies and
@@ -214,5 +214,5 @@ unfolding flatMap
 any-frames n {rx} {input} {output} {start} a end before body bodies b bs e =
     let rest : List ℕ = replicate (filling body) 1 ++ wire (cable bodies) in
     any-body n a end before body rest (b .small) (b .least) (b .most) (e ∙ ap (λ (l : List ℕ). before ++ l) (framed-bits body b (cable bodies)))
-    ∙ ap (λ (l : List Answer). heard (view rx) (before ++ flag) ++ (record { number = number.sent; body = body } ∷ l))
+    ∙ ap (λ (l : List Answer). heard (view rx) (before ++ flag) ++ (record { number = number.hasFrame; body = body } ∷ l))
     (heard-cable bodies bs (filling body) (filling-most body))

@@ -1,6 +1,6 @@
 -- THE KEPT NUMBER, for any calls that meet demand 3, in the words of the demand and of `kept` alone. Assumes nothing.
-use Prim.Native.Nat.{ℕ, _+_, _-_, min}
-use mathlib.Core.Path.{_≡_, refl, sym, ap, _∙_}
+use Prim.Native.Nat.{ℕ, _+_, _-_, min, _≤_}
+use mathlib.Core.Path.{_≡_, refl, sym, ap, ap₂, _∙_}
 use mathlib.Core.List.{List, [], _∷_, foldl-append}
 use mathlib.Core.Bool.{true, false}
 use mathlib.Core.Logic.{_↔_}
@@ -10,8 +10,11 @@ use lib.Dec.{eqb}
 use Rattle.numbers.specs.Numbers as number
 use Rattle.chip.specs.Event.{Event}
 use Rattle.chip.specs.Chip.{acceptedReset}
+use Rattle.journal.specs.Layout.{slotsOf}
 use Rattle.adapter.specs.declared.KeptNumber.{KeptNumber}
 use Rattle.promises.specs.Runs.{Call, event, back, empty, Calls, Given, OfItsTypes, Run, left, refused, Standing, atStart, keeps, standing, Demand3}
+use Rattle.promises.proofs.Formats.{always-64}
+use Rattle.promises.proofs.Runs.{most-standing, at-most-64}
 use Rattle.promises.proofs.Standing.{typed-more, further}
 use Rattle.promises.proofs.Steps.{split}
 
@@ -30,9 +33,9 @@ pub record KeptRule (c : Calls) : Type 0 where
   -- and after an accepted RESET,
   pub after-reset : (r : Run) (e : Event) (o : List ℕ) → OfItsTypes (event e o) → refused e o ≡ false → acceptedReset e ≡ true
       → keptThen c r (event e o) ≡ 0
-  -- goes up by one with each other event not refused, to at most 64,
+  -- goes up by one with each other event not refused, to at most 64 [the slots of the run's bytes: `up-to-64`],
   pub up : (r : Run) (e : Event) (o : List ℕ) → OfItsTypes (event e o) → refused e o ≡ false → acceptedReset e ≡ false
-      → keptThen c r (event e o) ≡ min 64 (keptAfter c r + 1)
+      → keptThen c r (event e o) ≡ min (slotsOf (r .bytes)) (keptAfter c r + 1)
   -- and down by one with each step granted."
   pub down : (r : Run) → (keptAfter c r ≡ 0 → ⊥) → keptThen c r back ≡ keptAfter c r - 1
   -- A refused event leaves it.
@@ -48,7 +51,7 @@ module _ (c : Calls) (d : Demand3 c) (r : Run) where
       let q = further r (k ∷ []) (typed-more (r .calls) k (r .typed) t) in
       ap (λ (p : c .Pair). c .kept p .kept) (sym (foldl-append (c .leaves) (c .start (r .id) (r .bytes)) (r .calls) (k ∷ [])))
       ∙ ap (λ (x : KeptNumber). x .kept) (d .kept q)
-      ∙ ap (λ (s : Standing). s .number) (foldl-append keeps atStart (r .calls) (k ∷ []))
+      ∙ ap (λ (s : Standing). s .number) (foldl-append keeps (atStart (slotsOf (r .bytes))) (r .calls) (k ∷ []))
 
 pub kept-rule : (c : Calls) → Demand3 c → KeptRule c
 kept-rule c d =
@@ -56,12 +59,20 @@ kept-rule c d =
       at-start = λ r h. number-after c d r ∙ rw h refl;
       after-emptying = λ r. number-then c d r empty tt;
       after-reset = λ r e o t h q. number-then c d r (event e o) t ∙ simp (h, q);
-      up = λ r e o t h q. number-then c d r (event e o) t ∙ simp (h, q) (ap (λ (n : ℕ). min 64 (n + 1)) (sym (number-after c d r)));
+      up = λ r e o t h q. number-then c d r (event e o) t ∙ simp (h, q) (ap₂ (λ (m n : ℕ). min m (n + 1)) (most-standing r) (sym (number-after c d r)));
       down = λ r z.
           let s : standing r .number ≡ 0 → ⊥ = λ q. z (number-after c d r ∙ q) in
           number-then c d r back tt ∙ simp (ne-eqb (standing r .number) 0 s) (ap (λ (n : ℕ). n - 1) (sym (number-after c d r)));
       stays = λ r e o t h. number-then c d r (event e o) t ∙ simp h (sym (number-after c d r));
     }
+
+-- TO AT MOST 64.
+pub up-to-64 : (c : Calls) → Demand3 c → (r : Run) (e : Event) (o : List ℕ) → OfItsTypes (event e o) → refused e o ≡ false → acceptedReset e ≡ false
+    → keptThen c r (event e o) ≡ min 64 (keptAfter c r + 1)
+up-to-64 c d r e o t h q = kept-rule c d .up r e o t h q ∙ ap (λ (m : ℕ). min m (keptAfter c r + 1)) (always-64 (r .bytes) (r .size))
+
+pub never-over-64 : (c : Calls) → Demand3 c → (r : Run) → keptAfter c r ≤ 64
+never-over-64 c d r = let n = number-after c d r in omega (arith, at-most-64 r)
 
 -- A STEP BACK IS REFUSED (5) EXACTLY WHEN THE KEPT NUMBER IS ZERO.
 pub refused-exactly : (c : Calls) → Demand3 c → (r : Run) → (c .gives (left c r) back .number ≡ number.noneKept) ↔ (keptAfter c r ≡ 0)

@@ -6,7 +6,7 @@ use mathlib.Core.Bool.{Bool, true, false, true≢false}
 use mathlib.Core.List.{List, [], _∷_, foldl}
 use native.Mathlib.Omega.{arith}
 use borrow.Author.Tests.{leb-true, lt-leb, le-ltb}
-use lib.ListN.{length, take, drop, length-take}
+use lib.ListN.{length, take, drop}
 use lib.Seq.{drop-at}
 use lib.Dec.{leb}
 use Rattle.numbers.specs.Numbers as number
@@ -18,14 +18,15 @@ use Rattle.receiver.specs.declared.Received.{Received}
 use Rattle.receiver.specs.Receiver as receiver
 use Rattle.receiver.specs.Receive.{reading, readFrom, receivedAs, received, outputAfter}
 use Rattle.chip.specs.declared.Adapter.{Adapter}
-use Rattle.chip.specs.declared.Reaction.{Reaction}
+use Rattle.chip.specs.Answer.{Reaction, frontLength, laid}
 use Rattle.chip.specs.Event.{Event, frame, completion, sample, upset}
 use Rattle.chip.proofs.EventFits.{EventFits}
 use Rattle.chip.specs.Chip.{reaction, acceptedReset}
 use Rattle.chip.specs.State.{inRange}
 use Rattle.chip.proofs.Ranges.{of-in-range}
-use Rattle.chip.proofs.Laws.{dropped-keeps, accepted-reset, sixteen, sendable}
-use Rattle.journal.specs.Layout.{version1, pushed}
+use Rattle.chip.proofs.Laws.{dropped-keeps, accepted-reset, OneFrame, one-frame, sendable}
+use Rattle.chip.proofs.Bodies.{one, none, Every, Framable}
+use Rattle.journal.specs.Layout.{slotsOf, pushed}
 use Rattle.journal.specs.Record.{before}
 use Rattle.journal.proofs.Ring.{Well, well-of, of-well}
 use Rattle.adapter.specs.declared.Verdict.the-variants.{Passed}
@@ -83,20 +84,20 @@ module _ (rx : Receiver) (input : List ℕ) (start : ℕ) (output : List ℕ) wh
       (λ r. absurd (true≢false (rw r at h)))
 
   -- Every number but 0 leaves every output byte.
-  pub receiver-other : (received rx input start output .number ≡ number.sent → ⊥) → outputAfter rx input start output ≡ output
+  pub receiver-other : (received rx input start output .number ≡ number.hasFrame → ⊥) → outputAfter rx input start output ≡ output
   receiver-other h =
       split (isRefusal (received rx input start output .number)) (λ t. receive-unchanged rx input start output t .bytes)
       (λ t.
       let d : Done = is-done t in
-      let none : readFrom rx input start .answer .number ≡ number.sent → ⊥ = λ z. h (ap (λ (r : Received). r .number) (d .result) ∙ z) in
+      let none : readFrom rx input start .answer .number ≡ number.hasFrame → ⊥ = λ z. h (ap (λ (r : Received). r .number) (d .result) ∙ z) in
       d .bytes ∙ rw (reading-sized (receiver.view rx) (drop start (wire input)) .other none) (sym (put-none 0 output)))
 
   -- 0: A BODY AT THE FRONT OF THE OUTPUT, as many bytes as the call gives, 2 to 16; no other byte changes.
-  pub receiver-0 : received rx input start output .number ≡ number.sent
+  pub receiver-0 : received rx input start output .number ≡ number.hasFrame
       → FrontAlone (received rx input start output .length) output (outputAfter rx input start output)
   receiver-0 h =
       let d : Done = is-done (rw h refl) in
-      let sent : readFrom rx input start .answer .number ≡ number.sent = sym (ap (λ (r : Received). r .number) (d .result)) ∙ h in
+      let sent : readFrom rx input start .answer .number ≡ number.hasFrame = sym (ap (λ (r : Received). r .number) (d .result)) ∙ h in
       let sized = reading-sized (receiver.view rx) (drop start (wire input)) in
       let f : FrontAlone (length (readFrom rx input start .answer .body)) output (put 0 (readFrom rx input start .answer .body) output) =
       front-alone _ (readFrom rx input start .answer .body) output refl (sized .least sent) (sized .most) (d .room) in
@@ -135,6 +136,12 @@ receiver-moved-on {rx} {input} {output} {start} a h =
 
 -- ---- an event
 
+-- the one frame that goes with 0
+laid-alone : (r : Reaction) (output : List ℕ) → OneFrame r → r .number ≡ number.hasFrame → Every Framable (r .frames) → 16 ≤ length output
+    → FrontAlone (frontLength (r .frames)) output (laid (r .frames) output)
+laid-alone r output (one b port body) h f room = front-alone (length body) body output refl (f .0 .least) (f .0 .most) room
+laid-alone r output (none b n other) h f room = absurd (other h)
+
 by-verdict : (s f o g b : Bool) (a : Adapter) (j : List ℕ) (e : Event) (output : List ℕ)
     → isRefusal (judged (inOrder s f o g b) a j e output .answer .number) ≡ false → inOrder s f o g b ≡ Passed
 unfolding inOrder
@@ -146,14 +153,14 @@ by-verdict false false false false true a j e output h = absurd (true≢false h)
 by-verdict false false false false false a j e output h = refl
 
 -- an accepted RESET is answered
-reset-answered : (a : Adapter) (e : Event) → acceptedReset e ≡ true → reaction a e .number ≡ number.sent
+reset-answered : (a : Adapter) (e : Event) → acceptedReset e ≡ true → reaction a e .number ≡ number.hasFrame
 reset-answered a (frame port body) h = ap (λ (r : Reaction). r .number) (accepted-reset a port body h)
-reset-answered a (completion received) h = absurd (true≢false (sym h))
+reset-answered a (completion c) h = absurd (true≢false (sym h))
 reset-answered a (sample levels kind) h = absurd (true≢false (sym h))
 reset-answered a upset h = absurd (true≢false (sym h))
 
-kept-number : (a : Adapter) (e : Event) (j : List ℕ) → Well version1 j → acceptedReset e ≡ false
-    → keptIn (recorded a e j) ≡ record { number = number.noFrame; kept = min 64 (keptIn j .kept + 1) }
+kept-number : (a : Adapter) (e : Event) (j : List ℕ) → Well j → acceptedReset e ≡ false
+    → keptIn (recorded a e j) ≡ record { number = number.noFrame; kept = min (slotsOf j) (keptIn j .kept + 1) }
 unfolding keptIn
 kept-number a e j w other = rw (well-of (recorded-well a e j w), well-of w, recorded-kept a e j w, other) refl
 
@@ -175,7 +182,7 @@ module _ (a : Adapter) (j : List ℕ) (e : Event) (output : List ℕ) where
       record { passes = passing a j e output (verdict a j e output) refl v; call = c; answer = ap (λ (x : Outcome). x .answer .number) c }
 
   -- Every number but 0 leaves every output byte.
-  pub event-other : (called a j e output .answer .number ≡ number.sent → ⊥) → called a j e output .output ≡ output
+  pub event-other : (called a j e output .answer .number ≡ number.hasFrame → ⊥) → called a j e output .output ≡ output
   unfolding done
   event-other h =
       split (isRefusal (called a j e output .answer .number))
@@ -185,25 +192,22 @@ module _ (a : Adapter) (j : List ℕ) (e : Event) (output : List ℕ) where
       ap (λ (x : Outcome). x .output) (d .call) ∙ unsent a e output (λ z. h (d .answer ∙ z)))
 
   -- 0: A BODY AT THE FRONT OF THE OUTPUT, as many bytes as the call gives, 2 to 16; no other byte changes.
-  pub event-0 : OfItsTypes (event e output) → called a j e output .answer .number ≡ number.sent
+  pub event-0 : OfItsTypes (event e output) → called a j e output .answer .number ≡ number.hasFrame
       → FrontAlone (called a j e output .answer .length) output (called a j e output .output)
   unfolding done
   event-0 types h =
       let d : Happened = happened (rw h refl) in
       let p : Passing a j e output = d .passes in
       let f : EventFits e = fits e output types (rw (le-ltb (length output) 16 (p .room), p .argument, p .body) refl) in
-      let s = sendable a e (of-in-range a (p .ranged) .port) f (sym (d .answer) ∙ h) in
-      let l : length (take (reaction a e .length) (reaction a e .body)) ≡ reaction a e .length =
-      length-take (reaction a e .length) (reaction a e .body) ∙ omega (arith, sixteen a e f, s .1) in
-      rw (d .call) (front-alone (reaction a e .length) (take (reaction a e .length) (reaction a e .body)) output l (s .0) (s .1) (p .room))
+      rw (d .call) (laid-alone (reaction a e) output (one-frame a e) (sym (d .answer) ∙ h) (sendable a e (of-in-range a (p .ranged) .port) f .1) (p .room))
 
   -- 11 TO 16: OUTPUT AND REGISTERS UNCHANGED, EVENT KEPT. The whole state stays, the event's record joins the journal, and the kept
-  -- number goes up by one, to at most 64.
+  -- number goes up by one, to at most the journal's slots.
   pub record Dropped : Type 0 where
     pub state : called a j e output .answer .adapter ≡ a
     pub bytes : called a j e output .output ≡ output
-    pub entry : called a j e output .journal ≡ pushed version1 (before a e) j
-    pub kept : keptIn (called a j e output .journal) ≡ record { number = number.noFrame; kept = min 64 (keptIn j .kept + 1) }
+    pub entry : called a j e output .journal ≡ pushed (before a e) j
+    pub kept : keptIn (called a j e output .journal) ≡ record { number = number.noFrame; kept = min (slotsOf j) (keptIn j .kept + 1) }
 
   pub event-11-to-16 : 11 ≤ called a j e output .answer .number → called a j e output .answer .number ≤ 16 → Dropped
   unfolding done
@@ -214,7 +218,7 @@ module _ (a : Adapter) (j : List ℕ) (e : Event) (output : List ℕ) where
       let most : reaction a e .number ≤ 16 = omega arith in
       let other : acceptedReset e ≡ false =
       split (acceptedReset e) (λ t. absurd (omega (arith, reset-answered a e t))) (λ t. t) in
-      let w : Well version1 j = of-well version1 j (d .passes .formed) in
+      let w : Well j = of-well j (d .passes .formed) in
       record {
         state = ap (λ (x : Outcome). x .answer .adapter) (d .call) ∙ dropped-keeps a e least most;
         bytes = event-other (λ z. omega arith);

@@ -5,6 +5,7 @@ pub mod Lines
 pub mod Text
 pub mod ShutOut
 pub mod Runs
+pub mod Formats
 pub mod Refused
 pub mod Exported
 pub mod ExportsRefused
@@ -16,6 +17,7 @@ pub mod AllCases
 pub mod InParts
 pub mod Ranges
 pub mod RoundTrip
+pub mod Sent
 pub mod AnyReceiver
 pub mod Fcs
 pub mod Frames

@@ -35,6 +35,8 @@ use Rattle.sca.proofs.sca_upset.Kinds as sca-upset-kinds
 use Rattle.sca.proofs.sca_upset.Reads as sca-upset
 use Rattle.sca.proofs.sca_step_back.Kinds as sca-step-back-kinds
 use Rattle.sca.proofs.sca_step_back.Reads as sca-step-back
+use Rattle.sca.proofs.sca_version.Kinds as sca-version-kinds
+use Rattle.sca.proofs.sca_version.Reads as sca-version
 use Rattle.sca.specs.Adapter as events
 -- the adapter's eight calls
 pub use Rattle.adapter.proofs.OneOutcome.{create-one, empty-one, kept-one, frame-one, completion-one, sample-one, upset-one, step-back-one}
@@ -90,3 +92,6 @@ sca-upset-one κs a x y s t p q = p ∙ sym q
 
 pub sca-step-back-one : One 2 sca-step-back-kinds.ps sca-step-back-kinds.r sca-step-back.Post (λ κs x s. events.backed x (now (s .0)) (now (s .1 .0)))
 sca-step-back-one κs a x y s t p q = p ∙ sym q
+
+pub sca-version-one : One 0 sca-version-kinds.ps sca-version-kinds.r sca-version.Post (λ κs x s. x)
+sca-version-one κs a x y s t p q = p ∙ sym q

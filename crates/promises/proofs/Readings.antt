@@ -145,7 +145,7 @@ six-unended {raw = raw} hb h last =
     ap (λ (p : Stop). concluded p .answer) e
 
 -- bodies
-bare-sized : (n : ℕ) → (n ≡ number.sent → ⊥) → Sized (bare n)
+bare-sized : (n : ℕ) → (n ≡ number.hasFrame → ⊥) → Sized (bare n)
 bare-sized n h = record { most = lit≤ tt; least = λ e. absurd (h e); other = λ g. refl }
 
 flag-sized : (c : List ℕ) → Sized (atFlag c)

@@ -3,7 +3,7 @@
 use Prim.Native.Nat.{ℕ, _*_, _-_, _/_, _%_}
 use mathlib.Core.Path.{_≡_, refl, sym, ap, _∙_}
 use mathlib.Core.List.{List}
-use mathlib.Core.Bool.{Bool, true, false, not, cond, _&&_, false≢true}
+use mathlib.Core.Bool.{Bool, true, false, cond, _&&_, false≢true}
 use lib.ListN.{length, take, drop}
 use lib.Dec.{eqb, ltb, leb}
 use Rattle.parts.specs.Parts.{put}
@@ -23,8 +23,7 @@ use Rattle.chip.specs.declared.Adapter.{Adapter}
 use Rattle.chip.specs.Event.{Event}
 use Rattle.chip.specs.State.{powerOn, inRange}
 use Rattle.chip.proofs.Laws.{number-given}
-use Rattle.journal.specs.Layout.{version1, keptOf, wellFormed, past, lowered, emptied}
-use Rattle.journal.specs.Record.{restored, sound}
+use Rattle.journal.specs.Layout.{wrongLength, emptied}
 use Rattle.adapter.specs.declared.Verdict.{Verdict}
 use Rattle.adapter.specs.declared.Verdict.the-variants.{Refused, Passed}
 use Rattle.adapter.specs.declared.Created.{Created}
@@ -60,13 +59,14 @@ back-unchanged a j h = go (backVerdict a j) h
     go Passed q = absurd (false≢true q)
 
 -- the emptying call
-cleared-unchanged : (j j′ : List ℕ) (b : Bool) → isRefusal (cond b (cleared 17 j′) (cleared 4 j) .number) ≡ true → cond b (cleared 17 j′) (cleared 4 j) .journal ≡ j
-cleared-unchanged j j′ true h = absurd (false≢true h)
-cleared-unchanged j j′ false h = refl
+cleared-unchanged : (j j′ : List ℕ) (b : Bool) → isRefusal (cond b (cleared 4 j) (cleared 17 j′) .number) ≡ true
+    → cond b (cleared 4 j) (cleared 17 j′) .journal ≡ j
+cleared-unchanged j j′ true h = refl
+cleared-unchanged j j′ false h = absurd (false≢true h)
 
 pub empty-unchanged : (j : List ℕ) → isRefusal (madeEmpty j .number) ≡ true → madeEmpty j .journal ≡ j
 unfolding madeEmpty
-empty-unchanged j h = cleared-unchanged j (emptied version1 j) (eqb (length j) 17408) h
+empty-unchanged j h = cleared-unchanged j (emptied j) (wrongLength j) h
 
 -- creation: no adapter, for every call refuses the one that comes with 7
 created-none : (id : ℕ) (b : Bool) → let r : Created = cond b (record { number = 7; adapter = powerOn 0xFFFFFFFF }) (record { number = 17; adapter = powerOn id }) in

@@ -92,7 +92,7 @@ module _ (body : List ℕ) (small : (i : ℕ) → getD body i 0 < 256) (least : 
       let n : length (contentOf body) / 8 - 2 ≡ length body = omega arith in
       rw (n, pack-wire (body ++ fcs body) (bytes-append body (fcs body) small (bytes-fcs body))) (take-at body (fcs body) (length body) refl)
 
-  pub content-answer : atFlag (contentOf body) ≡ record { number = number.sent; body = body }
+  pub content-answer : atFlag (contentOf body) ≡ record { number = number.hasFrame; body = body }
   unfolding atFlag
   content-answer =
       let l : length (contentOf body) ≡ 8 * (length body + 2) = content-length in
@@ -157,7 +157,7 @@ module _ (body : List ℕ) (small : (i : ℕ) → getD body i 0 < 256) (least : 
   -- FROM CALL TO CALL: `transmit` into a cable of 24 bytes or more answers 0 with the frame's length, and `receive` on that cable gives the
   -- body back.
   pub sent : (cable : List ℕ) → 24 ≤ length cable
-      → transmit.transmitted body cable ≡ record { number = number.sent; count = length (framed body) }
+      → transmit.transmitted body cable ≡ record { number = number.hasFrame; count = length (framed body) }
   unfolding transmit.transmitted
   sent cable room = rw (le-leb 2 (length body) least, le-leb (length body) 16 most, le-leb 24 (length cable) room) refl
 

@@ -1,7 +1,7 @@
 -- DEMAND 3 of the delivered calls. The invariant along a run: the state is that of the standing events, the journal is well formed, its
--- number is the text's, and its i-th newest record restores the state with i + 1 events taken back. Assumes nothing.
+-- number is the text's, and its i-th newest record takes the state with i events taken back to the one with i + 1 taken back. Assumes nothing.
 use Prim.Native.Nat.{ℕ, zero, suc, _+_, _-_, min, _≤_, _<_}
-use mathlib.Core.Path.{_≡_, refl, sym, ap, subst, _∙_}
+use mathlib.Core.Path.{_≡_, refl, sym, ap, ap₂, subst, _∙_}
 use mathlib.Core.List.{List, [], _∷_, foldl}
 use mathlib.Core.Bool.{Bool, true, false, not, cond, _&&_, _||_, false≢true, true≢false}
 use mathlib.Core.Logic.{_⊎_, inl, inr, ⊎-elim}
@@ -9,25 +9,27 @@ use native.Mathlib.Nat.{eq-zero-or-pos}
 use native.Mathlib.Omega.{arith}
 use lib.ListN.{length, drop, length-drop}
 use lib.Seq.{drop-drop}
-use lib.Dec.{eqb, ltb, leb, lit<}
+use lib.Dec.{eqb, ltb, leb}
 use borrow.Author.Tests.{eq-eqb, ne-eqb, eqb-true, eqb-false, ltb-false, le-ltb, leb-true, not-false}
 use Rattle.numbers.specs.Numbers as number
 use Rattle.chip.specs.declared.Adapter.{Adapter}
-use Rattle.chip.specs.Event.{Event, frame, completion, sample, upset}
+use Rattle.chip.specs.Event.{spi, Event, frame, completion, sample, upset}
 use Rattle.chip.proofs.EventFits.{EventFits}
-use Rattle.chip.specs.State.{poweredOn, powerOn, inRange}
+use Rattle.chip.specs.State.{powerOn, inRange}
 use Rattle.chip.specs.Chip.{reaction, acceptedReset}
-use Rattle.chip.proofs.Laws.{Fits, power-on-fits, fits-kept, power-on-in-range, range-kept, number-given, id-stays}
-use Rattle.journal.specs.Layout.{version1, keptOf, past, emptied, lowered}
+use Rattle.chip.proofs.Laws.{Fits, power-on-fits, fits-kept, power-on-in-range, range-kept, number-given}
+use Rattle.journal.specs.Layout.{slotsOf, wrongLength, keptOf, past, emptied, lowered}
 use Rattle.journal.specs.Record.{restored, sound}
-use Rattle.journal.proofs.Ring.{Well, well-of, emptied-well, emptied-kept, lowered-well, lowered-kept, lowered-past}
+use Rattle.bits.proofs.Tests.{either}
+use Rattle.journal.proofs.Ring.{Well, well-of, emptied-well, emptied-slots, emptied-kept, lowered-well, lowered-slots, lowered-kept, lowered-past}
 use Rattle.adapter.specs.declared.Verdict.the-variants.{Refused, Passed}
 use Rattle.adapter.specs.declared.KeptNumber.{KeptNumber}
 use Rattle.adapter.specs.Refusals.{wrongArgument, wrongBody, inOrder, verdict}
 use Rattle.adapter.specs.Calls.{Outcome, outcome, plain, recorded, done, called, Stepped, stepped, steppedBack, Cleared, keptIn, created}
-use Rattle.adapter.proofs.Laws.{called-refused, called-done, own-refusals, recorded-well, recorded-kept, newest-restores, newest-sound, older-stay, back-refused, back-done, empty-done}
+use Rattle.adapter.proofs.Laws.{called-refused, called-done, own-refusals, recorded-well, recorded-slots, recorded-kept, newest-restores, newest-sound, older-stay, back-refused, back-done, empty-done}
 use Rattle.promises.specs.Runs.{Call, event, back, empty, Given, OfItsTypes, AllOfTheirTypes, Run, left, refusal, refused, Standing, atStart, keeps, standing, stateAfter, dueState, bare, answered, due, refuses, lent, Demand3}
 use Rattle.promises.specs.Ours.{Handed, handed, shown, givesOurs, leavesOurs, ours}
+use Rattle.promises.proofs.Formats.{always-64}
 
 -- ---- what refuses an event's own arguments
 
@@ -55,15 +57,15 @@ fits (frame port body) output t h =
     let b = both-right (ltb (length output) 16) (wrongArgument (frame port body)) (wrongBody (frame port body)) h in
     let l = neither (ltb (length body) 2) (ltb 16 (length body)) (b .1) in
     record { port = ltb-false 1 port (b .0); short = ltb-false (length body) 2 (l .0); long = ltb-false 16 (length body) (l .1); bytes = t }
-fits (completion received) output t h =
-    let b = both-right (ltb (length output) 16) (wrongArgument (completion received)) false h in
+fits (completion (spi received)) output t h =
+    let b = both-right (ltb (length output) 16) (wrongArgument (completion (spi received))) false h in
     record { sixteen = eqb-true (length received) 16 (not-false _ (b .0)); bytes = t }
 fits (sample levels kind) output t h =
     let b = both-right (ltb (length output) 16) (wrongArgument (sample levels kind)) false h in
     record { levels = t; kind = ltb-false 2 kind (b .0) }
 fits upset output t h = tt
 
-module _ (a : Adapter) (j : List ℕ) (ranged : inRange a ≡ true) (w : Well version1 j) (e : Event) (o : List ℕ) where
+module _ (a : Adapter) (j : List ℕ) (ranged : inRange a ≡ true) (w : Well j) (e : Event) (o : List ℕ) where
   own : verdict a j e o ≡ cond (refused e o) (Refused (refusal e o)) Passed
   own = own-refusals a j e o ranged w ∙ by-order (ltb (length o) 16) (wrongArgument e) (wrongBody e)
 
@@ -95,11 +97,6 @@ drop-fit (suc n) [] f = f
 drop-fit (suc n) (e ∷ es) f = drop-fit n es (f .1)
 
 module _ (id : ℕ) (small : id ≤ 0xFFFFFF) where
-  after-id : (es : List Event) → stateAfter id es .id ≡ id
-  unfolding poweredOn
-  after-id [] = refl
-  after-id (e ∷ es) = id-stays (stateAfter id es) e ∙ after-id es
-
   after-fits : (es : List Event) → AllFit es → Fits (stateAfter id es)
   unfolding AllFit
   after-fits [] f = power-on-fits id (omega arith)
@@ -112,18 +109,19 @@ module _ (id : ℕ) (small : id ≤ 0xFFFFFF) where
 
   -- ---- the invariant
 
-  -- a record that takes a chip of this ID back to a state
-  record TakesTo (r : List ℕ) (a : Adapter) : Type 0 where
-    restores : (b : Adapter) → b .id ≡ id → restored b r ≡ a
-    is-sound : (b : Adapter) → b .id ≡ id → sound b r ≡ true
+  -- a record that takes one state back to another
+  record TakesBack (r : List ℕ) (b a : Adapter) : Type 0 where
+    restores : restored b r ≡ a
+    is-sound : sound b r ≡ true
 
-  -- the i-th newest record has i + 1 events taken back
+  -- the i-th newest record has one more event taken back than i
   Past : List ℕ → List Event → Type 0
-  Past j es = (i : ℕ) → i < keptOf j → TakesTo (past version1 j i) (stateAfter id (drop (suc i) es))
+  Past j es = (i : ℕ) → i < keptOf j → TakesBack (past j i) (stateAfter id (drop i es)) (stateAfter id (drop (suc i) es))
 
   record Inv (s : Standing) (j : List ℕ) : Type 0 where
     fit : AllFit (s .events)
-    well : Well version1 j
+    well : Well j
+    slots : slotsOf j ≡ s .most
     number : keptOf j ≡ s .number
     enough : s .number ≤ length (s .events)
     records : Past j (s .events)
@@ -134,98 +132,102 @@ module _ (id : ℕ) (small : id ≤ 0xFFFFFF) where
   -- ---- an event that is kept
 
   module _ (s : Standing) (j : List ℕ) (i : Inv s j) (e : Event) (f : EventFits e) (other : acceptedReset e ≡ false) where
-    before : Adapter
-    before = stateAfter id (s .events)
-
     after : List ℕ
     after = recorded (stateAfter id (s .events)) e j
 
-    more : keptOf after ≡ min 64 (keptOf j + 1)
+    more : keptOf after ≡ min (slotsOf j) (keptOf j + 1)
     unfolding after
     more = recorded-kept (stateAfter id (s .events)) e j (i .well) ∙ rw other refl
 
     kept-records : Past after (e ∷ s .events)
     unfolding after Past
     kept-records zero l =
+        let f₀ = after-fits (s .events) (i .fit) in
+        let h₀ = after-ranged (s .events) (i .fit) in
         record {
-          restores = λ b h. newest-restores (stateAfter id (s .events)) e j (i .well) other b (h ∙ sym (after-id (s .events))) (after-fits (s .events) (i .fit));
-          is-sound = λ b h. newest-sound (stateAfter id (s .events)) e j (i .well) other b (h ∙ sym (after-id (s .events))) (after-fits (s .events) (i .fit)) (after-ranged (s .events) (i .fit));
+          restores = newest-restores (stateAfter id (s .events)) e j (i .well) other f₀ h₀ f;
+          is-sound = newest-sound (stateAfter id (s .events)) e j (i .well) other f₀ h₀ f;
         }
     kept-records (suc k) l =
-        let l′ : suc k < min 64 (keptOf j + 1) = subst (λ (n : ℕ). suc k < n) more l in
+        let l′ : suc k < min (slotsOf j) (keptOf j + 1) = subst (λ (n : ℕ). suc k < n) more l in
         rw (older-stay (stateAfter id (s .events)) e j (i .well) other k l′) (i .records k (omega arith))
 
-    kept-inv : Inv (record { events = e ∷ s .events; number = min 64 (s .number + 1) }) after
+    kept-inv : Inv (record { events = e ∷ s .events; number = min (s .most) (s .number + 1); most = s .most }) after
     unfolding after AllFit
     kept-inv =
         record {
           fit = (f, i .fit);
           well = recorded-well (stateAfter id (s .events)) e j (i .well);
-          number = more ∙ ap (λ (n : ℕ). min 64 (n + 1)) (i .number);
+          slots = recorded-slots (stateAfter id (s .events)) e j (i .well) ∙ i .slots;
+          number = more ∙ ap₂ (λ (m n : ℕ). min m (n + 1)) (i .slots) (i .number);
           enough = omega (arith, i .enough);
           records = kept-records;
         }
 
   -- ---- a journal made empty
 
-  emptied-inv : (s : Standing) (j : List ℕ) → AllFit (s .events) → length j ≡ 17408 → Inv (record { events = s .events; number = 0 }) (emptied version1 j)
+  emptied-inv : (s : Standing) (j : List ℕ) → AllFit (s .events) → wrongLength j ≡ false → slotsOf j ≡ s .most
+      → Inv (record { events = s .events; number = 0; most = s .most }) (emptied j)
   unfolding Past
-  emptied-inv s j f n =
+  emptied-inv s j f n m =
       record {
         fit = f;
-        well = emptied-well version1 j n (lit< tt);
-        number = emptied-kept version1 j;
+        well = emptied-well j n;
+        slots = emptied-slots j n ∙ m;
+        number = emptied-kept j;
         enough = omega arith;
-        records = λ i l. let z = emptied-kept version1 j in absurd (omega arith);
+        records = λ i l. let z = emptied-kept j in absurd (omega arith);
       }
 
   -- ---- a step back that is granted
 
-  one-more : (k : ℕ) → 1 + suc k ≡ suc (suc k)
-  one-more k = omega arith
+  after-drop : (k : ℕ) (es : List Event) → stateAfter id (drop k (drop 1 es)) ≡ stateAfter id (drop (suc k) es)
+  after-drop k es =
+      let n : 1 + k ≡ suc k = omega arith in
+      ap (stateAfter id) (drop-drop k 1 es ∙ ap (λ (m : ℕ). drop m es) n)
 
   module _ (s : Standing) (j : List ℕ) (i : Inv s j) (some : keptOf j ≡ 0 → ⊥) where
-    newest : TakesTo (past version1 j 0) (stateAfter id (drop 1 (s .events)))
+    newest : TakesBack (past j 0) (stateAfter id (s .events)) (stateAfter id (drop 1 (s .events)))
     unfolding Past
     newest = i .records 0 (omega arith)
 
     back-records : Past (lowered j) (drop 1 (s .events))
     unfolding Past
     back-records k l =
-        let l′ : k < keptOf j - 1 = subst (λ (n : ℕ). k < n) (lowered-kept version1 j (i .well)) l in
-        let d : drop (suc k) (drop 1 (s .events)) ≡ drop (suc (suc k)) (s .events) = drop-drop (suc k) 1 (s .events) ∙ ap (λ (n : ℕ). drop n (s .events)) (one-more k) in
-        rw (lowered-past version1 j (i .well) k, d) (i .records (suc k) (omega arith))
+        let l′ : k < keptOf j - 1 = subst (λ (n : ℕ). k < n) (lowered-kept j (i .well)) l in
+        rw (lowered-past j (i .well) k, after-drop k (s .events), after-drop (suc k) (s .events)) (i .records (suc k) (omega arith))
 
-    back-inv : Inv (record { events = drop 1 (s .events); number = s .number - 1 }) (lowered j)
+    back-inv : Inv (record { events = drop 1 (s .events); number = s .number - 1; most = s .most }) (lowered j)
     back-inv =
         record {
           fit = drop-fit 1 (s .events) (i .fit);
-          well = lowered-well version1 j (i .well);
-          number = lowered-kept version1 j (i .well) ∙ ap (λ (n : ℕ). n - 1) (i .number);
+          well = lowered-well j (i .well);
+          slots = lowered-slots j (i .well) ∙ i .slots;
+          number = lowered-kept j (i .well) ∙ ap (λ (n : ℕ). n - 1) (i .number);
           enough = simp length-drop (omega (arith, i .enough));
           records = back-records;
         }
 
     back-granted : steppedBack (stateAfter id (s .events)) j ≡ stepped (plain (stateAfter id (drop 1 (s .events))) 17) (lowered j)
     back-granted =
-        back-done (stateAfter id (s .events)) j (after-ranged (s .events) (i .fit)) (i .well) some (newest .is-sound (stateAfter id (s .events)) (after-id (s .events)))
-        ∙ ap (λ (b : Adapter). stepped (plain b 17) (lowered j)) (newest .restores (stateAfter id (s .events)) (after-id (s .events)))
+        back-done (stateAfter id (s .events)) j (after-ranged (s .events) (i .fit)) (i .well) some (newest .is-sound)
+        ∙ ap (λ (b : Adapter). stepped (plain b 17) (lowered j)) (newest .restores)
 
   -- ---- one call
 
   -- what the text says that it gives
-  says : Standing → Call → Given
-  says s (event e o) = due (stateAfter id (s .events)) e o
-  says s back = cond (eqb (s .number) 0) (bare 5 []) (bare 17 [])
-  says s empty = bare 17 []
+  told : Standing → Call → Given
+  told s (event e o) = due (stateAfter id (s .events)) e o
+  told s back = cond (eqb (s .number) 0) (bare 5 []) (bare 17 [])
+  told s empty = bare 17 []
 
-  record Said (s : Standing) (j : List ℕ) (k : Call) : Type 0 where
-    gives-eq : givesOurs (pair s j) k ≡ says s k
-    same : refuses (says s k) ≡ true → leavesOurs (pair s j) k ≡ pair s j
+  record Told (s : Standing) (j : List ℕ) (k : Call) : Type 0 where
+    gives-eq : givesOurs (pair s j) k ≡ told s k
+    same : refuses (told s k) ≡ true → leavesOurs (pair s j) k ≡ pair s j
 
-  said : (s : Standing) (j : List ℕ) (k : Call) (g : Given) → says s k ≡ g → givesOurs (pair s j) k ≡ g
-      → (refuses g ≡ true → leavesOurs (pair s j) k ≡ pair s j) → Said s j k
-  said s j k g e h u = record { gives-eq = h ∙ sym e; same = λ q. u (ap refuses (sym e) ∙ q) }
+  as-told : (s : Standing) (j : List ℕ) (k : Call) (g : Given) → told s k ≡ g → givesOurs (pair s j) k ≡ g
+      → (refuses g ≡ true → leavesOurs (pair s j) k ≡ pair s j) → Told s j k
+  as-told s j k g e h u = record { gives-eq = h ∙ sym e; same = λ q. u (ap refuses (sym e) ∙ q) }
 
   record Step (s : Standing) (j : List ℕ) (k : Call) : Type 0 where
     next : List ℕ
@@ -245,10 +247,10 @@ module _ (id : ℕ) (small : id ≤ 0xFFFFFF) where
         unfolding pair
         refused-leaves = ap (λ (x : Outcome). handed (x .answer .adapter) (x .journal)) (is-refused (stateAfter id (s .events)) j ranged (i .well) e o h)
 
-        refused-said : Said s j (event e o)
-        unfolding pair says
+        refused-said : Told s j (event e o)
+        unfolding pair told
         refused-said =
-            said s j (event e o) (bare (refusal e o) o) (rw h refl)
+            as-told s j (event e o) (bare (refusal e o) o) (rw h refl)
             (ap (λ (x : Outcome). shown (x .answer) (x .output)) (is-refused (stateAfter id (s .events)) j ranged (i .well) e o h)) (λ _. refused-leaves)
 
         refused-step : Step s j (event e o)
@@ -259,10 +261,10 @@ module _ (id : ℕ) (small : id ≤ 0xFFFFFF) where
         unfolding pair done
         done-leaves = ap (λ (x : Outcome). handed (x .answer .adapter) (x .journal)) (is-done (stateAfter id (s .events)) j ranged (i .well) e o h)
 
-        done-said : Said s j (event e o)
-        unfolding pair says done
+        done-said : Told s j (event e o)
+        unfolding pair told done
         done-said =
-            said s j (event e o) (answered (reaction (stateAfter id (s .events)) e) o) (rw h refl)
+            as-told s j (event e o) (answered (reaction (stateAfter id (s .events)) e) o) (rw h refl)
             (ap (λ (x : Outcome). shown (x .answer) (x .output)) (is-done (stateAfter id (s .events)) j ranged (i .well) e o h))
             (λ q. absurd (not-one-to-ten _ (number-given (stateAfter id (s .events)) e) q))
 
@@ -270,19 +272,20 @@ module _ (id : ℕ) (small : id ≤ 0xFFFFFF) where
           reset-step : acceptedReset e ≡ true → Step s j (event e o)
           unfolding pair AllFit
           reset-step r =
-              stepsTo s j (event e o) (record { events = e ∷ s .events; number = 0 }) (emptied version1 j) (simp (h, r)) (done-leaves ∙ simp r)
-              (emptied-inv (record { events = e ∷ s .events; number = 0 }) j (fits e o t h, i .fit) (i .well .size))
+              stepsTo s j (event e o) (record { events = e ∷ s .events; number = 0; most = s .most }) (emptied j) (simp (h, r)) (done-leaves ∙ simp r)
+              (emptied-inv (record { events = e ∷ s .events; number = 0; most = s .most }) j (fits e o t h, i .fit) (i .well .size) (i .slots))
 
           kept-step : acceptedReset e ≡ false → Step s j (event e o)
           unfolding pair after
           kept-step r =
-              stepsTo s j (event e o) (record { events = e ∷ s .events; number = min 64 (s .number + 1) }) (after s j i e (fits e o t h) r) (simp (h, r)) done-leaves
+              stepsTo s j (event e o) (record { events = e ∷ s .events; number = min (s .most) (s .number + 1); most = s .most })
+              (after s j i e (fits e o t h) r) (simp (h, r)) done-leaves
               (kept-inv s j i e (fits e o t h) r)
 
-      event-said : Said s j (event e o)
+      event-said : Told s j (event e o)
       event-said = go (refused e o) refl
         where
-          go : (b : Bool) → refused e o ≡ b → Said s j (event e o)
+          go : (b : Bool) → refused e o ≡ b → Told s j (event e o)
           go true h = refused-said h
           go false h = done-said h
 
@@ -302,10 +305,10 @@ module _ (id : ℕ) (small : id ≤ 0xFFFFFF) where
       unfolding pair
       zero-leaves = ap (λ (x : Stepped). handed (x .answer .adapter) (x .journal)) (back-refused (stateAfter id (s .events)) j ranged (i .well) z)
 
-      zero-said : Said s j back
-      unfolding pair says
+      zero-said : Told s j back
+      unfolding pair told
       zero-said =
-          said s j back (bare 5 []) (simp (eq-eqb _ _ zero-number))
+          as-told s j back (bare 5 []) (simp (eq-eqb _ _ zero-number))
           (ap (λ (x : Stepped). shown (x .answer) []) (back-refused (stateAfter id (s .events)) j ranged (i .well) z)) (λ _. zero-leaves)
 
       zero-step : Step s j back
@@ -315,29 +318,30 @@ module _ (id : ℕ) (small : id ≤ 0xFFFFFF) where
       some-number : s .number ≡ 0 → ⊥
       some-number q = z (i .number ∙ q)
 
-      granted-said : Said s j back
-      unfolding pair says
+      granted-said : Told s j back
+      unfolding pair told
       granted-said =
-          said s j back (bare 17 []) (simp (ne-eqb _ _ some-number)) (ap (λ (x : Stepped). shown (x .answer) []) (back-granted s j i z))
+          as-told s j back (bare 17 []) (simp (ne-eqb _ _ some-number)) (ap (λ (x : Stepped). shown (x .answer) []) (back-granted s j i z))
           (λ q. absurd (false≢true q))
 
       granted-step : Step s j back
       unfolding pair
       granted-step =
-          stepsTo s j back (record { events = drop 1 (s .events); number = s .number - 1 }) (lowered j) (simp (ne-eqb _ _ some-number))
+          stepsTo s j back (record { events = drop 1 (s .events); number = s .number - 1; most = s .most }) (lowered j) (simp (ne-eqb _ _ some-number))
           (ap (λ (x : Stepped). handed (x .answer .adapter) (x .journal)) (back-granted s j i z)) (back-inv s j i z)
 
-    empty-said : Said s j empty
-    unfolding pair says
-    empty-said = said s j empty (bare 17 []) refl (ap (λ (x : Cleared). bare (x .number) []) (empty-done j (i .well .size))) (λ q. absurd (false≢true q))
+    empty-said : Told s j empty
+    unfolding pair told
+    empty-said = as-told s j empty (bare 17 []) refl (ap (λ (x : Cleared). bare (x .number) []) (empty-done j (i .well .size))) (λ q. absurd (false≢true q))
 
     empty-step : Step s j empty
     unfolding pair
     empty-step =
-        stepsTo s j empty (record { events = s .events; number = 0 }) (emptied version1 j) refl
-        (ap (λ (x : Cleared). handed (stateAfter id (s .events)) (x .journal)) (empty-done j (i .well .size))) (emptied-inv s j (i .fit) (i .well .size))
+        stepsTo s j empty (record { events = s .events; number = 0; most = s .most }) (emptied j) refl
+        (ap (λ (x : Cleared). handed (stateAfter id (s .events)) (x .journal)) (empty-done j (i .well .size)))
+        (emptied-inv s j (i .fit) (i .well .size) (i .slots))
 
-    say : (k : Call) → Said s j k
+    say : (k : Call) → Told s j k
     say (event e o) = event-said e o
     say back = ⊎-elim zero-said (λ pos. granted-said (λ z. omega arith)) (eq-zero-or-pos (keptOf j))
     say empty = empty-said
@@ -378,14 +382,17 @@ created-new id h = rw (le-ltb 0xFFFFFF id h) refl
 
 -- after every run, the pair and the invariant
 module _ (r : Run) where
-  start-eq : ours .start (r .id) (r .bytes) ≡ pair (r .id) (r .id-fits) atStart (emptied version1 (r .bytes))
+  abbrev first : Standing
+  first = atStart (slotsOf (r .bytes))
+
+  start-eq : ours .start (r .id) (r .bytes) ≡ pair (r .id) (r .id-fits) first (emptied (r .bytes))
   unfolding pair
   start-eq = rw (created-new (r .id) (r .id-fits), empty-done (r .bytes) (r .size)) refl
 
-  run-whole : Whole (r .id) (r .id-fits) atStart (emptied version1 (r .bytes)) (r .calls)
+  run-whole : Whole (r .id) (r .id-fits) first (emptied (r .bytes)) (r .calls)
   unfolding AllFit
   run-whole =
-      whole (r .id) (r .id-fits) (r .calls) atStart (emptied version1 (r .bytes)) (emptied-inv (r .id) (r .id-fits) atStart (r .bytes) tt (r .size)) (r .typed)
+      whole (r .id) (r .id-fits) (r .calls) first (emptied (r .bytes)) (emptied-inv (r .id) (r .id-fits) first (r .bytes) tt (r .size) refl) (r .typed)
 
   last : List ℕ
   last = run-whole .last
@@ -402,13 +409,13 @@ module _ (r : Run) where
   unfolding keptIn pair
   kept-end = rw at-end (simp (well-of (inv-end .well), inv-end .number))
 
-  said-end : (k : Call) → Said (r .id) (r .id-fits) (standing r) last k
+  said-end : (k : Call) → Told (r .id) (r .id-fits) (standing r) last k
   said-end k = say (r .id) (r .id-fits) (standing r) last inv-end k
 
-  gives-end : (k : Call) → givesOurs (left ours r) k ≡ says (r .id) (r .id-fits) (standing r) k
+  gives-end : (k : Call) → givesOurs (left ours r) k ≡ told (r .id) (r .id-fits) (standing r) k
   gives-end k = ap (λ (p : Handed). givesOurs p k) at-end ∙ said-end k .gives-eq
 
-  -- ---- what the text never says
+  -- ---- what the text never told
 
   fine : (n : ℕ) → (n ≡ 0) ⊎ ((11 ≤ n) × (n ≤ 17)) → (n ≡ 4 → ⊥) × (n ≡ 6 → ⊥)
   fine n (inl z) = (λ e. omega arith, λ e. omega arith)
@@ -424,8 +431,8 @@ module _ (r : Run) where
   own-fine false false true = (eqb-false 2 4 refl, eqb-false 2 6 refl)
   own-fine false false false = (eqb-false 0 4 refl, eqb-false 0 6 refl)
 
-  never : (k : Call) → (says (r .id) (r .id-fits) (standing r) k .number ≡ 4 → ⊥) × (says (r .id) (r .id-fits) (standing r) k .number ≡ 6 → ⊥)
-  unfolding says own-number
+  never : (k : Call) → (told (r .id) (r .id-fits) (standing r) k .number ≡ 4 → ⊥) × (told (r .id) (r .id-fits) (standing r) k .number ≡ 6 → ⊥)
+  unfolding told own-number
   never (event e o) = go (refused e o)
     where
       go : (b : Bool) → (cond b (bare (refusal e o) o) (answered (reaction (dueState r) e) o) .number ≡ 4 → ⊥)
@@ -440,8 +447,8 @@ module _ (r : Run) where
   never empty = (eqb-false 17 4 refl, eqb-false 17 6 refl)
 
   -- a refused call's output
-  output-same : (k : Call) → refuses (says (r .id) (r .id-fits) (standing r) k) ≡ true → says (r .id) (r .id-fits) (standing r) k .output ≡ lent k
-  unfolding says
+  output-same : (k : Call) → refuses (told (r .id) (r .id-fits) (standing r) k) ≡ true → told (r .id) (r .id-fits) (standing r) k .output ≡ lent k
+  unfolding told
   output-same (event e o) = go (refused e o)
     where
       go : (b : Bool) → refuses (cond b (bare (refusal e o) o) (answered (reaction (dueState r) e) o)) ≡ true
@@ -461,7 +468,7 @@ module _ (r : Run) where
   number-end = ap (λ (x : KeptNumber). x .kept) kept-end
 
   zero-back : keptIn (left ours r .journal) .kept ≡ 0 → (givesOurs (left ours r) back ≡ bare 5 []) × (leavesOurs (left ours r) back ≡ left ours r)
-  unfolding says
+  unfolding told
   zero-back z =
       let e : eqb (standing r .number) 0 ≡ true = eq-eqb _ _ (sym number-end ∙ z) in (
         gives-end back ∙ rw e refl,
@@ -470,7 +477,7 @@ module _ (r : Run) where
 
   some-back : (keptIn (left ours r .journal) .kept ≡ 0 → ⊥)
       → (givesOurs (left ours r) back ≡ bare 17 []) × (leavesOurs (left ours r) back .adapter ≡ stateAfter (r .id) (drop 1 (standing r .events)))
-  unfolding says pair
+  unfolding told pair
   some-back z =
       let e : eqb (standing r .number) 0 ≡ false = ne-eqb _ _ (λ q. z (number-end ∙ q)) in
       let x = step (r .id) (r .id-fits) (standing r) last inv-end back tt in (
@@ -480,14 +487,14 @@ module _ (r : Run) where
 
   refused-same : (k : Call) → refuses (givesOurs (left ours r) k) ≡ true → (leavesOurs (left ours r) k ≡ left ours r) × (givesOurs (left ours r) k .output ≡ lent k)
   refused-same k h =
-      let q : refuses (says (r .id) (r .id-fits) (standing r) k) ≡ true = ap refuses (sym (gives-end k)) ∙ h in (
+      let q : refuses (told (r .id) (r .id-fits) (standing r) k) ≡ true = ap refuses (sym (gives-end k)) ∙ h in (
         ap (λ (p : Handed). leavesOurs p k) at-end ∙ said-end k .same q ∙ sym at-end,
         ap (λ (g : Given). g .output) (gives-end k) ∙ output-same k q,
       )
 
--- DEMAND 3 HOLDS of the delivered calls: for every chip ID that `create` accepts, every 17,408 bytes made empty, every list of calls.
+-- DEMAND 3 HOLDS of the delivered calls: for every chip ID that `create` accepts, all bytes of a journal's length made empty, every list of calls.
 pub demand3 : Demand3 ours
-unfolding pair says
+unfolding pair told
 demand3 =
     record {
       undamaged = λ r k. rw (gives-end r k) (never r k);
@@ -500,12 +507,32 @@ demand3 =
       unchanged = λ r k h. refused-same r k h;
     }
 
--- The text's own numbers: there is an event to take back where the kept number is not zero, and it is at most 64.
+-- The text's own numbers: there is an event to take back where the kept number is not zero, and it is at most the slots.
 pub enough-standing : (r : Run) → standing r .number ≤ length (standing r .events)
 enough-standing r = inv-end r .enough
 
+-- the slots stay those of the bytes of the start
+keeps-most : (s : Standing) (k : Call) → keeps s k .most ≡ s .most
+keeps-most s (event e o) = either (λ (x : Standing). x .most ≡ s .most) (refused e o) _ _ refl refl
+keeps-most s back = either (λ (x : Standing). x .most ≡ s .most) (eqb (s .number) 0) _ _ refl refl
+keeps-most s empty = refl
+
+most-stays : (ks : List Call) (s : Standing) → foldl keeps s ks .most ≡ s .most
+most-stays [] s = refl
+most-stays (k ∷ ks) s = most-stays ks (keeps s k) ∙ keeps-most s k
+
+pub most-standing : (r : Run) → standing r .most ≡ slotsOf (r .bytes)
+most-standing r = most-stays (r .calls) (atStart (slotsOf (r .bytes)))
+
+pub at-most-slots : (r : Run) → standing r .number ≤ slotsOf (r .bytes)
+at-most-slots r =
+    let f = inv-end r .well .few in
+    let n = inv-end r .number in
+    let m : slotsOf (last r) ≡ slotsOf (r .bytes) = inv-end r .slots ∙ most-standing r in
+    omega arith
+
 pub at-most-64 : (r : Run) → standing r .number ≤ 64
-at-most-64 r = subst (λ (n : ℕ). n ≤ 64) (inv-end r .number) (inv-end r .well .few)
+at-most-64 r = let m = at-most-slots r in omega (arith, always-64 (r .bytes) (r .size))
 
 -- What a run leaves, and what a step back after it leaves, holds what the state's types hold.
 pub state-fits : (r : Run) → Fits (left ours r .adapter)

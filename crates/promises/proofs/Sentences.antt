@@ -14,13 +14,13 @@ use Rattle.registers.specs.Controller.{spiEnabled}
 use Rattle.registers.specs.Spi.{spiZero, spiBusy, spiAnswer, actSpi}
 use Rattle.numbers.specs.Numbers.{notBusy, noFrame}
 use Rattle.chip.specs.declared.Adapter.{Adapter}
-use Rattle.chip.specs.Event.{frame, completion, upset}
+use Rattle.chip.specs.Event.{spi, frame, completion, upset}
 use Rattle.chip.specs.State.{poweredOn, withControl, withSeu}
 use Rattle.chip.specs.Answer.{gives}
-use Rattle.chip.specs.Link.{numberIn, inLoopback, connected, reset}
+use Rattle.chip.specs.Link.{numberIn, inLoopback}
 use Rattle.chip.specs.Request.{onChannel, answered}
-use Rattle.chip.specs.Frame.{numbered, carried, onFrame}
-use Rattle.chip.specs.Chip.{onCompletion, onUpset, reaction}
+use Rattle.chip.specs.Frame.{connected, reset, numbered, carried, addressed, onFrame}
+use Rattle.chip.specs.Chip.{onSpi, onUpset, reaction}
 
 -- ---- "Bits 7 to 4 of incoming control are not read."
 
@@ -30,9 +30,9 @@ odd c n o e = ne-eqb c n (λ z. true≢false (sym o ∙ ap (λ (x : ℕ). bitOf 
 
 module _ (a : Adapter) (port x c d : ℕ) (info : List ℕ) where
   -- Of an information frame's control, bits 3 to 1 alone are read: with these bits the same, the answer is the same.
-  pub high-bits-not-read : inLoopback a port ≡ false → bitOf c 0 ≡ false → bitOf d 0 ≡ false → numberIn c ≡ numberIn d
+  pub high-bits-not-read : inLoopback (a .link) port ≡ false → bitOf c 0 ≡ false → bitOf d 0 ≡ false → numberIn c ≡ numberIn d
       → reaction a (frame port (x ∷ c ∷ info)) ≡ reaction a (frame port (x ∷ d ∷ info))
-  unfolding reaction onFrame carried numbered
+  unfolding reaction onFrame addressed carried numbered
   high-bits-not-read l e f n =
       simp (
         l,
@@ -69,8 +69,8 @@ go-makes-busy a trn d zero last on idle = simp (zero, last, on, idle) (refl, ref
 
 -- ---- "Disabling, or RESET, while busy drops the GO for good; CONNECT does not."
 
-idle : (a : Adapter) (received : List ℕ) → a .spi .go ≡ 0 → reaction a (completion received) ≡ gives a notBusy
-unfolding reaction onCompletion
+idle : (a : Adapter) (received : List ℕ) → a .spi .go ≡ 0 → reaction a (completion (spi received)) ≡ gives a notBusy
+unfolding reaction onSpi
 idle a received e = simp (eq-eqb _ 0 e)
 
 zeroed : (t : Bool) → cond t spiZero spiZero .go ≡ 0
@@ -80,10 +80,10 @@ zeroed false = refl
 -- A controller's answer is `withControl` of the registers it leaves. After one that disables SPI, and another that may enable it again, a
 -- completion is 15.
 pub disabling-drops : (a : Adapter) (off again : Control) (received : List ℕ) → spiEnabled off ≡ false
-    → let b = withControl (withControl a off) again in reaction b (completion received) ≡ gives b notBusy
+    → let b = withControl (withControl a off) again in reaction b (completion (spi received)) ≡ gives b notBusy
 disabling-drops a off again received e = idle _ received (simp e (zeroed (spiEnabled again)))
 
-pub reset-drops : (a : Adapter) (port : ℕ) (received : List ℕ) → reaction (reset a port) (completion received) ≡ gives (reset a port) notBusy
+pub reset-drops : (a : Adapter) (port : ℕ) (received : List ℕ) → reaction (reset a port) (completion (spi received)) ≡ gives (reset a port) notBusy
 unfolding poweredOn
 reset-drops a port received = idle (reset a port) received refl
 

@@ -2,27 +2,39 @@
 -- that no run forgives; then each wrong adapter, made from the delivered calls with one thing changed.
 use Prim.Native.Nat.{ℕ, zero, suc, _+_, _≤_, _<_}
 use mathlib.Core.Path.{_≡_, refl, sym, ap, _∙_}
-use mathlib.Core.List.{List, [], _∷_}
+use mathlib.Core.List.{List, [], _∷_, foldl}
 use mathlib.Core.Bool.{Bool, false, cond, _||_}
 use native.Mathlib.Omega.{arith}
-use lib.ListN.{getD, replicate, length-replicate}
+use lib.ListN.{length, getD, replicate, length-replicate}
 use lib.Dec.{lit<, lit≤}
 use Rattle.numbers.specs.Numbers as number
 use Rattle.chip.specs.declared.Adapter.{Adapter}
 use Rattle.chip.specs.Event.{Event, frame, upset}
 use Rattle.chip.specs.State.{poweredOn, powerOn}
-use Rattle.chip.specs.Frame.{isResetFrame, commanded, onFrame}
+use Rattle.chip.specs.Frame.{isResetFrame, commanded, addressed, onFrame}
 use Rattle.chip.specs.Chip.{reaction, onUpset, acceptedReset}
 use Rattle.adapter.specs.declared.KeptNumber.{KeptNumber}
-use Rattle.promises.specs.Runs.{Call, event, back, empty, Given, Calls, AllOfTheirTypes, Run, left, bare, lent, Demand3}
+use Rattle.promises.specs.Runs.{Call, event, back, empty, Given, Calls, AllOfTheirTypes, Run, left, Standing, atStart, keeps, standing, stateAfter, bare, lent, Demand3}
 use Rattle.promises.specs.Ours.{Handed, handed, givesOurs, leavesOurs, ours}
+use Rattle.promises.proofs.Formats.{slots-64, any-17408}
 
 -- ---- short runs
 
 -- calls after the start of the bench's chip, whose journal was zeros
+abbrev zeros : List ℕ
+zeros = replicate 17408 0
+
+as-long : length zeros ≡ 17408
+as-long = length-replicate {A = ℕ} 17408 0
+
 ran : (calls : List Call) → AllOfTheirTypes calls → Run
 ran calls typed =
-    record { id = 0x00000A; id-fits = lit≤ tt; bytes = replicate 17408 0; size = length-replicate {A = ℕ} 17408 0; calls = calls; typed = typed }
+    record { id = 0x00000A; id-fits = lit≤ tt; bytes = zeros; size = any-17408 zeros as-long; calls = calls; typed = typed }
+
+-- of which at most 64 are kept
+ran-standing : (calls : List Call) (typed : AllOfTheirTypes calls) → standing (ran calls typed) ≡ foldl keeps (atStart 64) calls
+unfolding ran
+ran-standing calls typed = ap (λ (most : ℕ). foldl keeps (atStart most) calls) (slots-64 zeros as-long)
 
 abbrev pub output : List ℕ
 output = replicate 16 0
@@ -74,12 +86,12 @@ module _ (c : Calls) (d : Demand3 c) where
   upset-first = ap (λ (g : Given). g .number) (d .reply at-start upset output)
 
   connect-first : c .gives (start-of c) (event connect output) .number ≡ 0
-  unfolding at-start ran reaction onFrame commanded
+  unfolding at-start ran reaction onFrame addressed commanded
   connect-first = ap (λ (g : Given). g .number) (d .reply at-start connect output)
 
   -- and to the second
   connect-second : c .gives (c .leaves (start-of c) upset-call) (event connect output) .number ≡ 0
-  unfolding after-upset ran reaction onFrame commanded
+  unfolding after-upset ran reaction onFrame addressed commanded
   connect-second = ap (λ (g : Given). g .number) (d .reply after-upset connect output)
 
   -- refuse every event
@@ -115,7 +127,9 @@ module _ (c : Calls) (d : Demand3 c) where
   pub back-stays : ((p : c .Pair) → c .state (c .leaves p back) ≡ c .state p) → ⊥
   unfolding after-back ran poweredOn
   back-stays h =
-      let z : c .state (c .leaves (c .leaves (start-of c) upset-call) back) .seu ≡ 0 = ap (λ (a : Adapter). a .seu) (d .state after-back) in
+      let z : c .state (c .leaves (c .leaves (start-of c) upset-call) back) .seu ≡ 0 =
+      ap (λ (a : Adapter). a .seu) (d .state after-back)
+      ∙ ap (λ (s : Standing). stateAfter 0x00000A (s .events) .seu) (ran-standing (upset-call ∷ back ∷ []) (tt, (tt, tt))) in
       let s : c .state (c .leaves (c .leaves (start-of c) upset-call) back) .seu ≡ c .state (c .leaves (start-of c) upset-call) .seu =
       ap (λ (a : Adapter). a .seu) (h (c .leaves (start-of c) upset-call)) in
       let u = state-after-upset in
@@ -126,7 +140,8 @@ module _ (c : Calls) (d : Demand3 c) where
   unfolding at-start after-upset ran
   kept-stays n h =
       let z : c .kept (left c at-start) .kept ≡ 0 = ap (λ (k : KeptNumber). k .kept) (d .kept at-start) in
-      let o : c .kept (left c after-upset) .kept ≡ 1 = ap (λ (k : KeptNumber). k .kept) (d .kept after-upset) in
+      let o : c .kept (left c after-upset) .kept ≡ 1 =
+      ap (λ (k : KeptNumber). k .kept) (d .kept after-upset) ∙ ap (λ (s : Standing). s .number) (ran-standing (upset-call ∷ []) (tt, tt)) in
       let s = h (left c at-start) in
       let t = h (left c after-upset) in
       omega arith

@@ -3,7 +3,7 @@ use Prim.Native.Nat.{ℕ}
 use mathlib.Core.Path.{_≡_, refl, sym, ap, ap₂, _∙_}
 use mathlib.Core.List.{List, [], _∷_, _++_}
 use mathlib.Core.Bool.{Bool, true, false}
-use lib.ListN.{length, take, replicate, length-replicate}
+use lib.ListN.{length, take}
 use lib.Dec.{eqb}
 use Rattle.chip.specs.Event.{Event}
 use Rattle.chip.specs.declared.Adapter.{Adapter}
@@ -14,7 +14,7 @@ use Rattle.adapter.specs.Calls.{judgedBack, steppedBack}
 use Rattle.listing.specs.Line as Line
 use Rattle.listing.specs.Answer.{answerText}
 use Rattle.player.specs.Play.{noReply, heard, answerOf, Turn, turn, answers}
-use Rattle.promises.specs.Runs.{Call, event, back, Given, Calls}
+use Rattle.promises.specs.Runs.{Call, event, back, Given}
 use Rattle.promises.specs.Ours.{ours, handed}
 use Rattle.promises.specs.Table.{line, lines}
 

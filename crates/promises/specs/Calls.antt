@@ -18,9 +18,9 @@ use Rattle.receiver.specs.Receive.{Answer, bare, atFlag, Reading, received, rec
 pub record Accepted (rx : Receiver) (input : List ℕ) (start : ℕ) (output : List ℕ) : Type 0 where
   pub range : inRange rx ≡ true
   pub size : length (rx .bytes) ≡ 20
-  pub short : length input ≤ 65536
+  pub short : length input ≤ number.inputMost
   pub inside : start ≤ 8 * length input
-  pub room : 16 ≤ length output
+  pub room : number.outputLeast ≤ length output
 
 -- its result and the output's bytes afterwards are those of a reading
 pub record Gives (rx : Receiver) (input : List ℕ) (start : ℕ) (output : List ℕ) (r : Reading) : Type 0 where
@@ -59,9 +59,9 @@ spoken (a ∷ more) = cond (eqb (a .number) number.noFrame) (spoken more) (a ∷
 
 -- a body has 2 to 16 bytes, and comes with 0 alone
 pub record Sized (a : Answer) : Type 0 where
-  pub most : length (a .body) ≤ 16
-  pub least : a .number ≡ number.sent → 2 ≤ length (a .body)
-  pub other : (a .number ≡ number.sent → ⊥) → a .body ≡ []
+  pub most : length (a .body) ≤ number.bodyMost
+  pub least : a .number ≡ number.hasFrame → number.bodyLeast ≤ length (a .body)
+  pub other : (a .number ≡ number.hasFrame → ⊥) → a .body ≡ []
 
 -- what a receiver gives that goes on hunting through all its bits: 17
 pub record StillHunts (rx : Receiver) (input : List ℕ) (start : ℕ) (output : List ℕ) : Type 0 where

@@ -2,7 +2,7 @@
 use Prim.Native.Nat.{ℕ}
 use mathlib.Core.List.{List, []}
 use Rattle.chip.specs.declared.Adapter.{Adapter}
-use Rattle.adapter.specs.declared.Answer.{Answer}
+use Rattle.chip.specs.declared.Response.{Response}
 use Rattle.adapter.specs.Calls.{created, called, steppedBack, madeEmpty, keptIn}
 use Rattle.promises.specs.Runs.{Call, event, back, empty, Given, bare, Calls}
 
@@ -14,7 +14,7 @@ pub record Handed : Type 0 where
 abbrev pub handed : Adapter → List ℕ → Handed
 handed a journal = record { adapter = a; journal = journal }
 
-abbrev pub shown : Answer → List ℕ → Given
+abbrev pub shown : Response → List ℕ → Given
 shown x output = record { number = x .number; port = x .port; length = x .length; output = output }
 
 abbrev pub givesOurs : Handed → Call → Given

@@ -3,17 +3,17 @@
 -- `Demand3` says of the calls what the demand says of a run, a field for each of its sentences.
 use Prim.Native.Nat.{ℕ, _+_, _-_, _≤_, _<_, _^_, min}
 use mathlib.Core.Path.{_≡_}
-use mathlib.Core.Bool.{Bool, true, not, cond, _&&_}
+use mathlib.Core.Bool.{Bool, true, false, not, cond, _&&_}
 use mathlib.Core.List.{List, [], _∷_, foldl}
-use lib.ListN.{length, take, drop, getD}
+use lib.ListN.{length, drop, getD}
 use lib.Dec.{eqb, ltb, leb}
 use Rattle.numbers.specs.Numbers as number
-use Rattle.parts.specs.Parts.{put}
 use Rattle.chip.specs.declared.Adapter.{Adapter}
-use Rattle.chip.specs.declared.Reaction.{Reaction}
-use Rattle.chip.specs.Event.{Event, frame, completion, sample, upset}
+use Rattle.chip.specs.Answer.{Reaction, frontLength, laid}
+use Rattle.chip.specs.Event.{Completion, spi, Event, frame, completion, sample, upset}
 use Rattle.chip.specs.State.{powerOn}
 use Rattle.chip.specs.Chip.{reaction, acceptedReset}
+use Rattle.journal.specs.Layout.{slotsOf, wrongLength}
 use Rattle.adapter.specs.declared.KeptNumber.{KeptNumber}
 use Rattle.adapter.specs.Refusals.{wrongArgument, wrongBody}
 
@@ -46,11 +46,17 @@ pub record Calls : Type 1 where
   pub kept : Pair → KeptNumber
 
 -- What every value of the language has, and the definitions' numbers need not: a byte is below 256, levels are 32 bits.
+abbrev pub CompletionOfTypes : Completion → Type 0
+CompletionOfTypes (spi received) = (i : ℕ) → getD received i 0 < 256
+
+abbrev pub EventOfTypes : Event → Type 0
+EventOfTypes (frame port body) = (i : ℕ) → getD body i 0 < 256
+EventOfTypes (completion c) = CompletionOfTypes c
+EventOfTypes (sample levels kind) = levels < 2 ^ 32
+EventOfTypes upset = Unit
+
 abbrev pub OfItsTypes : Call → Type 0
-OfItsTypes (event (frame port body) output) = (i : ℕ) → getD body i 0 < 256
-OfItsTypes (event (completion received) output) = (i : ℕ) → getD received i 0 < 256
-OfItsTypes (event (sample levels kind) output) = levels < 2 ^ 32
-OfItsTypes (event upset output) = Unit
+OfItsTypes (event e output) = EventOfTypes e
 OfItsTypes back = Unit
 OfItsTypes empty = Unit
 
@@ -58,12 +64,12 @@ abbrev pub AllOfTheirTypes : List Call → Type 0
 AllOfTheirTypes [] = Unit
 AllOfTheirTypes (c ∷ cs) = OfItsTypes c × AllOfTheirTypes cs
 
--- any chip ID, any 17,408 bytes made empty, any calls
+-- any chip ID, any bytes of a journal's length made empty (17,408 bytes: `any-17408`, `no-other-length`), any calls
 pub record Run : Type 0 where
   pub id : ℕ
-  pub id-fits : id ≤ 0xFFFFFF
+  pub id-fits : id ≤ number.idMost
   pub bytes : List ℕ
-  pub size : length bytes ≡ 17408
+  pub size : wrongLength bytes ≡ false
   pub calls : List Call
   pub typed : AllOfTheirTypes calls
 
@@ -76,34 +82,35 @@ left c r = foldl (c .leaves) (c .start (r .id) (r .bytes)) (r .calls)
 -- the number that refuses an event because of its arguments, in document 01's order 1, 3, 2; 0 where it is not refused
 abbrev pub refusal : Event → List ℕ → ℕ
 refusal e output =
-    cond (ltb (length output) 16) number.shortOutput
+    cond (ltb (length output) number.outputLeast) number.shortOutput
     (cond (wrongArgument e) number.badArgument
     (cond (wrongBody e) number.badBody 0))
 
 abbrev pub refused : Event → List ℕ → Bool
 refused e output = not (eqb (refusal e output) 0)
 
--- the standing events, "not refused, not taken back", the newest first; and the kept number
+-- the standing events, "not refused, not taken back", the newest first; the kept number, and how far it goes up
 pub record Standing : Type 0 where
   pub events : List Event
   pub number : ℕ
+  pub most : ℕ
 
 -- "that number is zero at the start,
-abbrev pub atStart : Standing
-atStart = record { events = []; number = 0 }
+abbrev pub atStart : ℕ → Standing
+atStart most = record { events = []; number = 0; most = most }
 
 -- after the emptying call and after an accepted RESET, goes up by one with each other event not refused, to at most 64, and down by one
 -- with each step granted"; "a step back takes back the newest standing event; it is refused, taking nothing back, exactly when the kept
--- number is zero"
+-- number is zero". 64 are the slots of a journal of 17,408 bytes (`slots-64`).
 abbrev pub keeps : Standing → Call → Standing
 keeps s (event e output) =
     cond (refused e output) s
-    (record { events = e ∷ s .events; number = cond (acceptedReset e) 0 (min 64 (s .number + 1)) })
-keeps s back = cond (eqb (s .number) 0) s (record { events = drop 1 (s .events); number = s .number - 1 })
-keeps s empty = record { events = s .events; number = 0 }
+    (record { events = e ∷ s .events; number = cond (acceptedReset e) 0 (min (s .most) (s .number + 1)); most = s .most })
+keeps s back = cond (eqb (s .number) 0) s (record { events = drop 1 (s .events); number = s .number - 1; most = s .most })
+keeps s empty = record { events = s .events; number = 0; most = s .most }
 
 abbrev pub standing : Run → Standing
-standing r = foldl keeps atStart (r .calls)
+standing r = foldl keeps (atStart (slotsOf (r .bytes))) (r .calls)
 
 -- the state of "a run of only the standing events"
 abbrev pub stateAfter : ℕ → List Event → Adapter
@@ -117,10 +124,9 @@ dueState r = stateAfter (r .id) (standing r .events)
 abbrev pub bare : ℕ → List ℕ → Given
 bare n output = record { number = n; port = 0; length = 0; output = output }
 
--- the chip's answer, its frame at the front of the output
+-- the chip's answer, its frames in the output
 abbrev pub answered : Reaction → List ℕ → Given
-answered r output =
-    record { number = r .number; port = r .port; length = r .length; output = put 0 (take (r .length) (r .body)) output }
+answered r output = record { number = r .number; port = r .port; length = frontLength (r .frames); output = laid (r .frames) output }
 
 -- "the one due" to an event that happens to a state
 abbrev pub due : Adapter → Event → List ℕ → Given
@@ -157,7 +163,7 @@ pub record Demand3 (c : Calls) : Type 0 where
   pub refused-at-zero : (r : Run) → c .kept (left c r) .kept ≡ 0
       → (c .gives (left c r) back ≡ bare number.noneKept []) × (c .leaves (left c r) back ≡ left c r)
   -- that number is zero at the start, after the emptying call and after an accepted RESET, goes up by one with each other event not
-  -- refused, to at most 64, and down by one with each step granted."
+  -- refused, to at most 64, and down by one with each step granted." (`up-to-64`)
   pub kept : (r : Run) → c .kept (left c r) ≡ record { number = number.noFrame; kept = standing r .number }
   -- The emptying call is not refused.
   pub empties : (r : Run) → c .gives (left c r) empty ≡ bare number.noFrame []

@@ -53,7 +53,7 @@ after a s n rest =
 
 -- the reading that finds a body, after so many bits
 abbrev pub found : List ℕ → ℕ → Reading
-found body n = record { answer = record { number = number.sent; body = body }; state = opened; consumed = n }
+found body n = record { answer = record { number = number.hasFrame; body = body }; state = opened; consumed = n }
 
 -- ---- frames one after the other
 
@@ -77,7 +77,7 @@ cable bodies = flatMap framed bodies
 
 -- the answers that bring them back
 abbrev pub broughtBack : List (List ℕ) → List Answer
-broughtBack bodies = map (λ (body : List ℕ). record { number = number.sent; body = body }) bodies
+broughtBack bodies = map (λ (body : List ℕ). record { number = number.hasFrame; body = body }) bodies
 
 -- ---- after a flag
 

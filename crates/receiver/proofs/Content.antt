@@ -12,7 +12,8 @@ use lib.Pow.{pow-pos, pow-add, pow-mono}
 use lib.ListN.{length, take, drop, getD}
 use Rattle.wire.specs.Bits.{low, wire, num}
 use Rattle.receiver.specs.Inner.{value}
-use Rattle.wire.proofs.Bits.{AreBytes, low-mod, low-add, num-low}
+use Rattle.parts.proofs.Laws.{AreBytes}
+use Rattle.wire.proofs.Bits.{low-mod, low-add, num-low}
 use Rattle.receiver.proofs.Bits.{take-low, drop-low}
 use Rattle.receiver.proofs.Taken.{lt-or, value-at}
 

@@ -9,7 +9,7 @@ use lib.ListN.{length}
 use Rattle.receiver.specs.Receiver.{fieldsFit, inRange}
 use Rattle.receiver.specs.Inner.{Good, controlOf}
 use Rattle.receiver.specs.declared.Receiver.{Receiver}
-use Rattle.wire.proofs.Bits.{AreBytes}
+use Rattle.parts.proofs.Laws.{AreBytes}
 use Rattle.bits.proofs.Tests.{both}
 use Rattle.receiver.proofs.Content.{clear-value}
 

@@ -17,7 +17,8 @@ use Rattle.wire.specs.Bits.{low, wire}
 use Rattle.receiver.specs.Receiver.{State, next, push, decides, runs}
 use Rattle.receiver.specs.Inner.{value, Good, Stepped, stateOf, Idle, Same}
 use Rattle.receiver.specs.declared.scanning.Control.{Control}
-use Rattle.wire.proofs.Bits.{AreBytes, bit-of, length-low, low-cut, wire-cons}
+use Rattle.parts.proofs.Laws.{AreBytes}
+use Rattle.wire.proofs.Bits.{bit-of, length-low, low-cut, wire-cons}
 use Rattle.receiver.proofs.Bits.{low-snoc, take-low, shl-byte, wire-at}
 
 -- ---- the number that bytes spell, with a bit more

@@ -9,7 +9,7 @@ use lib.ListN.{length, take, replicate, length-take}
 use lib.Seq.{take-take}
 use Rattle.numbers.specs.Numbers as number
 use Rattle.parts.specs.Parts.{put}
-use Rattle.parts.proofs.Laws.{put-none}
+use Rattle.parts.proofs.Laws.{AreBytes, bytes-take, put-none}
 use Rattle.wire.specs.Bits.{low, wire, pack}
 use Rattle.wire.specs.Fcs.{register, preset, residue}
 use Rattle.receiver.specs.Receiver.{State, hunting, opened, ended, runs, view, image}
@@ -19,7 +19,7 @@ use Rattle.receiver.specs.declared.Receiver.{Receiver}
 use Rattle.receiver.specs.declared.Received.{Received}
 use Rattle.receiver.specs.declared.scanning.Control.{Control}
 use Rattle.receiver.specs.declared.scanning.Scanned.{Scanned}
-use Rattle.wire.proofs.Bits.{AreBytes, length-low, low-add, length-wire, take-wire, pack-wire, bytes-take}
+use Rattle.wire.proofs.Bits.{length-low, low-add, length-wire, take-wire, pack-wire}
 use Rattle.receiver.proofs.Bits.{take-low}
 use Rattle.receiver.proofs.Content.{take-value, wire-value}
 
@@ -74,11 +74,11 @@ module _ (kept : List ℕ) (bits : ℕ) (h32 : 32 ≤ bits) (hm : bits ≤ 152) 
         rw (length-content kept bits hl hm, le-ltb bits 32 h32, le-ltb 144 bits h, eq-eqb (bits % 8) 0 z, whole, ne-eqb (register preset (wire (take (bits / 8) kept))) residue w) refl
 
     pub flag-good : AreBytes kept → register preset (wire (take (bits / 8) kept)) ≡ residue
-        → atFlag (take bits (wire kept)) ≡ record { number = number.sent; body = take (bits / 8 - 2) kept }
+        → atFlag (take bits (wire kept)) ≡ record { number = number.hasFrame; body = take (bits / 8 - 2) kept }
     unfolding atFlag
     flag-good hb w =
         rw (length-content kept bits hl hm, le-ltb bits 32 h32, le-ltb 144 bits h, eq-eqb (bits % 8) 0 z, whole, eq-eqb (register preset (wire (take (bits / 8) kept))) residue w)
-        (ap (λ (l : List ℕ). record { number = number.sent; body = l })
+        (ap (λ (l : List ℕ). record { number = number.hasFrame; body = l })
         (ap (take (bits / 8 - 2)) (pack-wire (take (bits / 8) kept) (bytes-take (bits / 8) kept hb)) ∙ take-take (bits / 8 - 2) (bits / 8) kept (omega arith)))
 
 -- ---- what a flag's answer gives back, and the output after it
@@ -89,8 +89,8 @@ pub bare-flag : {n used : ℕ} {rx : Receiver} {r : Received} (content o : List 
 bare-flag {n} {used} content o e f g = rw e (g ∙ ap (λ (x : Receiver). barely x n used) f, put-none 0 o)
 
 pub body-flag : {used : ℕ} {rx : Receiver} {body : List ℕ} (content o o′ : List ℕ)
-    → atFlag content ≡ record { number = number.sent; body = body } → rx ≡ image opened → o′ ≡ put 0 body o
-    → (record { rx = rx; number = number.sent; consumed = used; length = length body } ≡ receivedAs (record { answer = atFlag content; state = opened; consumed = used }))
+    → atFlag content ≡ record { number = number.hasFrame; body = body } → rx ≡ image opened → o′ ≡ put 0 body o
+    → (record { rx = rx; number = number.hasFrame; consumed = used; length = length body } ≡ receivedAs (record { answer = atFlag content; state = opened; consumed = used }))
     × (o′ ≡ put 0 (atFlag content .body) o)
 body-flag {used} {rx} {body} content o o′ e f g = rw (e, f) (refl, g)
 

@@ -26,7 +26,7 @@ atFlag content =
     cond (ltb (length content) 32) (bare number.noFrame)
     (cond (ltb 144 (length content)) (bare number.longContent)
     (cond (eqb (length content % 8) 0)
-    (cond (eqb (register preset content) residue) (record { number = number.sent; body = take (length content / 8 - 2) (pack content) }) (bare number.wrongFcs))
+    (cond (eqb (register preset content) residue) (record { number = number.hasFrame; body = take (length content / 8 - 2) (pack content) }) (bare number.wrongFcs))
     (bare number.brokenContent)))
 
 -- what a reading gives: its answer, the state it leaves, the bits consumed
@@ -50,9 +50,9 @@ reading s bits = concluded (runs s 0 bits)
 abbrev pub unlessRefused : {A : Type 0} → Receiver → List ℕ → ℕ → List ℕ → (ℕ → A) → A → A
 unlessRefused rx input start output refused done =
     cond (inRange rx)
-    (cond (leb (length input) 65536)
+    (cond (leb (length input) number.inputMost)
     (cond (leb start (8 * length input))
-    (cond (leb 16 (length output)) done (refused number.shortOutput))
+    (cond (leb number.outputLeast (length output)) done (refused number.shortOutput))
     (refused number.badStart))
     (refused number.longInput))
     (refused number.badState)

@@ -5,13 +5,16 @@ mod verdict;
 
 use numbers::BAD_START;
 use numbers::BAD_STATE;
+use numbers::INPUT_MOST;
 use numbers::LONG_INPUT;
+use numbers::OUTPUT_LEAST;
 use numbers::SHORT_OUTPUT;
 use scanning::Control;
 ghost use mathlib.Core.Path.{_≡_};
 ghost use Rattle.receiver.specs.Receive as receive;
 ghost use Prim.Native.Nat.{_*_, _≤_};
 ghost use lib.ListN.{length};
+ghost use Rattle.numbers.specs.Numbers.{inputMost, outputLeast};
 ghost use Rattle.parts.specs.Parts.{put};
 ghost use Rattle.receiver.specs.Receiver.{image, hunting};
 ghost use Rattle.receiver.specs.Inner.{Good, controlOf};
@@ -48,15 +51,10 @@ impl Receiver {
     }
 }
 
-// What a receiver asks of its output and of its input.
-const BODY_ROOM: usize = 16;
-
-const INPUT_MOST: usize = 65536;
-
 // A reading that nothing refuses.
 fn read(rx: Receiver, input: &[u8], start: usize, output: &mut [u8]) -> Received
     requires { ⌜ Good (controlOf rx) (rx .bytes) ⌝ }
-    requires { ⌜ (length (now input) ≤ 65536) × (start ≤ 8 * length (now input)) × (16 ≤ length (now output)) ⌝ }
+    requires { ⌜ (length (now input) ≤ inputMost) × (start ≤ 8 * length (now input)) × (outputLeast ≤ length (now output)) ⌝ }
     ensures { λ r. ⌜ r ≡ receive.receivedAs (receive.readFrom rx (now (input .entry)) start) ⌝ }
     ensures { λ _. ⌜ now (output .exit) ≡ put 0 (receive.readFrom rx (now (input .entry)) start .answer .body) (now (output .entry)) ⌝ }
 {
@@ -83,7 +81,7 @@ pub fn receive(rx: Receiver, input: &[u8], start: usize, output: &mut [u8]) -> R
         if 8 * input.len() < start {
             return verdict::bare(rx, BAD_START, 0);
         }
-        if output.len() < BODY_ROOM {
+        if output.len() < OUTPUT_LEAST {
             return verdict::bare(rx, SHORT_OUTPUT, 0);
         }
         return read(rx, input, start, output);

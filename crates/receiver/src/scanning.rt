@@ -3,6 +3,7 @@ ghost use mathlib.Core.Path.{_≡_};
 ghost use mathlib.Core.Bool.{true};
 ghost use Prim.Native.Nat.{_*_, _<_, _≤_};
 ghost use lib.ListN.{length, drop};
+ghost use Rattle.numbers.specs.Numbers.{inputMost};
 ghost use Rattle.wire.specs.Bits.{wire};
 ghost use Rattle.receiver.specs.Inner.{Good, Stepped, Scan, Idle, Same};
 
@@ -106,7 +107,7 @@ fn same_until(s: &[u8], i: usize, x: u8, passed: bool) -> usize
 fn scan(start: Control, kept: [u8; 20], s: &[u8], from: usize) -> Scanned
     requires { ⌜ Good start kept ⌝ }
     requires { ⌜ from < 8 ⌝ }
-    requires { ⌜ length (now s) ≤ 65536 ⌝ }
+    requires { ⌜ length (now s) ≤ inputMost ⌝ }
     ensures { λ r. ⌜ Scan start kept (drop from (wire (now (s .entry)))) r ⌝ }
 {
     let mut c = start;
@@ -166,7 +167,7 @@ fn scan(start: Control, kept: [u8; 20], s: &[u8], from: usize) -> Scanned
 // The same from any bit of a buffer: the rest of the cable bytes is handed on as a part.
 pub(crate) fn scan_from(start: Control, kept: [u8; 20], input: &[u8], bit: usize) -> Scanned
     requires { ⌜ Good start kept ⌝ }
-    requires { ⌜ (length (now input) ≤ 65536) × (bit ≤ 8 * length (now input)) ⌝ }
+    requires { ⌜ (length (now input) ≤ inputMost) × (bit ≤ 8 * length (now input)) ⌝ }
     ensures { λ r. ⌜ Scan start kept (drop bit (wire (now (input .entry)))) r ⌝ }
 {
     let k = bit / 8;

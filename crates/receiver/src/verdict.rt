@@ -4,13 +4,14 @@ use crate::Receiver;
 use crate::scanning::Scanned;
 use numbers::ABORTED;
 use numbers::BROKEN_CONTENT;
+use numbers::HAS_FRAME;
 use numbers::LONG_CONTENT;
 use numbers::NO_FRAME;
-use numbers::SENT;
 use numbers::WRONG_FCS;
 ghost use mathlib.Core.Path.{_≡_};
 ghost use Prim.Native.Nat.{ℕ, _+_, _≤_, _<_};
 ghost use lib.ListN.{length, take, getD};
+ghost use Rattle.numbers.specs.Numbers.{outputLeast};
 ghost use Rattle.parts.specs.Parts.{put};
 ghost use Rattle.wire.specs.Bits.{wire};
 ghost use Rattle.receiver.specs.Receiver.{image, opened};
@@ -50,7 +51,7 @@ pub(crate) fn bare(rx: Receiver, number: u8, consumed: usize) -> Received
 
 // The answer of a flag that ends this many bits of content.
 fn at_flag(kept: [u8; 20], bits: u8, used: usize, output: &mut [u8]) -> Received
-    requires { ⌜ (32 ≤ bits) × (bits ≤ 152) × (length kept ≡ 20) × ((i : ℕ) → getD kept i 0 < 256) × (16 ≤ length (now output)) ⌝ }
+    requires { ⌜ (32 ≤ bits) × (bits ≤ 152) × (length kept ≡ 20) × ((i : ℕ) → getD kept i 0 < 256) × (outputLeast ≤ length (now output)) ⌝ }
     ensures { λ r. ⌜ r ≡ receivedAs (record { answer = atFlag (take bits (wire kept)); state = opened; consumed = used }) ⌝ }
     ensures { λ _. ⌜ now (output .exit) ≡ put 0 (atFlag (take bits (wire kept)) .body) (now (output .entry)) ⌝ }
 {
@@ -69,7 +70,7 @@ fn at_flag(kept: [u8; 20], bits: u8, used: usize, output: &mut [u8]) -> Received
     let rx = at_opening();
     Received {
         rx,
-        number: SENT,
+        number: HAS_FRAME,
         consumed: used,
         length,
     }
@@ -78,7 +79,7 @@ fn at_flag(kept: [u8; 20], bits: u8, used: usize, output: &mut [u8]) -> Received
 pub(crate) fn conclude(stop: Scanned, output: &mut [u8]) -> Received
     requires { ⌜ Good (stop .control) (stop .bytes) ⌝ }
     requires { ⌜ (stop .hit ≡ 1 → 37 + stop .control .lead ≤ stop .control .count) ⌝ }
-    requires { ⌜ 16 ≤ length (now output) ⌝ }
+    requires { ⌜ outputLeast ≤ length (now output) ⌝ }
     ensures { λ r. ⌜ r ≡ receivedAs (concluded (stopOf stop)) ⌝ }
     ensures { λ _. ⌜ now (output .exit) ≡ put 0 (concluded (stopOf stop) .answer .body) (now (output .entry)) ⌝ }
 {

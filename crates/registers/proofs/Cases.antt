@@ -3,8 +3,6 @@ use Prim.Native.Nat.{ℕ}
 use mathlib.Core.Bool.{Bool, not}
 use lib.Dec.{eqb}
 use Rattle.bits.proofs.Tests.{either}
-use Rattle.commands.specs.declared.chip_id.Command.{Command as IdCommand}
-use Rattle.commands.specs.declared.chip_id.Command.the-variants.{Read as ReadId, Unknown as NoId}
 use Rattle.commands.specs.declared.controller.Command.{Command as ControllerCommand}
 use Rattle.commands.specs.declared.controller.Command.the-variants.{Known as KnownController, Unknown as NoController}
 use Rattle.commands.specs.declared.controller.Does.{Does as ControllerDoes}
@@ -14,7 +12,6 @@ use Rattle.commands.specs.declared.dac.Does.{Does as DacDoes}
 use Rattle.commands.specs.declared.gpio.Command.{Command as GpioCommand}
 use Rattle.commands.specs.declared.gpio.Command.the-variants.{Known as KnownGpio, Unknown as NoGpio}
 use Rattle.commands.specs.declared.gpio.Does.{Does as GpioDoes}
-use Rattle.commands.specs.declared.request.Reply.{Reply}
 use Rattle.commands.specs.declared.request.Request.{Request}
 use Rattle.commands.specs.declared.seu.Command.{Command as SeuCommand}
 use Rattle.commands.specs.declared.seu.Command.the-variants.{Known as KnownSeu, Unknown as NoSeu}
@@ -22,11 +19,10 @@ use Rattle.commands.specs.declared.seu.Does.{Does as SeuDoes}
 use Rattle.commands.specs.declared.spi.Command.{Command as SpiCommand}
 use Rattle.commands.specs.declared.spi.Command.the-variants.{Known as KnownSpi, Unknown as NoSpi}
 use Rattle.commands.specs.declared.spi.Does.{Does as SpiDoes}
-use Rattle.commands.specs.ChipId.{idCommand}
 use Rattle.commands.specs.Controller.{controllerCommand}
 use Rattle.commands.specs.Dac.{dacCommand}
 use Rattle.commands.specs.Gpio.{gpioCommand}
-use Rattle.commands.specs.Request.{granted, refusal, notEnabled, busy, cmdUnknown, lenWrong}
+use Rattle.commands.specs.Request.{notEnabled, busy, cmdUnknown, lenWrong}
 use Rattle.commands.specs.Seu.{seuCommand}
 use Rattle.commands.specs.Spi.{spiCommand}
 use Rattle.registers.specs.declared.controller.Answered.{Answered as ControllerAnswered}
@@ -38,7 +34,6 @@ use Rattle.registers.specs.declared.gpio.Gpio.{Gpio}
 use Rattle.registers.specs.declared.seu.Answered.{Answered as SeuAnswered}
 use Rattle.registers.specs.declared.spi.Answered.{Answered as SpiAnswered}
 use Rattle.registers.specs.declared.spi.Spi.{Spi}
-use Rattle.registers.specs.ChipId.{actId, idAnswer}
 use Rattle.registers.specs.Controller.{refuseControl, doControl, actControl, controllerAnswer}
 use Rattle.registers.specs.Dac.{refuseDac, doDac, actDac, dacAnswer}
 use Rattle.registers.specs.Gpio.{refuseGpio, doGpio, actGpio, gpioAnswer}
@@ -111,15 +106,3 @@ module _ (seu : ℕ) (enabled : Bool) (q : Request) (P : SeuAnswered → Type 0)
   pub seu-cases : P (seuAnswer seu enabled q)
   unfolding seuAnswer
   seu-cases = either P (not enabled) (refuseSeu seu notEnabled) _ (refused notEnabled) (act-seu (seuCommand (q .cmd)))
-
-module _ (id : ℕ) (enabled : Bool) (q : Request) (P : Reply → Type 0)
-    (refused : (error : ℕ) → P (refusal error))
-    (done : (given : ℕ) → P (granted given id)) where
-  act-id : (k : IdCommand) → P (actId id q k)
-  unfolding actId
-  act-id NoId = refused cmdUnknown
-  act-id (ReadId l) = either P (eqb (q .len) (l .asked)) (granted (l .given) id) (refusal lenWrong) (done (l .given)) (refused lenWrong)
-
-  pub id-cases : P (idAnswer id enabled q)
-  unfolding idAnswer
-  id-cases = either P (not enabled) (refusal notEnabled) _ (refused notEnabled) (act-id (idCommand (q .cmd)))

@@ -39,14 +39,13 @@ use Rattle.registers.specs.declared.gpio.Gpio.{Gpio}
 use Rattle.registers.specs.declared.seu.Answered.{Answered as SeuAnswered}
 use Rattle.registers.specs.declared.spi.Answered.{Answered as SpiAnswered}
 use Rattle.registers.specs.declared.spi.Spi.{Spi}
-use Rattle.registers.specs.ChipId.{idAnswer}
 use Rattle.registers.specs.Controller.{top, controlZero, readControl, writeControl, doControl, controllerAnswer}
 use Rattle.registers.specs.Dac.{dacZero, readDac, writeDac, doDac, dacAnswer}
 use Rattle.registers.specs.Gpio.{gpioZero, readGpio, writeGpio, doGpio, gpioAnswer}
 use Rattle.registers.specs.Pins.{datainAfter, firingLines, gpioSampled}
 use Rattle.registers.specs.Seu.{doSeu, seuAnswer}
 use Rattle.registers.specs.Spi.{spiZero, readSpi, writeSpi, doSpi, spiAnswer, completedWord, spiCompleted}
-use Rattle.registers.proofs.Cases.{controller-cases, spi-cases, gpio-cases, dac-cases, seu-cases, id-cases}
+use Rattle.registers.proofs.Cases.{controller-cases, spi-cases, gpio-cases, dac-cases, seu-cases}
 
 pub record RequestFits (q : Request) : Type 0 where
   pub trn : q .trn < 2 ^ 8
@@ -272,6 +271,3 @@ seu-fits seu enabled q f =
     done : (given : ℕ) (does : SeuDoes) → (doSeu seu given does .seu < 2 ^ 32) × ReplyFits (doSeu seu given does .reply)
     done given ReadSeu = (f, f)
     done given Clear = (omega arith, omega arith)
-
-pub id-fits : (id : ℕ) (enabled : Bool) (q : Request) → id < 2 ^ 32 → ReplyFits (idAnswer id enabled q)
-id-fits id enabled q f = id-cases id enabled q ReplyFits (λ error. omega arith) (λ given. f)

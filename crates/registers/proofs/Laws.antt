@@ -18,7 +18,7 @@ use Rattle.registers.specs.declared.controller.Answered.{Answered as Con
 use Rattle.registers.specs.declared.controller.Control.{Control}
 use Rattle.registers.specs.declared.gpio.Gpio.{Gpio}
 use Rattle.registers.specs.declared.spi.Spi.{Spi}
-use Rattle.registers.specs.Controller.{kept, controlZero, writeControl, doControl, controllerAnswer, controlInRange}
+use Rattle.registers.specs.Controller.{kept, writeControl, doControl, controllerAnswer, controlInRange}
 use Rattle.registers.specs.Gpio.{gpioZero, gpioAnswer, gpioIsZero, refuseGpio}
 use Rattle.registers.specs.Spi.{spiZero, spiAnswer, spiIsZero, refuseSpi}
 use Rattle.registers.proofs.Cases.{controller-cases}
@@ -38,10 +38,6 @@ pub kept-twice : (r : ControlRegister) (v : ℕ) → kept r (kept r v) ≡ kept 
 kept-twice Crb v = omega arith
 kept-twice Crc v = refl
 kept-twice Crd v = omega arith
-
-pub control-zero-in-range : controlInRange controlZero ≡ true
-unfolding controlInRange
-control-zero-in-range = refl
 
 write-in-range : (c : Control) (r : ControlRegister) (v : ℕ) → controlInRange c ≡ true → controlInRange (writeControl c r v) ≡ true
 unfolding controlInRange
@@ -123,15 +119,6 @@ gpio-is-zero g h =
 
 -- ── a disabled channel holds zeros ──
 
--- document 01: a disabled register not 0 is out of range, and so is a GO that is open with SPI disabled
-pub spi-held : (enabled : Bool) (s : Spi) → (enabled || spiIsZero (cond enabled s spiZero)) ≡ true
-spi-held true s = refl
-spi-held false s = spi-zero-is-zero
-
-pub gpio-held : (enabled : Bool) (g : Gpio) → (enabled || gpioIsZero (cond enabled g gpioZero)) ≡ true
-gpio-held true g = refl
-gpio-held false g = gpio-zero-is-zero
-
 -- a channel in range stays as it is where disabled channels are set to 0 again
 pub spi-held-again : (enabled : Bool) (s : Spi) → length (s .words) ≡ 4 → (enabled || spiIsZero s) ≡ true → cond enabled s spiZero ≡ s
 spi-held-again true s n h = refl
@@ -149,17 +136,3 @@ spi-off s q = refl
 pub gpio-off : (g : Gpio) (q : Request) → gpioAnswer g false q ≡ refuseGpio g notEnabled
 unfolding gpioAnswer
 gpio-off g q = refl
-
--- so its answers keep the range
-pub spi-in-range : (s : Spi) (enabled : Bool) (q : Request) → (enabled || spiIsZero s) ≡ true → (enabled || spiIsZero (spiAnswer s enabled q .spi)) ≡ true
-spi-in-range s true q h = refl
-spi-in-range s false q h = rw (spi-off s q) h
-
-pub gpio-in-range : (g : Gpio) (enabled : Bool) (q : Request) → (enabled || gpioIsZero g) ≡ true → (enabled || gpioIsZero (gpioAnswer g enabled q .gpio)) ≡ true
-gpio-in-range g true q h = refl
-gpio-in-range g false q h = rw (gpio-off g q) h
-
--- a GO is open only while SPI is enabled
-pub busy-enabled : (s : Spi) (enabled : Bool) → (enabled || spiIsZero s) ≡ true → (s .go ≡ 0 → ⊥) → enabled ≡ true
-busy-enabled s true h b = refl
-busy-enabled s false h b = absurd (b (spi-zero-idle s h))

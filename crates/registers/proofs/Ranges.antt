@@ -2,7 +2,7 @@
 use Prim.Native.Nat.{ℕ, _*_, _/_, _%_, _<_}
 use mathlib.Core.Bool.{not, _&&_}
 use mathlib.Core.List.{[], _∷_, foldl}
-use mathlib.Core.Path.{_≡_, refl, ap, ap₂, _∙_}
+use mathlib.Core.Path.{_≡_, ap, ap₂, _∙_}
 use native.Mathlib.Omega.{arith}
 use lib.Bits.{bitAnd, bitOr, and-mask, and-high}
 use lib.Dec.{eqb}

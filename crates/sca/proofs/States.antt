@@ -1,7 +1,7 @@
 -- Laws of a state as bytes, and of what each call of the adapter leaves in its buffers.
 use mathlib.Core.Path.{_≡_, refl, sym, ap, ap₂, _∙_}
-use mathlib.Core.Bool.{Bool, true, false, cond, _&&_}
-use mathlib.Core.List.{List, [], _∷_, _++_, append-nil}
+use mathlib.Core.Bool.{Bool, true, false}
+use mathlib.Core.List.{List, [], _∷_, _++_}
 use Prim.Native.Nat.{ℕ, _+_, _*_, _-_, _≤_, _<_}
 use native.Mathlib.Omega.{arith}
 use mir.Syntax.{w8}
@@ -16,23 +16,23 @@ use Rattle.parts.specs.Words.{bytesOf, wordsOf, frontWord}
 use Rattle.parts.proofs.Laws.{put-put, length-bytes, AreBytes, bytes-drop, bytes-part, length-words, bytes-words, words-bytes, none, more}
 use Rattle.chip.specs.Event.{Event}
 use Rattle.chip.specs.declared.Adapter.{Adapter}
-use Rattle.chip.specs.State.{powerOn, inRange}
+use Rattle.chip.specs.State.{inRange}
 use Rattle.journal.specs.Image.{imageWords, stateOf, spelled}
-use Rattle.journal.specs.Layout.{version1, wellFormed, keptOf, past, lowered}
+use Rattle.journal.specs.Layout.{wellFormed, keptOf, past, lowered}
 use Rattle.journal.specs.Record.{restored, sound}
 use Rattle.journal.proofs.Spelling.{image-words, state-image, image-spelled, image-bytes}
 use Rattle.adapter.specs.Refusals.{backVerdict}
 use Rattle.adapter.specs.declared.Verdict.{Verdict}
 use Rattle.adapter.specs.declared.Verdict.the-variants.{Refused, Passed}
-use Rattle.adapter.proofs.Laws.{no-adapter}
 use Rattle.adapter.proofs.Cases.{PassingBack, passing-back}
 use Rattle.adapter.specs.Calls as Calls
-use Rattle.adapter.specs.Calls.{Outcome, Stepped, Cleared}
-use Rattle.adapter.specs.declared.Answer.{Answer}
+use Rattle.adapter.specs.Calls.{Outcome, Cleared}
+use Rattle.chip.specs.declared.Response.{Response}
 use Rattle.adapter.specs.declared.Created.{Created}
 use Rattle.chip.proofs.Fits.{Fits}
 use Rattle.bits.proofs.Tests.{and-left, and-right}
-use Rattle.sca.specs.Adapter.{stateBytes, stateIn, isState, packAnswer, Left, left, happened, Backed, backed, steppedBack, Gave, gave, created, emptied}
+use Rattle.sca.specs.Adapter.{stateBytes, stateIn, isState, packAnswer, left, happened, backed, steppedBack, gave, created, emptied}
+use Rattle.sca.specs.Inner.{backVerdictIn}
 use Rattle.sca.proofs.Spelling.{put-all}
 
 -- ---- the bytes
@@ -129,7 +129,7 @@ state-read s ws ids h e f g =
 -- ---- an event
 
 module _ (s journal output : List ℕ) (e : Event) where
-  pub event-done : {t : Bool} {before : Adapter} {a : Answer} {j′ o′ s′ : List ℕ} {r : ℕ} → t ≡ isState s → t ≡ true → before ≡ stateIn s
+  pub event-done : {t : Bool} {before : Adapter} {a : Response} {j′ o′ s′ : List ℕ} {r : ℕ} → t ≡ isState s → t ≡ true → before ≡ stateIn s
       → Calls.outcome a j′ o′ ≡ Calls.called before journal e output → r ≡ packAnswer a → s′ ≡ stateBytes (a .adapter)
       → left r s′ j′ o′ ≡ happened s journal e output
   unfolding happened
@@ -145,12 +145,12 @@ module _ (s journal output : List ℕ) (e : Event) where
 
 -- ---- a step back
 
-pub ranged-state : (s : List ℕ) {t : Bool} {a : Adapter} {r : Bool} → t ≡ isState s → t ≡ true → a ≡ stateIn s → r ≡ inRange a
-    → r ≡ (isState s && inRange (stateIn s))
-ranged-state s h k e f = rw (sym h ∙ k) (f ∙ ap inRange e)
+module _ (s journal : List ℕ) {t : Bool} (h : t ≡ isState s) where
+  pub judged-state : {a : Adapter} {v : Verdict} → t ≡ true → a ≡ stateIn s → v ≡ backVerdict a journal → v ≡ backVerdictIn s journal
+  judged-state k e f = rw (sym h ∙ k) (f ∙ ap (λ (x : Adapter). backVerdict x journal) e)
 
-pub ranged-none : (s : List ℕ) {t : Bool} → t ≡ isState s → t ≡ false → false ≡ (isState s && inRange (stateIn s))
-ranged-none s h k = rw (sym h ∙ k) refl
+  pub judged-none : t ≡ false → Refused number.badState ≡ backVerdictIn s journal
+  judged-none k = rw (sym h ∙ k) refl
 
 -- a slice of bytes, as the language says it
 abbrev Given8 : List ℕ → Type 0
@@ -170,15 +170,12 @@ only-number n = omega arith
 not-six : number.noFrame ≡ number.badState → ⊥
 not-six e = omega arith
 
-module _ (s journal : List ℕ) (ranged : Bool) (in-range : ranged ≡ (isState s && inRange (stateIn s))) (v : Verdict)
-    (judged : (b : Adapter) → ranged ≡ inRange b → v ≡ backVerdict b journal) where
-  -- bytes that spell no state are judged as a state out of range
+module _ (s journal : List ℕ) (v : Verdict) (judged : v ≡ backVerdictIn s journal) where
   no-state : isState s ≡ false → v ≡ Refused number.badState
-  unfolding backVerdict
-  no-state h = judged (powerOn 0xFFFFFFFF) (in-range ∙ rw h (sym no-adapter)) ∙ rw no-adapter refl
+  no-state h = judged ∙ rw h refl
 
   a-state : isState s ≡ true → v ≡ backVerdict (stateIn s) journal
-  a-state h = judged (stateIn s) (in-range ∙ rw h refl)
+  a-state h = judged ∙ rw h refl
 
   pub back-refused : {n r : ℕ} → Given8 s → v ≡ Refused n → r ≡ n → backed r s journal ≡ steppedBack s journal
   unfolding steppedBack Calls.steppedBack verdictNumber
@@ -199,18 +196,18 @@ module _ (s journal : List ℕ) (ranged : Bool) (in-range : ranged ≡ (isState 
       by true h = (h, passing-back (stateIn s) journal (sym q ∙ a-state h))
       by false h = absurd (not-six (ap verdictNumber (sym q ∙ no-state h)))
 
-  pub copies : v ≡ Passed → (wellFormed version1 journal ≡ true) × ((0 < keptOf journal) × (72 ≤ length s))
+  pub copies : v ≡ Passed → (wellFormed journal ≡ true) × ((0 < keptOf journal) × (72 ≤ length s))
   copies q = let g = granted q in let n = its-length s (g .0) in (g .1 .formed, (g .1 .some, omega arith))
 
-  pub lowers : v ≡ Passed → (wellFormed version1 journal ≡ true) × (0 < keptOf journal)
+  pub lowers : v ≡ Passed → (wellFormed journal ≡ true) × (0 < keptOf journal)
   lowers q = let g = granted q in (g .1 .formed, g .1 .some)
 
-  pub back-granted : {r : ℕ} {s′ j′ : List ℕ} → Given8 s → Given8 journal → v ≡ Passed → s′ ≡ put 0 (bytesOf (wordsOf 18 (past version1 journal 0))) s
+  pub back-granted : {r : ℕ} {s′ j′ : List ℕ} → Given8 s → Given8 journal → v ≡ Passed → s′ ≡ put 0 (bytesOf (wordsOf 18 (past journal 0))) s
       → j′ ≡ lowered journal → r ≡ number.noFrame → backed r s′ j′ ≡ steppedBack s journal
   unfolding steppedBack Calls.steppedBack sound past
   back-granted {r} {s′} {j′} b c q d f e =
       let g = granted q in
-      let newest : List ℕ = past version1 journal 0 in
+      let newest : List ℕ = past journal 0 in
       let image = restored-bytes s newest (its-length s (g .0)) (of-u8 s b) (bytes-part _ 256 journal (of-u8 journal c))
       (and-left (spelled (wordsOf 18 newest)) (inRange (restored (stateIn s) newest)) (g .1 .restorable)) in
       rw (g .0, ← a-state (g .0), q, image)

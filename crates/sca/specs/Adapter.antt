@@ -3,15 +3,14 @@ use mathlib.Core.Bool.{Bool, cond, _&&_}
 use mathlib.Core.List.{List, [], _∷_, _++_}
 use Prim.Native.Nat.{ℕ, _+_, _*_}
 use lib.Dec.{eqb}
-use lib.ListN.{length, take, drop}
+use lib.ListN.{length, drop}
 use Rattle.numbers.specs.Numbers as number
 use Rattle.parts.specs.Words.{bytesOf, frontWord, wordsOf}
 use Rattle.chip.specs.Event.{Event}
 use Rattle.chip.specs.declared.Adapter.{Adapter}
 use Rattle.journal.specs.Image.{imageWords, stateOf, spelled}
 use Rattle.adapter.specs.Calls as Calls
-use Rattle.adapter.specs.declared.Answer.{Answer}
-use Rattle.adapter.specs.declared.Created.{Created}
+use Rattle.chip.specs.declared.Response.{Response}
 use Rattle.adapter.specs.declared.KeptNumber.{KeptNumber}
 
 -- ---- a state as bytes: the 18 words of its image, then the chip's ID
@@ -29,7 +28,7 @@ isState s = eqb (length s) 76 && spelled (wordsOf 18 s)
 -- ---- results
 
 -- the number in bits 7 to 0, the frame's length in bits 15 to 8, its port in bits 23 to 16
-abbrev pub packAnswer : Answer → ℕ
+abbrev pub packAnswer : Response → ℕ
 packAnswer a = a .number + 256 * a .length + 65536 * a .port
 
 -- the number in bits 7 to 0, the kept number in bits 15 to 8

@@ -2,10 +2,9 @@
 mod receiving;
 mod state;
 
-use adapter::Answer;
-use adapter::Created;
 use adapter::KeptNumber;
 use adapter::Verdict;
+use chip::Response;
 use numbers::BAD_STATE;
 use numbers::NO_FRAME;
 use receiver::Received;
@@ -13,9 +12,13 @@ use transmitter::Sent;
 ghost use mathlib.Core.Path.{_≡_};
 ghost use Prim.Native.Nat.{_≤_, _<_};
 ghost use lib.ListN.{length};
-ghost use Rattle.chip.specs.Event.{Event};
+ghost use Rattle.chip.specs.Event.{Completion, Event};
 ghost use Rattle.sca.specs.Link as calls;
 ghost use Rattle.sca.specs.Adapter as events;
+ghost use Rattle.sca.specs.Inner.{backVerdictIn};
+ghost use Rattle.sca.specs.Version.{version};
+
+const VERSION: u64 = 0x010000;
 
 // A number, in a result of 64 bits.
 fn wide(number: u8) -> u64
@@ -78,7 +81,7 @@ pub extern "C" fn sca_receive(rx: &mut [u8], input: &[u8], start: usize, output:
 }
 
 // The number in bits 7 to 0, the frame's length in bits 15 to 8, its port in bits 23 to 16.
-fn pack_answer(a: Answer) -> u64
+fn pack_answer(a: Response) -> u64
     ensures { λ r. ⌜ r ≡ events.packAnswer a ⌝ }
 {
     wide(a.number) + 256 * wide(a.length) + 65536 * wide(a.port)
@@ -92,7 +95,7 @@ fn pack_kept(k: KeptNumber) -> u64
 }
 
 // An answer, with the state it leaves.
-fn finish(bytes: &mut [u8], a: Answer) -> u64
+fn finish(bytes: &mut [u8], a: Response) -> u64
     requires { ⌜ length (now bytes) ≡ 76 ⌝ }
     ensures { λ r. ⌜ r ≡ events.packAnswer a ⌝ }
     ensures { λ _. ⌜ now (bytes .exit) ≡ events.stateBytes (a .adapter) ⌝ }
@@ -140,7 +143,7 @@ pub extern "C" fn sca_kept(journal: &[u8]) -> u64
 pub extern "C" fn sca_frame(
     bytes: &mut [u8],
     journal: &mut [u8],
-    port: u8,
+    port: u32,
     body: &[u8],
     output: &mut [u8],
 ) -> u64
@@ -162,7 +165,7 @@ pub extern "C" fn sca_completion(
     received: &[u8],
     output: &mut [u8],
 ) -> u64
-    ensures { λ r. ⌜ events.left r (now (bytes .exit)) (now (journal .exit)) (now (output .exit)) ≡ events.happened (now (bytes .entry)) (now (journal .entry)) (Event.completion (now (received .entry))) (now (output .entry)) ⌝ }
+    ensures { λ r. ⌜ events.left r (now (bytes .exit)) (now (journal .exit)) (now (output .exit)) ≡ events.happened (now (bytes .entry)) (now (journal .entry)) (Event.completion (Completion.spi (now (received .entry)))) (now (output .entry)) ⌝ }
 {
     if state::is_state(bytes) {
         let before = state::state_in(bytes);
@@ -178,7 +181,7 @@ pub extern "C" fn sca_sample(
     bytes: &mut [u8],
     journal: &mut [u8],
     levels: u32,
-    kind: u8,
+    kind: u32,
     output: &mut [u8],
 ) -> u64
     ensures { λ r. ⌜ events.left r (now (bytes .exit)) (now (journal .exit)) (now (output .exit)) ≡ events.happened (now (bytes .entry)) (now (journal .entry)) (Event.sample levels kind) (now (output .entry)) ⌝ }
@@ -204,12 +207,22 @@ pub extern "C" fn sca_upset(bytes: &mut [u8], journal: &mut [u8], output: &mut [
     wide(BAD_STATE)
 }
 
+// The first refusal of a step back from the state that bytes spell.
+fn judge_back(bytes: &[u8], journal: &[u8]) -> Verdict
+    ensures { λ r. ⌜ r ≡ backVerdictIn (now (bytes .entry)) (now (journal .entry)) ⌝ }
+{
+    if state::is_state(bytes) {
+        return adapter::judge_back(state::state_in(bytes), journal);
+    }
+    Verdict::Refused(BAD_STATE)
+}
+
 // Takes the newest standing event back.
 #[no_mangle]
 pub extern "C" fn sca_step_back(bytes: &mut [u8], journal: &mut [u8]) -> u64
     ensures { λ r. ⌜ events.backed r (now (bytes .exit)) (now (journal .exit)) ≡ events.steppedBack (now (bytes .entry)) (now (journal .entry)) ⌝ }
 {
-    let verdict = adapter::judge_back(state::in_range(bytes), journal);
+    let verdict = judge_back(bytes, journal);
     match verdict {
         Verdict::Refused(number) => wide(number),
         Verdict::Passed => {
@@ -219,4 +232,12 @@ pub extern "C" fn sca_step_back(bytes: &mut [u8], journal: &mut [u8]) -> u64
             wide(NO_FRAME)
         }
     }
+}
+
+// The version of these calls: the major number in bits 23 to 16, the minor in bits 15 to 8, the patch in bits 7 to 0.
+#[no_mangle]
+pub extern "C" fn sca_version() -> u64
+    ensures { λ r. ⌜ r ≡ version ⌝ }
+{
+    VERSION
 }

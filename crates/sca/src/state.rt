@@ -1,9 +1,7 @@
 // An adapter's state as bytes: the image that the journal keeps, then the chip's ID, in 32-bit words.
 use chip::Adapter;
 ghost use mathlib.Core.Path.{_≡_};
-ghost use mathlib.Core.Bool.{_&&_};
 ghost use lib.ListN.{length};
-ghost use Rattle.chip.specs.State.{inRange};
 ghost use Rattle.parts.specs.Words.{wordsOf};
 ghost use Rattle.sca.specs.Adapter.{stateBytes, stateIn, isState};
 
@@ -41,16 +39,6 @@ pub(crate) fn state_in(s: &[u8]) -> Adapter
     let at = IMAGE_BYTES;
     parts::load_words(&s[at..], &mut id);
     journal::image::state_of(words, id[0])
-}
-
-// Whether bytes spell a state in range.
-pub(crate) fn in_range(s: &[u8]) -> bool
-    ensures { λ r. ⌜ r ≡ (isState (now (s .entry)) && inRange (stateIn (now (s .entry)))) ⌝ }
-{
-    if is_state(s) {
-        return chip::state::in_range(state_in(s));
-    }
-    false
 }
 
 // Spells a state.

@@ -1,7 +1,7 @@
 // Walks along the edges that document 01 names: bodies of 1, 2, 16 and 17 bytes; SPI lengths of 0, 1 and 127; 64 and 65 events, and steps
 // back until one is refused. A line is the number and the kept number, then with 0 the port and the body. docs/STEPS.md works every line out.
-use adapter::Answer;
 use chip::Adapter;
+use chip::Response;
 
 const OUT: i32 = 1;
 
@@ -39,7 +39,7 @@ fn print_kept(number: u8, journal: &[u8; 17408]) {
     print_byte(k.kept);
 }
 
-fn show(answer: Answer, journal: &[u8; 17408], output: &[u8; 16]) {
+fn show(answer: Response, journal: &[u8; 17408], output: &[u8; 16]) {
     print_kept(answer.number, journal);
     if answer.number == 0 {
         space();
@@ -58,7 +58,7 @@ fn show_seu(number: u8, journal: &[u8; 17408], seu: u32) {
     end_line();
 }
 
-fn frame(a: Adapter, journal: &mut [u8; 17408], port: u8, body: &[u8]) -> Adapter {
+fn frame(a: Adapter, journal: &mut [u8; 17408], port: u32, body: &[u8]) -> Adapter {
     let mut output = [0u8; 16];
     let answer = adapter::frame(a, journal, port, body, &mut output);
     show(answer, journal, &output);

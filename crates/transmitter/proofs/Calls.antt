@@ -27,6 +27,6 @@ module _ (body o : List ℕ) where
   frame-room h k l = rw (le-leb 2 (length body) h, le-leb (length body) 16 k, lt-leb 24 (length o) l) (refl, refl)
 
   pub frame-sent : {n : ℕ} {o′ : List ℕ} → 2 ≤ length body → length body ≤ 16 → 24 ≤ length o
-      → length (framed body) ≡ n → o′ ≡ put 0 (framed body) o → Sends (record { number = number.sent; count = n }) o′
+      → length (framed body) ≡ n → o′ ≡ put 0 (framed body) o → Sends (record { number = number.hasFrame; count = n }) o′
   unfolding Transmit.transmitted Transmit.outputAfter
   frame-sent h k l e f = rw (le-leb 2 (length body) h, le-leb (length body) 16 k, le-leb 24 (length o) l, e) (refl, f)

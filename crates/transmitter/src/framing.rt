@@ -2,6 +2,7 @@
 ghost use mathlib.Core.Path.{_≡_};
 ghost use Prim.Native.Nat.{_+_, _*_, _-_, _%_, _^_, _<_, _≤_};
 ghost use lib.ListN.{length, replicate};
+ghost use Rattle.numbers.specs.Numbers.{bodyMost, cableMost};
 ghost use Rattle.wire.specs.Bits.{low, wire};
 ghost use Rattle.transmitter.specs.Frame.{frame, filled};
 ghost use Rattle.transmitter.specs.Inner.{Inked, Raw, Stuffs, Written};
@@ -103,7 +104,7 @@ struct Pen {
 
 // Some bits more. Each goes out at once, but no byte is read back: the pen holds what stands in the last one.
 fn put(output: &mut [u8], pen: Pen, v: u16, count: usize) -> Pen
-    requires { ⌜ (24 ≤ length (now output)) × (pen .bits + count ≤ 192) × (pen .held < 2 ^ (pen .bits % 8)) × (0 < count) × (count ≤ 8) × (v < 2 ^ count) ⌝ }
+    requires { ⌜ (cableMost ≤ length (now output)) × (pen .bits + count ≤ 192) × (pen .held < 2 ^ (pen .bits % 8)) × (0 < count) × (count ≤ 8) × (v < 2 ^ count) ⌝ }
     ensures { λ r. ⌜ Inked (now (output .entry)) (pen .bits) (pen .held) (low count v) (now (output .exit)) (r .bits) (r .held) × (r .ones ≡ pen .ones) ⌝ }
 {
     let k = pen.bits / 8;
@@ -127,7 +128,7 @@ fn stuffed(ones: u16, x: u16) -> u16
 
 // Four bits of content, with a zero after a fifth one.
 fn stuff_four(output: &mut [u8], pen: Pen, x: u16) -> Pen
-    requires { ⌜ (24 ≤ length (now output)) × (5 * pen .bits + pen .ones ≤ 884) × (pen .held < 2 ^ (pen .bits % 8)) × (pen .ones ≤ 4) × (x < 16) ⌝ }
+    requires { ⌜ (cableMost ≤ length (now output)) × (5 * pen .bits + pen .ones ≤ 884) × (pen .held < 2 ^ (pen .bits % 8)) × (pen .ones ≤ 4) × (x < 16) ⌝ }
     ensures { λ r. ⌜ Written (now (output .entry)) (pen .bits) (pen .held) (pen .ones) (low 4 x) (now (output .exit)) (r .bits) (r .held) (r .ones) ⌝ }
 {
     let e = stuffed(pen.ones, x);
@@ -146,7 +147,7 @@ fn stuff_four(output: &mut [u8], pen: Pen, x: u16) -> Pen
 
 // The eight bits of a byte of content.
 fn stuff_byte(output: &mut [u8], pen: Pen, x: u8) -> Pen
-    requires { ⌜ (24 ≤ length (now output)) × (5 * pen .bits + pen .ones ≤ 860) × (pen .held < 2 ^ (pen .bits % 8)) × (pen .ones ≤ 4) ⌝ }
+    requires { ⌜ (cableMost ≤ length (now output)) × (5 * pen .bits + pen .ones ≤ 860) × (pen .held < 2 ^ (pen .bits % 8)) × (pen .ones ≤ 4) ⌝ }
     ensures { λ r. ⌜ Written (now (output .entry)) (pen .bits) (pen .held) (pen .ones) (low 8 x) (now (output .exit)) (r .bits) (r .held) (r .ones) ⌝ }
 {
     let p = stuff_four(output, pen, (x % 16) as u16);
@@ -155,7 +156,7 @@ fn stuff_byte(output: &mut [u8], pen: Pen, x: u8) -> Pen
 
 // The bytes of a slice, as content.
 fn stuff_bytes(output: &mut [u8], pen: Pen, s: &[u8]) -> Pen
-    requires { ⌜ (24 ≤ length (now output)) × (length (now s) ≤ 16) × (5 * pen .bits + pen .ones ≤ 40) × (pen .held < 2 ^ (pen .bits % 8)) × (pen .ones ≤ 4) ⌝ }
+    requires { ⌜ (cableMost ≤ length (now output)) × (length (now s) ≤ bodyMost) × (5 * pen .bits + pen .ones ≤ 40) × (pen .held < 2 ^ (pen .bits % 8)) × (pen .ones ≤ 4) ⌝ }
     ensures { λ r. ⌜ Written (now (output .entry)) (pen .bits) (pen .held) (pen .ones) (wire (now (s .entry))) (now (output .exit)) (r .bits) (r .held) (r .ones) ⌝ }
 {
     let mut p = pen;
@@ -169,7 +170,7 @@ fn stuff_bytes(output: &mut [u8], pen: Pen, s: &[u8]) -> Pen
 
 // Ones to fill the last byte: how many bytes are written.
 fn fill(output: &mut [u8], pen: Pen) -> usize
-    requires { ⌜ (24 ≤ length (now output)) × (pen .bits ≤ 192) × (pen .held < 2 ^ (pen .bits % 8)) ⌝ }
+    requires { ⌜ (cableMost ≤ length (now output)) × (pen .bits ≤ 192) × (pen .held < 2 ^ (pen .bits % 8)) ⌝ }
     ensures { λ r. ⌜ Inked (now (output .entry)) (pen .bits) (pen .held) (replicate ((8 - pen .bits % 8) % 8) 1) (now (output .exit)) (8 * r) 0 ⌝ }
 {
     let count = (8 - pen.bits % 8) % 8;
@@ -182,7 +183,7 @@ fn fill(output: &mut [u8], pen: Pen) -> usize
 
 // A body as a frame, with ones to fill the last byte: how many bytes were written.
 pub(crate) fn write_frame(body: &[u8], output: &mut [u8]) -> usize
-    requires { ⌜ (length (now body) ≤ 16) × (24 ≤ length (now output)) ⌝ }
+    requires { ⌜ (length (now body) ≤ bodyMost) × (cableMost ≤ length (now output)) ⌝ }
     ensures { λ r. ⌜ Raw (now (output .entry)) 0 (filled (frame (now (body .entry)))) (now (output .exit)) (8 * r) ⌝ }
 {
     let check = wire::PRESET - wire::register(body);

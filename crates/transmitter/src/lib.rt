@@ -2,7 +2,10 @@
 mod framing;
 
 use numbers::BAD_BODY;
-use numbers::SENT;
+use numbers::BODY_LEAST;
+use numbers::BODY_MOST;
+use numbers::CABLE_MOST;
+use numbers::HAS_FRAME;
 use numbers::SHORT_OUTPUT;
 ghost use mathlib.Core.Path.{_≡_};
 ghost use Rattle.transmitter.specs.Transmit as transmit;
@@ -12,13 +15,6 @@ pub struct Sent {
     pub number: u8,
     pub count: usize,
 }
-
-// The shortest and the longest body, and what a transmitter asks of its output.
-const BODY_LEAST: usize = 2;
-
-const BODY_MOST: usize = 16;
-
-const FRAME_BYTES: usize = 24;
 
 // Frames a body.
 pub fn transmit(body: &[u8], output: &mut [u8]) -> Sent
@@ -37,7 +33,7 @@ pub fn transmit(body: &[u8], output: &mut [u8]) -> Sent
             count: 0,
         };
     }
-    if output.len() < FRAME_BYTES {
+    if output.len() < CABLE_MOST {
         return Sent {
             number: SHORT_OUTPUT,
             count: 0,
@@ -45,7 +41,7 @@ pub fn transmit(body: &[u8], output: &mut [u8]) -> Sent
     }
     let count = framing::write_frame(body, output);
     Sent {
-        number: SENT,
+        number: HAS_FRAME,
         count,
     }
 }

@@ -11,6 +11,8 @@ use lib.Bits.{block-half, block-odd}
 use lib.Pow.{shr-shr, split}
 use lib.ListN.{length, take, drop, getD, replicate, length-append, length-take, length-drop, drop-of-length-le, take-append-drop}
 use lib.Seq.{drop-cons, drop-nil, take-at, drop-at}
+-- given on, for what reads bits and bytes together
+pub use Rattle.parts.proofs.Laws.{AreBytes}
 use Rattle.wire.specs.Bits.{low, wire, num, octets, pack}
 
 -- ---- lists of bits
@@ -112,15 +114,6 @@ take-wire k s h =
     ∙ take-at (wire (take k s)) (wire (drop k s)) (8 * k) lw
 
 -- ---- bits as bytes again
-
-abbrev pub AreBytes : List ℕ → Type 0
-AreBytes l = (i : ℕ) → getD l i 0 < 256
-
-pub bytes-take : (k : ℕ) (r : List ℕ) → AreBytes r → AreBytes (take k r)
-bytes-take zero r h i = omega arith
-bytes-take (suc k) [] h i = omega arith
-bytes-take (suc k) (x ∷ r) h zero = h 0
-bytes-take (suc k) (x ∷ r) h (suc i) = bytes-take k r (λ j. h (suc j)) i
 
 pub num-low : (n x : ℕ) → x < 2 ^ n → num (low n x) ≡ x
 unfolding num low

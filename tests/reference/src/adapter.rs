@@ -64,7 +64,7 @@ impl Default for Journal {
 #[derive(Clone, Copy, PartialEq, Eq, Debug)]
 pub struct Answer {
     pub number: u8,
-    pub port: u8,
+    pub port: u32,
     pub length: usize,
 }
 
@@ -134,16 +134,18 @@ pub fn step_back(state: &mut State, journal: &mut Journal) -> u8 {
 pub fn frame(
     state: &mut State,
     journal: &mut Journal,
-    port: u8,
+    port: u32,
     body: &[u8],
     output: &mut [u8],
 ) -> Answer {
     if let Some(number) = event_refusal(state, journal, output) {
         return Answer::without_frame(number);
     }
-    if port > 1 {
-        return Answer::without_frame(BAD_ARGUMENT);
-    }
+    let port = match port {
+        0 => 0,
+        1 => 1,
+        _ => return Answer::without_frame(BAD_ARGUMENT),
+    };
     if body.len() < 2 || body.len() > 16 {
         return Answer::without_frame(BODY_LENGTH);
     }
@@ -176,7 +178,7 @@ pub fn sample(
     state: &mut State,
     journal: &mut Journal,
     levels: u32,
-    kind: u8,
+    kind: u32,
     output: &mut [u8],
 ) -> Answer {
     if let Some(number) = event_refusal(state, journal, output) {
@@ -241,7 +243,7 @@ fn sent(port: u8, body: &[u8], output: &mut [u8]) -> Answer {
     output[..body.len()].copy_from_slice(body);
     Answer {
         number: FRAME,
-        port,
+        port: u32::from(port),
         length: body.len(),
     }
 }
@@ -358,7 +360,7 @@ fn shift_in(spi: &mut Spi, received: &[u8]) {
     }
 }
 
-fn sample_outcome(state: &mut State, levels: u32, kind: u8) -> Outcome {
+fn sample_outcome(state: &mut State, levels: u32, kind: u32) -> Outcome {
     if !state.gpio_enabled() {
         return Outcome::Nothing(GPIO_DISABLED);
     }
@@ -374,7 +376,7 @@ fn sample_outcome(state: &mut State, levels: u32, kind: u8) -> Outcome {
 }
 
 /// The input lines that an edge of this kind samples.
-fn sampled_lines(gpio: &Gpio, kind: u8) -> u32 {
+fn sampled_lines(gpio: &Gpio, kind: u32) -> u32 {
     let clocked = match kind {
         0 => !gpio.clksel,
         1 => gpio.clksel & !gpio.edgesel,

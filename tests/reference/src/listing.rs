@@ -12,9 +12,9 @@ const MOST_CHARACTERS: usize = 80;
 /// What a readable line says.
 #[derive(Clone, PartialEq, Eq, Debug)]
 enum Line {
-    Frame { port: u8, body: Vec<u8> },
+    Frame { port: u32, body: Vec<u8> },
     Completion { received: Vec<u8> },
-    Sample { levels: u32, kind: u8 },
+    Sample { levels: u32, kind: u32 },
     Upset,
     StepBack,
 }
@@ -113,9 +113,9 @@ fn read_sample(levels: &[u8], kind: &[u8]) -> Option<Line> {
 }
 
 /// A field of one decimal digit.
-fn digit(field: &[u8]) -> Option<u8> {
+fn digit(field: &[u8]) -> Option<u32> {
     match field {
-        [sign @ b'0'..=b'9'] => Some(sign - b'0'),
+        [sign @ b'0'..=b'9'] => Some(u32::from(sign - b'0')),
         _ => None,
     }
 }

@@ -11,7 +11,7 @@ struct Bench {
 }
 
 /// Number, port and body of an answer.
-type Given = (u8, u8, Vec<u8>);
+type Given = (u8, u32, Vec<u8>);
 
 impl Bench {
     fn new() -> Bench {
@@ -26,7 +26,7 @@ impl Bench {
         (answer.number, answer.port, output[..answer.length].to_vec())
     }
 
-    fn frame(&mut self, port: u8, body: &[u8]) -> Given {
+    fn frame(&mut self, port: u32, body: &[u8]) -> Given {
         let mut output = [0xA5; 16];
         let answer = frame(&mut self.state, &mut self.journal, port, body, &mut output);
         Bench::given(answer, output)
@@ -38,7 +38,7 @@ impl Bench {
         Bench::given(answer, output)
     }
 
-    fn sample(&mut self, levels: u32, kind: u8) -> Given {
+    fn sample(&mut self, levels: u32, kind: u32) -> Given {
         let mut output = [0xA5; 16];
         let answer = sample(
             &mut self.state,
@@ -75,7 +75,7 @@ impl Bench {
     ) -> Given {
         let [d0, d1, d2, d3] = data.to_le_bytes();
         let control = 2 * self.state.receive;
-        let port = self.state.active;
+        let port = u32::from(self.state.active);
         let fields = [
             0,
             control,
@@ -95,7 +95,7 @@ impl Bench {
     fn ask(&mut self, channel: u8, length: u8, command: u8, data: u32) -> (u8, u8, u32) {
         let send = self.state.send;
         let (number, port, body) = self.request(0x5A, channel, length, command, data);
-        assert_eq!((number, port), (0, self.state.active));
+        assert_eq!((number, port), (0, u32::from(self.state.active)));
         assert_eq!(
             body[..4],
             [0, 2 * send + 32 * self.state.receive, 0x5A, channel]
@@ -149,7 +149,7 @@ fn commands_on_either_port() {
             let mut bench = Bench::new();
             assert_eq!(bench.frame(port, &[0, control]), (0, port, vec![0, reply]));
             let test = control == 0xE3 || control == 0xF3;
-            assert_eq!(bench.state.active, if test { 0 } else { port });
+            assert_eq!(u32::from(bench.state.active), if test { 0 } else { port });
             assert_eq!(bench.state.loopback[port as usize], test);
             let reset = control == 0x8F || control == 0x9F;
             assert_eq!(bench.kept(), if reset { 0 } else { 1 });
@@ -472,7 +472,7 @@ fn samples_follow_direction_clock_and_edge() {
         bench.ask(2, 4, 0x20, direction);
         bench.ask(2, 4, 0x80, clksel);
         bench.ask(2, 4, 0x90, edgesel);
-        assert_eq!(bench.sample(1, kind as u8), (17, 0, vec![]));
+        assert_eq!(bench.sample(1, kind as u32), (17, 0, vec![]));
         let source = if clksel == 0 { 0 } else { 1 + edgesel };
         let taken = direction == 0 && kind == source;
         assert_eq!(bench.ask(2, 1, 0x01, 0), (0, 4, u32::from(taken)));
@@ -548,6 +548,10 @@ fn refusals_in_order_change_nothing() {
     assert_eq!(completion(s, j, &[0; 15], &mut out).number, 3);
     assert_eq!(completion(s, j, &[0; 17], &mut out).number, 3);
     assert_eq!(sample(s, j, 0, 3, &mut out).number, 3);
+    for wide in [256, 257, 258, 0x1_0001, u32::MAX] {
+        assert_eq!(frame(s, j, wide, &[0, 0x2F], &mut out).number, 3);
+        assert_eq!(sample(s, j, 0, wide, &mut out).number, 3);
+    }
     assert_eq!(frame(s, j, 0, &[0], &mut out).number, 2);
     assert_eq!(frame(s, j, 0, &[0; 17], &mut out).number, 2);
     assert_eq!(frame(s, j, 0, &[], &mut out).number, 2);
@@ -697,9 +701,9 @@ impl Chance {
 
 #[derive(Clone, Debug)]
 enum Event {
-    Frame(u8, Vec<u8>),
+    Frame(u32, Vec<u8>),
     Completion(Vec<u8>),
-    Sample(u32, u8),
+    Sample(u32, u32),
     Upset,
 }
 
@@ -716,9 +720,9 @@ impl Bench {
 
 fn random_frame(chance: &mut Chance, state: &State) -> Event {
     let port = if chance.below(16) == 0 {
-        chance.below(3) as u8
+        chance.below(3) as u32
     } else {
-        state.active
+        u32::from(state.active)
     };
     let body = match chance.below(40) {
         0 => vec![
@@ -751,7 +755,7 @@ fn random_frame(chance: &mut Chance, state: &State) -> Event {
 fn random_event(chance: &mut Chance, state: &State) -> Event {
     match chance.below(10) {
         0 => Event::Completion((0..16).map(|_| chance.next() as u8).collect()),
-        1 | 2 => Event::Sample(chance.next() as u32, chance.below(4) as u8),
+        1 | 2 => Event::Sample(chance.next() as u32, chance.below(4) as u32),
         3 => Event::Upset,
         _ => random_frame(chance, state),
     }

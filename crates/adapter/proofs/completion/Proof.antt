@@ -1,35 +1,8 @@
--- `adapter::completion` meets its contract. Assumes nothing.
-use mathlib.Core.Path.{refl}
+-- `completion` meets its contract. Assumes nothing.
 use borrow.Author.Needs.{needs}
-use Rattle.chip.specs.Event.{Event, completion}
-use Rattle.adapter.proofs.Cases.{refuses, passes, passing, Passing, keepable, received-long}
+use Rattle.adapter.proofs.Cases.{refuses, passes, passed-journal, passed-output, passed-received}
 use Rattle.adapter.proofs.completion.Statement.{statement}
 use Rattle.adapter.proofs.completion.Tie as tie
-
-event : tie.Start → Event
-event c = completion (c .args .received .now)
-
-passed : (c : tie.After-enum-told) → Passing (c .before .before .before .before .before .before .before .args .a) (c .before .before .before .before .before .before .before .args .journal .now) (event (c .before .before .before .before .before .before .before)) (c .before .before .before .before .before .before .before .args .output .now)
-unfolding event
-passed c = passing _ _ (event (c .before .before .before .before .before .before .before)) _ _ (c .before .before .judge .ensures) (c .enum-told .given .1)
-
-on-completion-requires : tie.Need-on-completion-requires
-unfolding event
-on-completion-requires c κs = received-long (c .before .before .before .before .before .before .before .args .received .now) (passed c .argument)
-
-keep-requires : tie.Need-keep-requires
-unfolding event
-keep-requires c κs = keepable _ _ (event (c .before .before .before .before .before .before .before .before .before .before)) _ _ (passed (c .before .before .before)) (c .before .before .on-completion .ensures)
-
-returns : tie.Need-returns
-returns c = search (refuses)
-
-returns-2 : tie.Need-returns-2
-unfolding event
-returns-2 c =
-    let e = event (c .before .before .before .before .before .before .before .before .before .before .before .before .before .before .before) in
-    passes _ _ e _ _ (c .before .before .before .before .before .before .before .before .before .before .judge .ensures) _ (c .before .before .before .before .before .before .before .before .enum-told .given .1)
-    (c .before .before .before .before .keep .ensures e refl (c .before .before .before .before .before .before .before .on-completion .ensures))
 
 pub completion-spec : {M : Type 1} → statement M
 completion-spec =
@@ -39,10 +12,10 @@ completion-spec =
     (λ c. search needs)
     (λ c κs. search needs)
     (λ c. search needs)
-    on-completion-requires
-    keep-requires
+    (λ c κs. search (passed-received, passed-output))
+    (λ c κs. search passed-journal)
     (λ c. search needs)
-    returns
+    (λ c. search refuses)
     (λ c. search needs)
     (λ c. search needs)
-    returns-2)
+    (λ c. search passes))

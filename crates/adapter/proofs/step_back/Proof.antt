@@ -5,8 +5,9 @@ use Rattle.adapter.proofs.Cases.{PassingBack, passing-back, back-refuse
 use Rattle.adapter.proofs.step_back.Statement.{statement}
 use Rattle.adapter.proofs.step_back.Tie as tie
 
-passed : (c : tie.After-enum-told) → PassingBack (c .before .before .before .before .before .before .args .a) (c .before .before .before .before .before .before .args .journal .now)
-passed c = passing-back _ _ (sym (c .enum-told .given .1) ∙ c .before .before .judge-back .ensures _ (c .before .before .before .before .in-range .ensures))
+passed : (c : tie.After-enum-told) →
+    let start = c .before .before .before .before .before .args in PassingBack (start .a) (start .journal .now)
+passed c = passing-back _ _ (sym (c .enum-told .given .1) ∙ c .before .before .judge-back .ensures)
 
 restore-requires : tie.Need-restore-requires
 restore-requires c κs = let p = passed (c .before) in (p .formed, p .some)
@@ -24,7 +25,6 @@ pub step-back-spec : {M : Type 1} → statement M
 step-back-spec =
     tie.close
     (tie.spec
-    (λ c κs. search needs)
     (λ c κs. search needs)
     (λ c. search needs)
     (λ c κs. search needs)

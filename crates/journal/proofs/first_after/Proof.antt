@@ -7,4 +7,8 @@ use Rattle.journal.proofs.first_after.Tie as tie
 pub first-after-spec : {M : Type 1} → statement M
 first-after-spec =
     tie.close
-    (tie.spec (λ c. search needs) (λ c. simp (eq-eqb _ _ (c .if1 .taken))) (λ c. simp (ne-eqb _ _ (c .if1 .left))))
+    (tie.spec
+    (λ c. search needs)
+    (λ c. search needs)
+    (λ c. simp (eq-eqb _ _ (c .if1 .taken)))
+    (λ c. simp (ne-eqb _ _ (c .if1 .left))))

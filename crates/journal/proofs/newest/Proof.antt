@@ -1,28 +1,35 @@
 -- `journal::newest` meets its contract: the words are read from the newest record's slot. Assumes nothing.
 use Prim.Native.Nat.{_-_}
+use native.Mathlib.Omega.{arith}
 use borrow.Author.Needs.{needs}
-use Rattle.journal.proofs.Ring.{journal-needs, newest-read}
+use Rattle.journal.proofs.Ring.{journal-needs, slot-in, newest-read}
 use Rattle.journal.proofs.newest.Statement.{statement}
 use Rattle.journal.proofs.newest.Tie as tie
 
-part-load-words-end : tie.Need-part-load-words-end
-part-load-words-end c = search journal-needs
+add-end : tie.Need-add-end
+add-end c =
+    let f = c .before .before .before in
+    let l = slot-in _ _ (f .before .before .pre .0) (f .format-of .ensures) _ _ (c .place .ensures) in
+    omega arith
 
 returns : tie.Need-returns
-returns c = newest-read _ _ _ (c .before .before .before .before .place .ensures) (c .before .load-words .ensures)
+returns c =
+    let p = c .before .before .before .before in
+    newest-read _ _ _ _ (p .before .before .before .format-of .ensures) (p .place .ensures) (c .before .load-words .ensures)
 
 pub newest-spec : {M : Type 1} → statement M
 newest-spec =
     tie.close
     (tie.spec
-    (λ c. search journal-needs)
-    (λ c. search journal-needs)
-    (λ c. search needs)
     (λ c κs. search needs)
+    (λ c. search journal-needs)
+    (λ c. search journal-needs)
+    (λ c. search needs)
+    (λ c κs. search journal-needs)
+    add-end
     (λ c. search needs)
     (λ c. search needs)
-    (λ c. search needs)
-    part-load-words-end
+    (λ c. search journal-needs)
     (λ c. search needs)
     (λ c κs. search needs)
     returns)

@@ -1,6 +1,6 @@
 -- `player::feed` meets its contract. The invariant: what the first i bytes of the block make of the start. Assumes nothing.
 use Prim.Native.Nat.{_≤_, _-_, _*_}
-use mathlib.Core.Path.{_≡_, refl}
+use mathlib.Core.Path.{_≡_}
 use mathlib.Core.List.{[], foldl}
 use native.Mathlib.Omega.{arith}
 use lib.ListN.{length, take}

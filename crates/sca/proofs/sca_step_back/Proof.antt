@@ -8,19 +8,18 @@ copy-image-requires : tie.Need-copy-image-requires
 copy-image-requires c κs =
     let told = c .before .before in
     let j = told .before .before in
-    copies _ _ _ (j .before .before .in-range .ensures) _ (j .judge-back .ensures) (told .enum-told .given .1)
+    copies _ _ _ (j .judge-back .ensures) (told .enum-told .given .1)
 
 lower-requires : tie.Need-lower-requires
 lower-requires c κs =
     let told = c .before .before .before .before .before .before in
     let j = told .before .before in
-    lowers _ _ _ (j .before .before .in-range .ensures) _ (j .judge-back .ensures) (told .enum-told .given .1)
+    lowers _ _ _ (j .judge-back .ensures) (told .enum-told .given .1)
 
 pub sca-step-back-spec : {M : Type 1} → statement M
 sca-step-back-spec =
     tie.close
     (tie.spec
-    (λ c κs. search needs)
     (λ c κs. search needs)
     (λ c. search needs)
     (λ c κs. search needs)

@@ -1,4 +1,6 @@
+-- `answer::send` meets its contract. Assumes nothing.
 use borrow.Author.Needs.{needs}
+use Rattle.chip.proofs.Answers.{laid-out}
 use Rattle.chip.proofs.answer.send.Statement.{statement}
 use Rattle.chip.proofs.answer.send.Tie as tie
 
@@ -8,4 +10,5 @@ send-spec =
     (tie.spec
     (λ c κs. search needs)
     (λ c. search needs)
-    (λ c. simp (c .padded-body .ensures)))
+    (λ c. search needs)
+    (λ c. search laid-out))

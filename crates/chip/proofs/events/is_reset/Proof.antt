@@ -1,3 +1,4 @@
+-- `events::is_reset` meets its contract. Assumes nothing.
 use borrow.Author.Needs.{needs}
 use Rattle.chip.proofs.events.is_reset.Statement.{statement}
 use Rattle.chip.proofs.events.is_reset.Tie as tie

@@ -1,12 +1,13 @@
+-- `events::on_frame` meets its contract. Assumes nothing.
 use borrow.Author.Needs.{needs}
-use Rattle.chip.specs.Chip.{reaction}
+use Rattle.chip.proofs.Happens.{checked}
 use Rattle.chip.proofs.events.on_frame.Statement.{statement}
 use Rattle.chip.proofs.events.on_frame.Tie as tie
 
 pub on-frame-spec : {M : Type 1} → statement M
-unfolding reaction
 on-frame-spec =
     tie.close
     (tie.spec
     (λ c κs. search needs)
-    (λ c. c .check .ensures))
+    (λ c. search needs)
+    (λ c. search checked))

@@ -1,3 +1,4 @@
+-- `events::on_sample` meets its contract. Assumes nothing.
 use borrow.Author.Needs.{needs}
 use Rattle.chip.proofs.Happens.{disabled, interrupted, sampled}
 use Rattle.chip.proofs.events.on_sample.Statement.{statement}
@@ -12,6 +13,7 @@ on-sample-spec =
     (λ c κs. search needs)
     (λ c κs. search needs)
     (λ c κs. search needs)
+    (λ c. search needs)
     (λ c. search interrupted)
     (λ c. search sampled)
     (λ c. search disabled))

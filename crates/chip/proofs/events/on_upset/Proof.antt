@@ -1,3 +1,4 @@
+-- `events::on_upset` meets its contract. Assumes nothing.
 use borrow.Author.Needs.{needs}
 use Rattle.chip.proofs.Happens.{upsets}
 use Rattle.chip.proofs.events.on_upset.Statement.{statement}

@@ -1,3 +1,4 @@
+-- `frame::carry` meets its contract. Assumes nothing.
 use borrow.Author.Needs.{needs}
 use Rattle.chip.proofs.Cases.{echoed, inactive, misfit, fitting}
 use Rattle.chip.proofs.frame.carry.Statement.{statement}
@@ -9,6 +10,7 @@ carry-spec =
     (tie.spec
     (λ c κs. search needs)
     (λ c κs. search needs)
+    (λ c. search needs)
     (λ c. search echoed)
     (λ c κs. search needs)
     (λ c. search inactive)
@@ -20,4 +22,5 @@ carry-spec =
     (λ c. search needs)
     (λ c. search needs)
     (λ c κs. search needs)
+    (λ c. search needs)
     (λ c. search fitting))

@@ -1,5 +1,6 @@
+-- `frame::check` meets its contract. Assumes nothing.
 use borrow.Author.Needs.{needs}
-use Rattle.chip.proofs.Cases.{unaddressed, connects, resets, tests, odd, carries}
+use Rattle.chip.proofs.Cases.{other-chip, this-chip}
 use Rattle.chip.proofs.frame.check.Statement.{statement}
 use Rattle.chip.proofs.frame.check.Tie as tie
 
@@ -9,21 +10,7 @@ check-spec =
     (tie.spec
     (λ c. search needs)
     (λ c κs. search needs)
-    (λ c. search unaddressed)
+    (λ c. search other-chip)
+    (λ c κs. search needs)
     (λ c. search needs)
-    (λ c κs. search needs)
-    (λ c κs. search needs)
-    (λ c κs. search needs)
-    (λ c. search connects)
-    (λ c κs. search needs)
-    (λ c κs. search needs)
-    (λ c κs. search needs)
-    (λ c. search resets)
-    (λ c κs. search needs)
-    (λ c κs. search needs)
-    (λ c κs. search needs)
-    (λ c. search tests)
-    (λ c κs. search needs)
-    (λ c. search odd)
-    (λ c κs. search needs)
-    (λ c. search carries))
+    (λ c. search this-chip))

@@ -1,3 +1,4 @@
+-- `frame::command` meets its contract. Assumes nothing.
 use borrow.Author.Needs.{needs}
 use Rattle.chip.proofs.Cases.{acknowledged, informed}
 use Rattle.chip.proofs.frame.command.Statement.{statement}
@@ -12,5 +13,6 @@ command-spec =
     (λ c. search needs)
     (λ c κs. search needs)
     (λ c κs. search needs)
+    (λ c. search needs)
     (λ c. search acknowledged)
     (λ c. search informed))

@@ -1,3 +1,4 @@
+-- `frame::in_order` meets its contract. Assumes nothing.
 use borrow.Author.Needs.{needs}
 use Rattle.chip.proofs.Cases.{next, rejected}
 use Rattle.chip.proofs.frame.in_order.Statement.{statement}
@@ -14,5 +15,7 @@ in-order-spec =
     (λ c κs. search needs)
     (λ c. search needs)
     (λ c κs. search needs)
+    (λ c. search needs)
     (λ c. search next)
+    (λ c. search needs)
     (λ c. search rejected))

@@ -1,3 +1,4 @@
+-- `frame::is_connect` meets its contract. Assumes nothing.
 use borrow.Author.Tests.{eq-eqb, ne-eqb}
 use Rattle.chip.proofs.frame.is_connect.Statement.{statement}
 use Rattle.chip.proofs.frame.is_connect.Tie as tie

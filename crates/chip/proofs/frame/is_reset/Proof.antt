@@ -1,3 +1,4 @@
+-- `frame::is_reset` meets its contract. Assumes nothing.
 use borrow.Author.Tests.{eq-eqb, ne-eqb}
 use Rattle.chip.proofs.frame.is_reset.Statement.{statement}
 use Rattle.chip.proofs.frame.is_reset.Tie as tie

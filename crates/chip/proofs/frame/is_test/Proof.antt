@@ -1,3 +1,4 @@
+-- `frame::is_test` meets its contract. Assumes nothing.
 use borrow.Author.Tests.{eq-eqb, ne-eqb}
 use Rattle.chip.proofs.frame.is_test.Statement.{statement}
 use Rattle.chip.proofs.frame.is_test.Tie as tie

@@ -1,3 +1,4 @@
+-- `frame::resets` meets its contract. Assumes nothing.
 use borrow.Author.Needs.{needs}
 use Rattle.chip.proofs.Cases.{other-address, other-command, reset-command}
 use Rattle.chip.proofs.frame.resets.Statement.{statement}

@@ -1,3 +1,4 @@
+-- `link::acknowledge_control` meets its contract. Assumes nothing.
 use Rattle.chip.proofs.Cases.{bit-set, bit-clear}
 use Rattle.chip.proofs.link.acknowledge_control.Statement.{statement}
 use Rattle.chip.proofs.link.acknowledge_control.Tie as tie

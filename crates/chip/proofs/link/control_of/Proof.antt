@@ -1,3 +1,4 @@
+-- `link::control_of` meets its contract. Assumes nothing.
 use Rattle.bits.proofs.Packing.{packed-masked}
 use Rattle.chip.proofs.link.control_of.Statement.{statement}
 use Rattle.chip.proofs.link.control_of.Tie as tie

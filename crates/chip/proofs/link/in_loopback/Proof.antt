@@ -1,3 +1,4 @@
+-- `link::in_loopback` meets its contract. Assumes nothing.
 use borrow.Author.Tests.{eq-eqb, ne-eqb}
 use Rattle.chip.proofs.link.in_loopback.Statement.{statement}
 use Rattle.chip.proofs.link.in_loopback.Tie as tie

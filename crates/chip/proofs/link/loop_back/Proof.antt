@@ -1,3 +1,4 @@
+-- `link::loop_back` meets its contract. Assumes nothing.
 use borrow.Author.Tests.{eq-eqb, ne-eqb}
 use Rattle.chip.proofs.link.loop_back.Statement.{statement}
 use Rattle.chip.proofs.link.loop_back.Tie as tie

@@ -1,3 +1,4 @@
+-- `link::number_in` meets its contract. Assumes nothing.
 use lib.Bits.{and-mask}
 use Rattle.chip.proofs.link.number_in.Statement.{statement}
 use Rattle.chip.proofs.link.number_in.Tie as tie

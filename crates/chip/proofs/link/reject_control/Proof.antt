@@ -1,3 +1,4 @@
+-- `link::reject_control` meets its contract. Assumes nothing.
 use Rattle.chip.proofs.Cases.{reject-packed}
 use Rattle.chip.proofs.link.reject_control.Statement.{statement}
 use Rattle.chip.proofs.link.reject_control.Tie as tie

@@ -1,3 +1,4 @@
+-- `request::answer_to` meets its contract. Assumes nothing.
 use borrow.Author.Needs.{needs}
 use Rattle.chip.proofs.Answers.{no-transaction, interrupt-transaction, transaction}
 use Rattle.chip.proofs.request.answer_to.Statement.{statement}

@@ -1,3 +1,4 @@
+-- `request::byte_of` meets its contract. Assumes nothing.
 use borrow.Author.Needs.{needs}
 use Prim.Native.Nat.{_*_, _/_, _^_}
 use native.Mathlib.Nat.{lt-of-le-of-lt}

@@ -1,3 +1,4 @@
+-- `request::finish` meets its contract. Assumes nothing.
 use borrow.Author.Needs.{needs}
 use Rattle.chip.proofs.Answers.{told, later}
 use Rattle.chip.proofs.request.finish.Statement.{statement}
@@ -11,5 +12,6 @@ finish-spec =
     (λ c κs. search needs)
     (λ c. search needs)
     (λ c κs. search needs)
+    (λ c. search needs)
     (λ c. search told)
     (λ c. search later))

@@ -1,3 +1,4 @@
+-- `request::on_channel` meets its contract. Assumes nothing.
 use borrow.Author.Needs.{needs}
 use Rattle.chip.proofs.Answers.{at-controller, at-spi, at-gpio, at-seu, at-id, at-dac, at-unknown}
 use Rattle.chip.proofs.request.on_channel.Statement.{statement}

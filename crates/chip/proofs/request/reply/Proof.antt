@@ -1,3 +1,4 @@
+-- `request::reply` meets its contract. Assumes nothing.
 use borrow.Author.Needs.{needs}
 use Rattle.chip.proofs.Cases.{replied}
 use Rattle.chip.proofs.request.reply.Statement.{statement}
@@ -10,9 +11,7 @@ reply-spec =
     (λ c κs. search needs)
     (λ c κs. search needs)
     (λ c κs. search needs)
-    (λ c κs. search needs)
-    (λ c κs. search needs)
-    (λ c κs. search needs)
     (λ c. search needs)
     (λ c κs. search needs)
+    (λ c. search needs)
     (λ c. search replied))

@@ -1,3 +1,4 @@
+-- `request::request` meets its contract. Assumes nothing.
 use borrow.Author.Needs.{needs}
 use Rattle.chip.proofs.Answers.{done}
 use Rattle.chip.proofs.request.request.Statement.{statement}
@@ -10,4 +11,5 @@ request-spec =
     (λ c κs. search needs)
     (λ c κs. search needs)
     (λ c κs. search needs)
+    (λ c. search needs)
     (λ c. search done))

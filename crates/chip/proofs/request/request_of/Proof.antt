@@ -1,3 +1,4 @@
+-- `request::request_of` meets its contract. Assumes nothing.
 use borrow.Author.Needs.{needs}
 use Rattle.chip.proofs.request.request_of.Statement.{statement}
 use Rattle.chip.proofs.request.request_of.Tie as tie

@@ -1,3 +1,4 @@
+-- `request::with_control` meets its contract. Assumes nothing.
 use borrow.Author.Needs.{needs}
 use Rattle.chip.proofs.request.with_control.Statement.{statement}
 use Rattle.chip.proofs.request.with_control.Tie as tie

@@ -1,3 +1,4 @@
+-- `state::gpio_fits` meets its contract. Assumes nothing.
 use mathlib.Core.Path.{refl, sym, _∙_}
 use borrow.Author.Needs.{needs}
 use Rattle.chip.proofs.state.gpio_fits.Statement.{statement}

@@ -1,3 +1,4 @@
+-- `state::in_range` meets its contract. Assumes nothing.
 use borrow.Author.Needs.{needs}
 use Rattle.chip.specs.State.{inRange}
 use Rattle.chip.proofs.state.in_range.Statement.{statement}

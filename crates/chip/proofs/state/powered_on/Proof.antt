@@ -1,3 +1,4 @@
+-- `state::powered_on` meets its contract. Assumes nothing.
 use borrow.Author.Needs.{needs}
 use Rattle.chip.specs.State.{poweredOn}
 use Rattle.chip.proofs.state.powered_on.Statement.{statement}

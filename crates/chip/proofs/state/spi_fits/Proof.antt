@@ -1,3 +1,4 @@
+-- `state::spi_fits` meets its contract. Assumes nothing.
 use mathlib.Core.Path.{refl, sym, _∙_}
 use borrow.Author.Needs.{needs}
 use Rattle.chip.proofs.state.spi_fits.Statement.{statement}

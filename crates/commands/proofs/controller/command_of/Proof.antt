@@ -1,3 +1,4 @@
+-- `controller::command_of` meets its contract. Assumes nothing.
 use mathlib.Core.Path.{ap, sym}
 use Rattle.bits.proofs.Rows.{none-of}
 use Rattle.commands.specs.Controller.{controllerCommand, controllerCommands}

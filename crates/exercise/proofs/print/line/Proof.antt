@@ -5,10 +5,10 @@ use Rattle.exercise.proofs.print.line.Statement.{statement}
 use Rattle.exercise.proofs.print.line.Tie as tie
 
 abbrev Inv-loop : tie.InvT-loop
-Inv-loop body length i₀ t7 i = i ≤ 16
+Inv-loop number count body length i₀ t9 i = i ≤ 16
 
 abbrev μ-loop : tie.MeasureT-loop
-μ-loop body length i₀ t7 i = 16 - i
+μ-loop number count body length i₀ t9 i = 16 - i
 
 pub line-spec : {M : Type 1} → statement M
 line-spec =
@@ -20,7 +20,6 @@ line-spec =
     (λ c κs. search needs)
     (λ c. search needs)
     (λ c κs. search needs)
-    (λ c. search needs)
     (λ c. search needs)
     (λ c κs. search needs)
     (λ c. search needs)

@@ -18,16 +18,16 @@ is-flag true = refl
 is-flag false = refl
 
 mul-result : tie.Need-mul-result
-mul-result c = omega (arith, small (c .args .loop1))
+mul-result c = omega (arith, small (c .args .auxiliary))
 
 add-result : tie.Need-add-result
-add-result c = omega (arith, small (c .args .loop0), small (c .args .loop1))
+add-result c = omega (arith, small (c .args .primary), small (c .args .auxiliary))
 
 mul-result-2 : tie.Need-mul-result-2
 mul-result-2 c = omega (arith, small (c .args .intenable))
 
 add-result-2 : tie.Need-add-result-2
-add-result-2 c = omega (arith, small (c .args .loop0), small (c .args .loop1), small (c .args .intenable))
+add-result-2 c = omega (arith, small (c .args .primary), small (c .args .auxiliary), small (c .args .intenable))
 
 returns : tie.Need-returns
 returns c = simp is-flag

@@ -1,7 +1,6 @@
 -- `answer::put_hex` meets its contract. The invariant: the first i bytes' pairs are written. Assumes nothing.
 use Prim.Native.Nat.{_≤_, _-_}
 use mathlib.Core.Path.{_≡_}
-use native.Mathlib.Omega.{arith}
 use lib.ListN.{length, take}
 use borrow.Author.Needs.{needs}
 use Rattle.listing.specs.Characters.{hexText}

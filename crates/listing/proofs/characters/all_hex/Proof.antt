@@ -1,7 +1,6 @@
 -- `characters::all_hex` meets its contract. The invariant: the first i are hex digits. Assumes nothing.
 use Prim.Native.Nat.{_≤_, _-_}
 use mathlib.Core.Path.{_≡_, refl}
-use native.Mathlib.Omega.{arith}
 use lib.ListN.{length, drop}
 use borrow.Author.Needs.{needs}
 use Rattle.listing.specs.Characters.{allHex}

@@ -1,5 +1,4 @@
 -- `characters::is_hex` meets its contract. Assumes nothing.
-use mathlib.Core.Path.{_≡_}
 use borrow.Author.Needs.{needs}
 use Rattle.listing.specs.Characters.{isHex}
 use Rattle.listing.proofs.characters.is_hex.Statement.{statement}

@@ -1,5 +1,4 @@
 -- `characters::pair_at` meets its contract: a character of a part is the one at the sum of the places. Assumes nothing.
-use mathlib.Core.Path.{_≡_}
 use native.Mathlib.Nat.{add-zero}
 use native.Mathlib.Omega.{arith}
 use lib.Seq.{getD-drop}

@@ -1,6 +1,5 @@
 -- `calls::hear_frame` meets its contract. Assumes nothing.
 use borrow.Author.Needs.{needs}
-use mathlib.Core.Path.{refl}
 use Rattle.player.proofs.Hearing.{body-room, body-fits, frame-line}
 use Rattle.player.proofs.calls.hear_frame.Statement.{statement}
 use Rattle.player.proofs.calls.hear_frame.Tie as tie
@@ -12,6 +11,7 @@ hear-frame-spec =
     (λ c. search needs)
     (λ c. search needs)
     (λ c κs. search needs)
+    (λ c. search needs)
     (λ c. search needs)
     (λ c. search needs)
     (λ c. search needs)

@@ -6,7 +6,7 @@ use borrow.Author.Count.{below-more}
 use mathlib.Core.Path.{_≡_}
 use lib.ListN.{getD}
 use denote.Ref.{now}
-use Rattle.wire.proofs.Bits.{AreBytes}
+use Rattle.parts.proofs.Laws.{AreBytes}
 use Rattle.receiver.proofs.Content.{own-set, later-set, all-clear}
 use Rattle.receiver.proofs.ranges.clear_from.Statement.{statement}
 use Rattle.receiver.proofs.ranges.clear_from.Tie as tie

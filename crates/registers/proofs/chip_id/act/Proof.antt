@@ -1,3 +1,4 @@
+-- `chip_id::act` meets its contract. Assumes nothing.
 use borrow.Author.Needs.{needs}
 use Rattle.registers.proofs.ChipIdAnswers.{got, wrong-length, unknown}
 use Rattle.registers.proofs.chip_id.act.Statement.{statement}

@@ -1,3 +1,4 @@
+-- `chip_id::answer` meets its contract. Assumes nothing.
 use borrow.Author.Needs.{needs}
 use Rattle.registers.proofs.ChipIdAnswers.{acted, off}
 use Rattle.registers.proofs.chip_id.answer.Statement.{statement}

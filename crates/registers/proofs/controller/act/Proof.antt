@@ -1,3 +1,4 @@
+-- `controller::act` meets its contract. Assumes nothing.
 use borrow.Author.Needs.{needs}
 use Rattle.registers.proofs.ControllerAnswers.{wrote, got, wrong-length, unknown}
 use Rattle.registers.proofs.controller.act.Statement.{statement}

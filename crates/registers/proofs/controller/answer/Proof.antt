@@ -1,3 +1,4 @@
+-- `controller::answer` meets its contract. Assumes nothing.
 use borrow.Author.Needs.{needs}
 use Rattle.registers.proofs.ControllerAnswers.{acted}
 use Rattle.registers.proofs.controller.answer.Statement.{statement}

@@ -1,3 +1,4 @@
+-- `controller::id_enabled` meets its contract. Assumes nothing.
 use Rattle.bits.proofs.Bits.{bit-test}
 use Rattle.registers.proofs.controller.id_enabled.Statement.{statement}
 use Rattle.registers.proofs.controller.id_enabled.Tie as tie

@@ -1,3 +1,4 @@
+-- `controller::in_range` meets its contract. Assumes nothing.
 use Rattle.registers.proofs.Ranges.{range-mask}
 use Rattle.registers.proofs.controller.in_range.Statement.{statement}
 use Rattle.registers.proofs.controller.in_range.Tie as tie

@@ -1,3 +1,4 @@
+-- `controller::spi_enabled` meets its contract. Assumes nothing.
 use Rattle.bits.proofs.Bits.{bit-test}
 use Rattle.registers.proofs.controller.spi_enabled.Statement.{statement}
 use Rattle.registers.proofs.controller.spi_enabled.Tie as tie

@@ -1,3 +1,4 @@
+-- `controller::write` meets its contract. Assumes nothing.
 use borrow.Author.Needs.{needs}
 use Rattle.registers.proofs.Ranges.{wrote-crb, wrote-crd}
 use Rattle.registers.proofs.controller.write.Statement.{statement}

@@ -1,3 +1,4 @@
+-- `dac::act` meets its contract. Assumes nothing.
 use borrow.Author.Needs.{needs}
 use Rattle.registers.proofs.DacAnswers.{wrote, got, wrong-length, unknown}
 use Rattle.registers.proofs.dac.act.Statement.{statement}

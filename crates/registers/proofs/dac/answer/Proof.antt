@@ -1,3 +1,4 @@
+-- `dac::answer` meets its contract. Assumes nothing.
 use borrow.Author.Needs.{needs}
 use Rattle.registers.proofs.DacAnswers.{acted}
 use Rattle.registers.proofs.dac.answer.Statement.{statement}

@@ -1,3 +1,4 @@
+-- `dac::write` meets its contract. Assumes nothing.
 use borrow.Author.Needs.{needs}
 use Rattle.registers.proofs.dac.write.Statement.{statement}
 use Rattle.registers.proofs.dac.write.Tie as tie

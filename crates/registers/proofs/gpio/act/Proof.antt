@@ -1,3 +1,4 @@
+-- `gpio::act` meets its contract. Assumes nothing.
 use borrow.Author.Needs.{needs}
 use Rattle.registers.proofs.GpioAnswers.{wrote, got, got-datain, wrong-length, unknown}
 use Rattle.registers.proofs.gpio.act.Statement.{statement}

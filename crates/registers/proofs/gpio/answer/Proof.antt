@@ -1,3 +1,4 @@
+-- `gpio::answer` meets its contract. Assumes nothing.
 use borrow.Author.Needs.{needs}
 use Rattle.registers.proofs.GpioAnswers.{acted, off}
 use Rattle.registers.proofs.gpio.answer.Statement.{statement}

@@ -1,3 +1,4 @@
+-- `gpio::datain_after` meets its contract. Assumes nothing.
 use borrow.Author.Needs.{needs}
 use Rattle.registers.proofs.Pins.{datain-mask}
 use Rattle.registers.proofs.gpio.datain_after.Statement.{statement}

@@ -1,3 +1,4 @@
+-- `gpio::firing_lines` meets its contract. Assumes nothing.
 use Rattle.registers.proofs.Pins.{firing-mask}
 use Rattle.registers.proofs.gpio.firing_lines.Statement.{statement}
 use Rattle.registers.proofs.gpio.firing_lines.Tie as tie

@@ -1,3 +1,4 @@
+-- `gpio::is_zero` meets its contract. Assumes nothing.
 use borrow.Author.Needs.{needs}
 use Rattle.registers.proofs.Ranges.{gpio-none}
 use Rattle.registers.proofs.gpio.is_zero.Statement.{statement}

@@ -1,3 +1,4 @@
+-- `gpio::sample` meets its contract. Assumes nothing.
 use borrow.Author.Needs.{needs}
 use Rattle.registers.proofs.Pins.{interrupts, none-fired, disabled}
 use Rattle.registers.proofs.gpio.sample.Statement.{statement}

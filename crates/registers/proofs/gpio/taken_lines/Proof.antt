@@ -1,3 +1,4 @@
+-- `gpio::taken_lines` meets its contract. Assumes nothing.
 use Rattle.registers.proofs.Pins.{taken-0, taken-1, taken-2, taken-none}
 use Rattle.registers.proofs.gpio.taken_lines.Statement.{statement}
 use Rattle.registers.proofs.gpio.taken_lines.Tie as tie

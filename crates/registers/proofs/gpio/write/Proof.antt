@@ -1,3 +1,4 @@
+-- `gpio::write` meets its contract. Assumes nothing.
 use borrow.Author.Needs.{needs}
 use Rattle.registers.proofs.Ranges.{wrote-intenable}
 use Rattle.registers.proofs.gpio.write.Statement.{statement}

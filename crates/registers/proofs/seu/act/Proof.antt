@@ -1,3 +1,4 @@
+-- `seu::act` meets its contract. Assumes nothing.
 use borrow.Author.Needs.{needs}
 use Rattle.registers.proofs.SeuAnswers.{got, cleared, wrong-length, unknown}
 use Rattle.registers.proofs.seu.act.Statement.{statement}

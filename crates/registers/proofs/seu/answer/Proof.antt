@@ -1,3 +1,4 @@
+-- `seu::answer` meets its contract. Assumes nothing.
 use borrow.Author.Needs.{needs}
 use Rattle.registers.proofs.SeuAnswers.{acted, off}
 use Rattle.registers.proofs.seu.answer.Statement.{statement}

@@ -1,3 +1,4 @@
+-- `spi::act` meets its contract. Assumes nothing.
 use borrow.Author.Needs.{needs}
 use Rattle.registers.proofs.SpiAnswers.{wrote, got, started, wrong-length, unknown}
 use Rattle.registers.proofs.spi.act.Statement.{statement}

@@ -1,3 +1,4 @@
+-- `spi::answer` meets its contract. Assumes nothing.
 use borrow.Author.Needs.{needs}
 use Rattle.registers.proofs.SpiAnswers.{acted, is-busy, off}
 use Rattle.registers.proofs.spi.answer.Statement.{statement}

@@ -1,3 +1,4 @@
+-- `spi::completed` meets its contract. Assumes nothing.
 use borrow.Author.Needs.{needs}
 use Rattle.registers.proofs.Transfer.{merged-word, completed-words}
 use Rattle.registers.proofs.spi.completed.Statement.{statement}

@@ -1,3 +1,4 @@
+-- `spi::is_zero` meets its contract. Assumes nothing.
 use borrow.Author.Needs.{needs}
 use Rattle.registers.proofs.Ranges.{spi-none}
 use Rattle.registers.proofs.spi.is_zero.Statement.{statement}

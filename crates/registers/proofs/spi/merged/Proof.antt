@@ -1,3 +1,4 @@
+-- `spi::merged` meets its contract. Assumes nothing.
 use borrow.Author.Needs.{needs}
 use Rattle.registers.proofs.Transfer.{merged-mask}
 use Rattle.registers.proofs.spi.merged.Statement.{statement}

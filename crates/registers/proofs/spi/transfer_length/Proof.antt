@@ -1,3 +1,4 @@
+-- `spi::transfer_length` meets its contract. Assumes nothing.
 use native.Mathlib.Omega.{arith}
 use Rattle.registers.proofs.Transfer.{length-bits, whole-length, part-length}
 use Rattle.registers.proofs.spi.transfer_length.Statement.{statement}

@@ -1,3 +1,4 @@
+-- `spi::write` meets its contract. Assumes nothing.
 use borrow.Author.Needs.{needs}
 use Rattle.registers.proofs.spi.write.Statement.{statement}
 use Rattle.registers.proofs.spi.write.Tie as tie

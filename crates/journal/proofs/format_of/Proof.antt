@@ -1,0 +1,16 @@
+-- `journal::format_of` meets its contract: a row of the table for each test. Assumes nothing.
+use borrow.Author.Tests.{eq-eqb, ne-eqb}
+use Rattle.journal.specs.Layout.{formatOf}
+use Rattle.journal.proofs.format_of.Statement.{statement}
+use Rattle.journal.proofs.format_of.Tie as tie
+
+returns : tie.Need-returns
+unfolding formatOf
+returns c = simp (eq-eqb _ _ (c .if1 .taken))
+
+returns-2 : tie.Need-returns-2
+unfolding formatOf
+returns-2 c = simp (ne-eqb _ _ (c .if1 .left))
+
+pub format-of-spec : {M : Type 1} → statement M
+format-of-spec = tie.close (tie.spec returns returns-2)

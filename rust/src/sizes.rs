@@ -1,0 +1,27 @@
+//! The version and the sizes of what calls take, under the names of `include/sca.h`, there with `SCA_` in front.
+
+/// The version that this crate is made for, 1.0.0: major << 16 | minor << 8 | patch. [`crate::version`] gives the archive's.
+pub const VERSION: u64 = 0x01_0000;
+
+/// The bytes of the shortest body.
+pub const BODY_LEAST: usize = 2;
+/// The bytes of the longest body.
+pub const BODY_MOST: usize = 16;
+/// The bytes of the longest frame on the cable.
+pub const CABLE_MOST: usize = 24;
+/// The most bytes of cable in one reading.
+pub const INPUT_MOST: usize = 65_536;
+/// The least output of a receiver and of an event.
+pub const OUTPUT_LEAST: usize = 16;
+/// The bytes received in an SPI transfer, whatever its length.
+pub const TRANSFER_BYTES: usize = 16;
+/// The greatest chip ID.
+pub const ID_MOST: u32 = 0xFF_FFFF;
+/// The bytes of a receiver.
+pub const RECEIVER_BYTES: usize = 24;
+/// The bytes of an adapter's state.
+pub const STATE_BYTES: usize = 76;
+/// The bytes of a journal.
+pub const JOURNAL_BYTES: usize = 17_408;
+/// The most events that can be taken back.
+pub const KEPT_MOST: usize = 64;
