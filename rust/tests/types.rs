@@ -5,7 +5,8 @@
 #![deny(unreachable_patterns)]
 
 use sca::{boundary, text, transmit, Adapter, Answer, Broken, Dropped, Edge, Heard, Port, Receiver, Refusal};
-use sca::{ID_MOST, INPUT_MOST, KEPT_MOST, RECEIVER_BYTES, STATE_BYTES, VERSION};
+use sca::{BODY_LEAST, BODY_MOST, CABLE_MOST, ID_MOST, INPUT_MOST, KEPT_MOST, OUTPUT_LEAST};
+use sca::{RECEIVER_BYTES, STATE_BYTES, TRANSFER_BYTES, VERSION};
 
 fn adapter() -> Adapter {
     Adapter::new(0x00_000A).unwrap()
@@ -218,13 +219,39 @@ fn constant(variant: &str) -> String {
     name
 }
 
+/// One name and one value for each size of document 01: in the proved source, in the header and here.
+#[test]
+fn sizes_have_one_name() {
+    let header = include_str!("../../include/sca.h");
+    let source = include_str!("../../crates/numbers/src/lib.rt");
+    let sizes = [
+        ("BODY_LEAST", BODY_LEAST),
+        ("BODY_MOST", BODY_MOST),
+        ("CABLE_MOST", CABLE_MOST),
+        ("INPUT_MOST", INPUT_MOST),
+        ("OUTPUT_LEAST", OUTPUT_LEAST),
+        ("TRANSFER_BYTES", TRANSFER_BYTES),
+    ];
+    assert_eq!(source.matches(": usize = ").count(), sizes.len());
+    for (name, size) in sizes {
+        assert!(
+            source.contains(&format!("pub const {}: usize = {};", name, size)),
+            "{}",
+            name
+        );
+        assert!(header.contains(&format!("#define SCA_{} {} ", name, size)), "{}", name);
+    }
+    assert!(source.contains(&format!("pub const ID_MOST: u32 = 0x{:X};", ID_MOST)));
+    assert!(header.contains(&format!("#define SCA_ID_MOST 0x{:X} ", ID_MOST)));
+}
+
 /// One name and one text for each number: in the proved source, in the header and here.
 #[test]
 fn one_vocabulary() {
     let numbers = numbers_of_the_header();
     assert_eq!(numbers.len(), 22);
     let source = include_str!("../../crates/numbers/src/lib.rt");
-    assert_eq!(source.matches("pub const ").count(), numbers.len());
+    assert_eq!(source.matches(": u8 = ").count(), numbers.len());
     for (name, number, words) in &numbers {
         assert!(
             source.contains(&format!("pub const {}: u8 = {};", name, number)),
