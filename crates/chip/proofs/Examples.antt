@@ -1,9 +1,9 @@
 -- Worked examples, computed: document 01's listing, its table of commands row by row, its errors, frame checks, pins and transfers. The
 -- lengths of channels 0x00, 0x13 and 0x14 are document 01's house lengths: the manual's Table 5.7 prints none.
 use Prim.Native.Nat.{ℕ, _*_}
-use mathlib.Core.List.{List, [], _∷_, map}
+use mathlib.Core.List.{List, [], _∷_, _++_, map}
 use mathlib.Core.Path.{_≡_, refl}
-use lib.ListN.{getD}
+use lib.ListN.{getD, replicate}
 use Rattle.bits.specs.Bits.{word}
 use Rattle.commands.specs.Channels.{channelOf}
 use Rattle.commands.specs.Controller.{controllerCommand}
@@ -22,7 +22,8 @@ use Rattle.registers.specs.Dac.{dacAnswer, actDac}
 use Rattle.parts.specs.Words.{word as fourBytes, wordsOf}
 use Rattle.chip.specs.Event.{spi, Event, frame, completion, sample, upset}
 use Rattle.chip.specs.State.{poweredOn, powerOn, withSeu}
-use Rattle.chip.specs.Answer.{Reaction}
+use Rattle.parts.specs.Parts.{put}
+use Rattle.chip.specs.Answer.{Reaction, laid}
 use Rattle.chip.specs.Request.{byteOf, onChannel, answered, replies, requested}
 use Rattle.chip.specs.Frame.{commanded, numbered, carried, addressed, onFrame}
 use Rattle.chip.specs.Chip.{reaction, onSpi, onSample, onUpset}
@@ -176,6 +177,9 @@ pub record Tables : Type 0 where
       ∷ []
   pub listing-8 : run (after fresh (line1 ∷ line2 ∷ line3 ∷ [])) (line8 ∷ [])
       ≡ (0 ∷ 0 ∷ 0x00 ∷ 0x86 ∷ 0x05 ∷ 0x02 ∷ 0x00 ∷ 0x04 ∷ 0x34 ∷ 0x12 ∷ 0x78 ∷ 0x56 ∷ []) ∷ []
+  -- frames in an output: each at the front of its own 16 bytes, the bytes behind it as they were
+  pub two-frames : laid ((0x00 ∷ 0x63 ∷ []) ∷ (0x00 ∷ 0x73 ∷ []) ∷ []) (replicate 34 0xAA)
+      ≡ 0x00 ∷ 0x63 ∷ replicate 14 0xAA ++ (0x00 ∷ 0x73 ∷ replicate 16 0xAA)
   -- Table 4.2: TRN 0x00 and 0xFF have bit 3, whatever else is wrong; 0x01 and 0xFE pass
   pub trn-00 : told (reaction fresh (framed 0 0x00 (ask 0x16 9 0xEE 0))) ≡ 0 ∷ 0x08 ∷ 2 ∷ 0 ∷ []
   pub trn-ff : told (reaction fresh (framed 0 0xFF (ask 0x00 2 0x03 0))) ≡ 0 ∷ 0x08 ∷ 2 ∷ 0 ∷ []
@@ -249,13 +253,14 @@ pub record Tables : Type 0 where
 
 pub tables : Tables
 unfolding
-    reaction onFrame addressed commanded carried numbered requested answered onChannel replies onSpi onSample onUpset wordsOf poweredOn word
+    reaction onFrame addressed commanded carried numbered requested answered onChannel replies onSpi onSample onUpset wordsOf put poweredOn word
     channelOf controllerAnswer actControl controllerCommand spiAnswer actSpi spiCommand spiCompleted completedWord gpioAnswer actGpio
     gpioCommand gpioSampled datainAfter firingLines seuAnswer actSeu seuCommand idAnswer actId idCommand dacAnswer actDac dacCommand
 tables =
     record {
       listing = refl;
       listing-8 = refl;
+      two-frames = refl;
       trn-00 = refl;
       trn-ff = refl;
       trn-01 = refl;

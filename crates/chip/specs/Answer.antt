@@ -26,11 +26,12 @@ gives a n = record { adapter = a; number = n; port = 0; frames = [] }
 
 -- ---- what its caller has of it
 
--- An event's answer 0 comes with port and length, any other with both 0.
+-- the length of the frame at the front of the output; 0 where there is none
 abbrev pub frontLength : List (List ℕ) → ℕ
 frontLength [] = 0
 frontLength (body ∷ more) = length body
 
+-- An event's answer 0 comes with port and length, any other with both 0.
 abbrev pub response : Reaction → Response
 response r = record { adapter = r .adapter; number = r .number; port = r .port; length = frontLength (r .frames) }
 

@@ -7,15 +7,10 @@ use lib.Dec.{eqb}
 use borrow.Author.Tests.{eqb-true, eqb-false}
 use Rattle.journal.specs.Layout.{slotsOf, wrongLength}
 use Rattle.adapter.specs.declared.KeptNumber.{KeptNumber}
-use Rattle.promises.specs.Runs.{Call, event, back, empty, Given, Calls, AllOfTheirTypes, Run, Standing, atStart, keeps, stateAfter, bare, due, Demand3}
+use Rattle.promises.specs.Runs.{Call, event, back, empty, Calls, AllOfTheirTypes, Run, Standing, atStart, keeps, bare, Demand3}
 use Rattle.promises.specs.Table.{line, lines}
+use Rattle.promises.proofs.Runs.{told}
 use Rattle.promises.proofs.Standing.{typed-more}
-
--- what the text says that a call gives
-abbrev pub told : ℕ → Standing → Call → Given
-told id s (event e o) = due (stateAfter id (s .events)) e o
-told id s back = cond (eqb (s .number) 0) (bare 5 []) (bare 17 [])
-told id s empty = bare 17 []
 
 -- the text's lines
 abbrev pub textLines : ℕ → Standing → List Call → List (List ℕ)

@@ -96,7 +96,13 @@ drop-fit zero es f = f
 drop-fit (suc n) [] f = f
 drop-fit (suc n) (e ∷ es) f = drop-fit n es (f .1)
 
-module _ (id : ℕ) (small : id ≤ 0xFFFFFF) where
+-- what the text says that a call gives
+abbrev pub told : ℕ → Standing → Call → Given
+told id s (event e o) = due (stateAfter id (s .events)) e o
+told id s back = cond (eqb (s .number) 0) (bare 5 []) (bare 17 [])
+told id s empty = bare 17 []
+
+module _ (id : ℕ) (small : id ≤ number.idMost) where
   after-fits : (es : List Event) → AllFit es → Fits (stateAfter id es)
   unfolding AllFit
   after-fits [] f = power-on-fits id (omega arith)
@@ -215,17 +221,11 @@ module _ (id : ℕ) (small : id ≤ 0xFFFFFF) where
 
   -- ---- one call
 
-  -- what the text says that it gives
-  told : Standing → Call → Given
-  told s (event e o) = due (stateAfter id (s .events)) e o
-  told s back = cond (eqb (s .number) 0) (bare 5 []) (bare 17 [])
-  told s empty = bare 17 []
-
   record Told (s : Standing) (j : List ℕ) (k : Call) : Type 0 where
-    gives-eq : givesOurs (pair s j) k ≡ told s k
-    same : refuses (told s k) ≡ true → leavesOurs (pair s j) k ≡ pair s j
+    gives-eq : givesOurs (pair s j) k ≡ told id s k
+    same : refuses (told id s k) ≡ true → leavesOurs (pair s j) k ≡ pair s j
 
-  as-told : (s : Standing) (j : List ℕ) (k : Call) (g : Given) → told s k ≡ g → givesOurs (pair s j) k ≡ g
+  as-told : (s : Standing) (j : List ℕ) (k : Call) (g : Given) → told id s k ≡ g → givesOurs (pair s j) k ≡ g
       → (refuses g ≡ true → leavesOurs (pair s j) k ≡ pair s j) → Told s j k
   as-told s j k g e h u = record { gives-eq = h ∙ sym e; same = λ q. u (ap refuses (sym e) ∙ q) }
 
@@ -247,9 +247,9 @@ module _ (id : ℕ) (small : id ≤ 0xFFFFFF) where
         unfolding pair
         refused-leaves = ap (λ (x : Outcome). handed (x .answer .adapter) (x .journal)) (is-refused (stateAfter id (s .events)) j ranged (i .well) e o h)
 
-        refused-said : Told s j (event e o)
-        unfolding pair told
-        refused-said =
+        refused-told : Told s j (event e o)
+        unfolding pair
+        refused-told =
             as-told s j (event e o) (bare (refusal e o) o) (rw h refl)
             (ap (λ (x : Outcome). shown (x .answer) (x .output)) (is-refused (stateAfter id (s .events)) j ranged (i .well) e o h)) (λ _. refused-leaves)
 
@@ -261,9 +261,9 @@ module _ (id : ℕ) (small : id ≤ 0xFFFFFF) where
         unfolding pair done
         done-leaves = ap (λ (x : Outcome). handed (x .answer .adapter) (x .journal)) (is-done (stateAfter id (s .events)) j ranged (i .well) e o h)
 
-        done-said : Told s j (event e o)
-        unfolding pair told done
-        done-said =
+        done-told : Told s j (event e o)
+        unfolding pair done
+        done-told =
             as-told s j (event e o) (answered (reaction (stateAfter id (s .events)) e) o) (rw h refl)
             (ap (λ (x : Outcome). shown (x .answer) (x .output)) (is-done (stateAfter id (s .events)) j ranged (i .well) e o h))
             (λ q. absurd (not-one-to-ten _ (number-given (stateAfter id (s .events)) e) q))
@@ -282,12 +282,12 @@ module _ (id : ℕ) (small : id ≤ 0xFFFFFF) where
               (after s j i e (fits e o t h) r) (simp (h, r)) done-leaves
               (kept-inv s j i e (fits e o t h) r)
 
-      event-said : Told s j (event e o)
-      event-said = go (refused e o) refl
+      event-told : Told s j (event e o)
+      event-told = go (refused e o) refl
         where
           go : (b : Bool) → refused e o ≡ b → Told s j (event e o)
-          go true h = refused-said h
-          go false h = done-said h
+          go true h = refused-told h
+          go false h = done-told h
 
       event-step : OfItsTypes (event e o) → Step s j (event e o)
       event-step t = go (refused e o) refl (acceptedReset e) refl
@@ -305,9 +305,9 @@ module _ (id : ℕ) (small : id ≤ 0xFFFFFF) where
       unfolding pair
       zero-leaves = ap (λ (x : Stepped). handed (x .answer .adapter) (x .journal)) (back-refused (stateAfter id (s .events)) j ranged (i .well) z)
 
-      zero-said : Told s j back
-      unfolding pair told
-      zero-said =
+      zero-told : Told s j back
+      unfolding pair
+      zero-told =
           as-told s j back (bare 5 []) (simp (eq-eqb _ _ zero-number))
           (ap (λ (x : Stepped). shown (x .answer) []) (back-refused (stateAfter id (s .events)) j ranged (i .well) z)) (λ _. zero-leaves)
 
@@ -318,9 +318,9 @@ module _ (id : ℕ) (small : id ≤ 0xFFFFFF) where
       some-number : s .number ≡ 0 → ⊥
       some-number q = z (i .number ∙ q)
 
-      granted-said : Told s j back
-      unfolding pair told
-      granted-said =
+      granted-told : Told s j back
+      unfolding pair
+      granted-told =
           as-told s j back (bare 17 []) (simp (ne-eqb _ _ some-number)) (ap (λ (x : Stepped). shown (x .answer) []) (back-granted s j i z))
           (λ q. absurd (false≢true q))
 
@@ -330,9 +330,9 @@ module _ (id : ℕ) (small : id ≤ 0xFFFFFF) where
           stepsTo s j back (record { events = drop 1 (s .events); number = s .number - 1; most = s .most }) (lowered j) (simp (ne-eqb _ _ some-number))
           (ap (λ (x : Stepped). handed (x .answer .adapter) (x .journal)) (back-granted s j i z)) (back-inv s j i z)
 
-    empty-said : Told s j empty
-    unfolding pair told
-    empty-said = as-told s j empty (bare 17 []) refl (ap (λ (x : Cleared). bare (x .number) []) (empty-done j (i .well .size))) (λ q. absurd (false≢true q))
+    empty-told : Told s j empty
+    unfolding pair
+    empty-told = as-told s j empty (bare 17 []) refl (ap (λ (x : Cleared). bare (x .number) []) (empty-done j (i .well .size))) (λ q. absurd (false≢true q))
 
     empty-step : Step s j empty
     unfolding pair
@@ -342,9 +342,9 @@ module _ (id : ℕ) (small : id ≤ 0xFFFFFF) where
         (emptied-inv s j (i .fit) (i .well .size) (i .slots))
 
     say : (k : Call) → Told s j k
-    say (event e o) = event-said e o
-    say back = ⊎-elim zero-said (λ pos. granted-said (λ z. omega arith)) (eq-zero-or-pos (keptOf j))
-    say empty = empty-said
+    say (event e o) = event-told e o
+    say back = ⊎-elim zero-told (λ pos. granted-told (λ z. omega arith)) (eq-zero-or-pos (keptOf j))
+    say empty = empty-told
 
     step : (k : Call) → OfItsTypes k → Step s j k
     step (event e o) t = event-step e o t
@@ -412,10 +412,10 @@ module _ (r : Run) where
   said-end : (k : Call) → Told (r .id) (r .id-fits) (standing r) last k
   said-end k = say (r .id) (r .id-fits) (standing r) last inv-end k
 
-  gives-end : (k : Call) → givesOurs (left ours r) k ≡ told (r .id) (r .id-fits) (standing r) k
+  gives-end : (k : Call) → givesOurs (left ours r) k ≡ told (r .id) (standing r) k
   gives-end k = ap (λ (p : Handed). givesOurs p k) at-end ∙ said-end k .gives-eq
 
-  -- ---- what the text never told
+  -- ---- what the text never says
 
   fine : (n : ℕ) → (n ≡ 0) ⊎ ((11 ≤ n) × (n ≤ 17)) → (n ≡ 4 → ⊥) × (n ≡ 6 → ⊥)
   fine n (inl z) = (λ e. omega arith, λ e. omega arith)
@@ -431,8 +431,8 @@ module _ (r : Run) where
   own-fine false false true = (eqb-false 2 4 refl, eqb-false 2 6 refl)
   own-fine false false false = (eqb-false 0 4 refl, eqb-false 0 6 refl)
 
-  never : (k : Call) → (told (r .id) (r .id-fits) (standing r) k .number ≡ 4 → ⊥) × (told (r .id) (r .id-fits) (standing r) k .number ≡ 6 → ⊥)
-  unfolding told own-number
+  never : (k : Call) → (told (r .id) (standing r) k .number ≡ 4 → ⊥) × (told (r .id) (standing r) k .number ≡ 6 → ⊥)
+  unfolding own-number
   never (event e o) = go (refused e o)
     where
       go : (b : Bool) → (cond b (bare (refusal e o) o) (answered (reaction (dueState r) e) o) .number ≡ 4 → ⊥)
@@ -447,8 +447,7 @@ module _ (r : Run) where
   never empty = (eqb-false 17 4 refl, eqb-false 17 6 refl)
 
   -- a refused call's output
-  output-same : (k : Call) → refuses (told (r .id) (r .id-fits) (standing r) k) ≡ true → told (r .id) (r .id-fits) (standing r) k .output ≡ lent k
-  unfolding told
+  output-same : (k : Call) → refuses (told (r .id) (standing r) k) ≡ true → told (r .id) (standing r) k .output ≡ lent k
   output-same (event e o) = go (refused e o)
     where
       go : (b : Bool) → refuses (cond b (bare (refusal e o) o) (answered (reaction (dueState r) e) o)) ≡ true
@@ -468,7 +467,6 @@ module _ (r : Run) where
   number-end = ap (λ (x : KeptNumber). x .kept) kept-end
 
   zero-back : keptIn (left ours r .journal) .kept ≡ 0 → (givesOurs (left ours r) back ≡ bare 5 []) × (leavesOurs (left ours r) back ≡ left ours r)
-  unfolding told
   zero-back z =
       let e : eqb (standing r .number) 0 ≡ true = eq-eqb _ _ (sym number-end ∙ z) in (
         gives-end back ∙ rw e refl,
@@ -477,7 +475,7 @@ module _ (r : Run) where
 
   some-back : (keptIn (left ours r .journal) .kept ≡ 0 → ⊥)
       → (givesOurs (left ours r) back ≡ bare 17 []) × (leavesOurs (left ours r) back .adapter ≡ stateAfter (r .id) (drop 1 (standing r .events)))
-  unfolding told pair
+  unfolding pair
   some-back z =
       let e : eqb (standing r .number) 0 ≡ false = ne-eqb _ _ (λ q. z (number-end ∙ q)) in
       let x = step (r .id) (r .id-fits) (standing r) last inv-end back tt in (
@@ -487,14 +485,14 @@ module _ (r : Run) where
 
   refused-same : (k : Call) → refuses (givesOurs (left ours r) k) ≡ true → (leavesOurs (left ours r) k ≡ left ours r) × (givesOurs (left ours r) k .output ≡ lent k)
   refused-same k h =
-      let q : refuses (told (r .id) (r .id-fits) (standing r) k) ≡ true = ap refuses (sym (gives-end k)) ∙ h in (
+      let q : refuses (told (r .id) (standing r) k) ≡ true = ap refuses (sym (gives-end k)) ∙ h in (
         ap (λ (p : Handed). leavesOurs p k) at-end ∙ said-end k .same q ∙ sym at-end,
         ap (λ (g : Given). g .output) (gives-end k) ∙ output-same k q,
       )
 
 -- DEMAND 3 HOLDS of the delivered calls: for every chip ID that `create` accepts, all bytes of a journal's length made empty, every list of calls.
 pub demand3 : Demand3 ours
-unfolding pair told
+unfolding pair
 demand3 =
     record {
       undamaged = λ r k. rw (gives-end r k) (never r k);

@@ -60,8 +60,8 @@ found body n = record { answer = record { number = number.hasFrame; body = body 
 -- a body that can be sent: 2 to 16 bytes
 pub record Body (body : List ℕ) : Type 0 where
   pub small : (i : ℕ) → getD body i 0 < 256
-  pub least : 2 ≤ length body
-  pub most : length body ≤ 16
+  pub least : number.bodyLeast ≤ length body
+  pub most : length body ≤ number.bodyMost
 
 abbrev pub Bodies : List (List ℕ) → Type 0
 Bodies [] = Unit
