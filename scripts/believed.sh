@@ -25,9 +25,9 @@ part() {
 part 'Numbers and places in bytes' crates/numbers/specs/*.antt crates/parts/specs/*.antt
 part 'The wire' crates/wire/specs/*.antt crates/transmitter/specs/*.antt crates/receiver/specs/*.antt
 part 'The wire, in the words of the standard' crates/promises/specs/Wire.antt crates/promises/specs/Calls.antt
-part 'The chip' crates/bits/specs/*.antt crates/commands/specs/*.antt crates/registers/specs/*.antt crates/chip/specs/*.antt
+part 'The chip' crates/bits/specs/*.antt crates/commands/specs/*.antt crates/registers/specs/*.antt crates/channels/specs/*.antt \
+    crates/link/specs/*.antt crates/packets/specs/*.antt crates/chip/specs/*.antt
 part 'The calls and the journal' crates/adapter/specs/*.antt crates/journal/specs/*.antt
-part 'The first error' crates/promises/specs/Errors.antt
 part 'Demand 3' crates/promises/specs/Runs.antt crates/promises/specs/Ours.antt crates/promises/specs/Exported.antt
 part 'The table' crates/promises/specs/Table.antt crates/promises/specs/Text.antt
 part 'The listing' crates/listing/specs/*.antt crates/player/specs/*.antt

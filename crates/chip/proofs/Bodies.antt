@@ -12,8 +12,9 @@ use Rattle.parts.proofs.Laws.{AreBytes}
 use Rattle.numbers.specs.Numbers.{noFrame}
 use Rattle.chip.specs.Event.{Event}
 use Rattle.chip.specs.Answer.{Reaction, sends, gives}
-use Rattle.chip.specs.Link.{acknowledgeControl, rejectControl, replyControl}
-use Rattle.chip.specs.Request.{replyBody, replies}
+use Rattle.link.specs.Link.{acknowledgeControl, rejectControl, replyControl}
+use Rattle.packets.specs.Packets.{replyBody}
+use Rattle.chip.specs.Request.{replies}
 use Rattle.chip.specs.Frame.{controlOf}
 use Rattle.chip.specs.Chip.{reaction}
 use Rattle.chip.specs.declared.Adapter.{Adapter}
@@ -106,14 +107,14 @@ reply-bytes b trn ch err len d h =
     (lit< tt, (omega arith, (h .trn, (h .ch, (h .err, (h .len, (omega arith, (omega arith, (omega arith, (omega arith, tt))))))))))
 
 -- and its bytes are bytes
-pub frame-bytes : (a : Adapter) (e : Event) → a .spi .go < 256 → EventFits e → Every AreBytes (reaction a e .frames)
+pub frame-bytes : (a : Adapter) (e : Event) → EventFits e → Every AreBytes (reaction a e .frames)
 unfolding replies
-frame-bytes a e g f = by (reaction a e) (shapes a e)
+frame-bytes a e f = by (reaction a e) (shapes a e)
   where
     by : (r : Reaction) → Shape a e r → Every AreBytes (r .frames)
     by r (dropped n l u) = tt
     by r (acknowledged port body h b c) = (short-bytes _ (acknowledge-byte (controlOf body)), tt)
     by r (echoed port body h) = (subst EventFits h f .bytes, tt)
     by r (rejected port body h) = (short-bytes (rejectControl (a .link)) (omega arith), tt)
-    by r (replied b trn ch err len d m k) = (reply-bytes b trn ch err len d (k g f), tt)
+    by r (replied b trn ch err len d m k) = (reply-bytes b trn ch err len d (k f), tt)
     by r (quiet b m) = tt

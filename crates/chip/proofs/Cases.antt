@@ -1,41 +1,26 @@
 -- What the frame checks come to, case by case. `search` finds the premises in what a need knows, wherever they stand.
-use Prim.Native.Nat.{ℕ, suc, _+_, _-_, _*_, _%_, _^_, _≤_}
-use mathlib.Core.Bool.{Bool, true, false, not}
+use Prim.Native.Nat.{ℕ, suc, _-_, _≤_}
+use mathlib.Core.Bool.{Bool, true, false}
 use mathlib.Core.List.{List, [], _∷_}
 use mathlib.Core.Path.{_≡_, refl, sym, ap, _∙_}
 use native.Mathlib.Nat.{le-of-eq}
 use native.Mathlib.Omega.{arith}
 use borrow.Author.Tests.{eq-eqb, ne-eqb}
 use lib.Dec.{eqb, eqb·suc-suc}
-use lib.Bits.{bitAnd, bitOr, or-shifted-r, and-mask}
+use lib.Bits.{bitAnd}
 use lib.ListN.{length, getD, take, drop, length-drop}
 use lib.Seq.{take-all}
-use Rattle.bits.specs.Bits.{bitOf}
-use Rattle.bits.proofs.Bits.{bit-test}
+use Rattle.bits.proofs.Bits.{bit-set, bit-clear}
 use Rattle.numbers.specs.Numbers.{otherAddress, otherPort, otherControl, badInformation}
+use Rattle.packets.specs.Packets.{replyBody}
 use Rattle.chip.specs.State.{withLink}
 use Rattle.chip.specs.Answer.{sends, gives, response, Said, said, says}
-use Rattle.chip.specs.Link.{acknowledgeControl, rejectControl, replyControl, receiveNumber, receiveUp, sendUp, numberIn, inLoopback}
-use Rattle.chip.specs.Request.{byteOf, replyBody, replies, requested}
+use Rattle.link.specs.Link.{acknowledgeControl, rejectControl, replyControl, receiveNumber, receiveUp, sendUp, numberIn, inLoopback}
+use Rattle.chip.specs.Request.{replies, requested}
 use Rattle.chip.specs.Frame.{isConnect, isReset, isResetFrame, isTest, connected, reset, looped, commanded, numbered, carried, addressed, onFrame}
 use Rattle.chip.specs.declared.Adapter.{Adapter}
 use Rattle.chip.specs.declared.Response.{Response}
-use Rattle.chip.specs.declared.link.Link.{Link}
-
--- ---- `n & (1 << k)`
-
-pub bit-set : (n k : ℕ) → (bitAnd n (2 ^ (1 + k) - 2 ^ k) ≡ 0 → ⊥) → bitOf n k ≡ true
-bit-set n k h = sym (bit-test n k) ∙ ap not (ne-eqb _ 0 h)
-
-pub bit-clear : (n k : ℕ) → bitAnd n (2 ^ (1 + k) - 2 ^ k) ≡ 0 → bitOf n k ≡ false
-bit-clear n k h = sym (bit-test n k) ∙ ap not (eq-eqb _ 0 h)
-
--- `0x0D | ((n & 7) << 5)`
-pub reject-packed : (n : ℕ) → bitOr 0x0D (bitAnd n 7 * 32 % 256) ≡ 0x0D + 32 * (n % 8)
-reject-packed n =
-    let e : n % 8 * 32 % 256 ≡ n % 8 * 32 = omega arith in
-    let o : bitOr 13 (n % 8 * 32) ≡ n % 8 * 32 + 13 = or-shifted-r (n % 8) 5 13 (omega arith) in
-    rw (and-mask n 3, e) (omega arith)
+use Rattle.link.specs.declared.Link.{Link}
 
 -- a part that runs to the end is what is left after its start
 pub rest : (n : ℕ) (s : List ℕ) → take (length s - n) (drop n s) ≡ drop n s
@@ -152,10 +137,6 @@ module _ (s : List ℕ) where
   reset-command z t p e h = simp (eq-eqb _ _ z, sym p ∙ e) (emptied s h)
 
 -- ---- replies
-
-pub body-of : (control trn ch err len d d2 d3 d0 d1 : ℕ) → d2 ≡ byteOf d 2 → d3 ≡ byteOf d 3 → d0 ≡ byteOf d 0 → d1 ≡ byteOf d 1
-    → (0 ∷ control ∷ trn ∷ ch ∷ err ∷ len ∷ d2 ∷ d3 ∷ d0 ∷ d1 ∷ []) ≡ replyBody control trn ch err len d
-body-of control trn ch err len d d2 d3 d0 d1 e2 e3 e0 e1 = simp (e2, e3, e0, e1)
 
 module _ (a : Adapter) (trn ch err len d : ℕ) (o : List ℕ) (x : Said) where
   pub replied : (l : Link) (k : ℕ) (s : List ℕ) → l ≡ sendUp (a .link) → k ≡ replyControl (a .link) → s ≡ replyBody k trn ch err len d

@@ -6,25 +6,21 @@ use mathlib.Core.Path.{_≡_, refl}
 use lib.ListN.{getD, replicate}
 use Rattle.bits.specs.Bits.{word}
 use Rattle.commands.specs.Channels.{channelOf}
-use Rattle.commands.specs.Controller.{controllerCommand}
-use Rattle.registers.specs.Controller.{controllerAnswer, actControl}
-use Rattle.commands.specs.Spi.{spiCommand}
-use Rattle.registers.specs.Spi.{spiAnswer, actSpi, spiCompleted, completedWord}
-use Rattle.commands.specs.Gpio.{gpioCommand}
-use Rattle.registers.specs.Gpio.{gpioAnswer, actGpio}
-use Rattle.registers.specs.Pins.{gpioSampled, datainAfter, firingLines}
-use Rattle.commands.specs.Seu.{seuCommand}
-use Rattle.registers.specs.Seu.{seuAnswer, actSeu}
-use Rattle.commands.specs.ChipId.{idCommand}
-use Rattle.registers.specs.ChipId.{idAnswer, actId}
-use Rattle.commands.specs.Dac.{dacCommand}
-use Rattle.registers.specs.Dac.{dacAnswer, actDac}
+use Rattle.commands.specs.Command.{codeOf}
+use Rattle.commands.specs.declared.command.Register.the-variants.{Datain, Seu}
+use Rattle.registers.specs.Registers as registers
+use Rattle.registers.specs.Pins.{sampled, datainAfter, firingLines}
+use Rattle.registers.specs.Transfer.{completed, completedWord}
+use Rattle.channels.specs.Rows.{held}
+use Rattle.channels.specs.Errors.{decoded}
+use Rattle.channels.specs.Perform.{answered}
 use Rattle.parts.specs.Words.{word as fourBytes, wordsOf}
 use Rattle.chip.specs.Event.{spi, Event, frame, completion, sample, upset}
-use Rattle.chip.specs.State.{poweredOn, powerOn, withSeu}
+use Rattle.chip.specs.State.{poweredOn, powerOn, withRegisters}
 use Rattle.parts.specs.Parts.{put}
 use Rattle.chip.specs.Answer.{Reaction, laid}
-use Rattle.chip.specs.Request.{byteOf, onChannel, answered, replies, requested}
+use Rattle.packets.specs.Packets.{byteOf}
+use Rattle.chip.specs.Request.{replies, requested}
 use Rattle.chip.specs.Frame.{commanded, numbered, carried, addressed, onFrame}
 use Rattle.chip.specs.Chip.{reaction, onSpi, onSample, onUpset}
 use Rattle.chip.specs.declared.Adapter.{Adapter}
@@ -220,7 +216,7 @@ pub record Tables : Type 0 where
       (write 0x10 4 1 0x15A ∷ write 0x20 4 1 0x15B ∷ write 0x30 4 1 0x15C ∷ write 0x40 4 1 0x15D
       ∷ read 0x11 1 4 0x5A ∷ read 0x21 1 4 0x5B ∷ read 0x31 1 4 0x5C ∷ read 0x41 1 4 0x5D ∷ [])
   -- the counter wraps to 0
-  pub wraps : Rows (after (withSeu enabled 0xFFFFFFFF) (upset ∷ [])) 0x13 (read 0xF1 4 4 0 ∷ [])
+  pub wraps : Rows (after (withRegisters enabled (registers.store (enabled .registers) Seu 0xFFFFFFFF)) (upset ∷ [])) 0x13 (read 0xF1 4 4 0 ∷ [])
   -- a completion gives the GO's reply, LEN 6, with its TRN and DATA[31:0], of which 8 bits are received; then SPI is no more busy
   pub completed : run busy (received ∷ []) ≡ (0 ∷ 0 ∷ 0x00 ∷ 0xA8 ∷ 0x01 ∷ 0x01 ∷ 0x00 ∷ 0x06 ∷ 0x22 ∷ 0x11 ∷ 0xAA ∷ 0x33 ∷ []) ∷ []
   pub idle-again : Rows (after busy (received ∷ [])) 0x01 (read 0x01 2 6 0x112233AA ∷ [])
@@ -237,7 +233,7 @@ pub record Tables : Type 0 where
   pub no-interrupt : run silent (sample 0x00000001 0 ∷ []) ≡ (17 ∷ 0 ∷ []) ∷ []
   pub ints-stays : Rows (after silent (sample 0x00000001 0 ∷ [])) 0x02 (read 0x71 1 4 0 ∷ read 0x01 1 4 1 ∷ [])
   -- CLKSEL, EDGESEL and DIRECTION: which of the lines 0 to 3, all high, a sample of kind 0, 1 and 2 takes
-  pub kinds : map (λ kind. after clocked (sample 0x0000000F kind ∷ []) .gpio .datain) (0 ∷ 1 ∷ 2 ∷ []) ≡ 0x01 ∷ 0x02 ∷ 0x04 ∷ []
+  pub kinds : map (λ kind. registers.read (after clocked (sample 0x0000000F kind ∷ []) .registers) Datain) (0 ∷ 1 ∷ 2 ∷ []) ≡ 0x01 ∷ 0x02 ∷ 0x04 ∷ []
   -- the frame checks: another address, a command with information, another odd control, the other port, a wrong length; the acknowledgements
   pub checks : run fresh (frame 0 (0x01 ∷ 0x00 ∷ []) ∷ frame 0 (0x00 ∷ 0x2F ∷ 0x00 ∷ []) ∷ frame 0 (0x00 ∷ 0x0D ∷ []) ∷ frame 1 (0x00 ∷ 0x00 ∷ []) ∷ frame 0 (0x00 ∷ 0x00 ∷ []) ∷ [])
       ≡ (11 ∷ 0 ∷ []) ∷ (14 ∷ 0 ∷ []) ∷ (13 ∷ 0 ∷ []) ∷ (12 ∷ 0 ∷ []) ∷ (14 ∷ 0 ∷ []) ∷ []
@@ -253,9 +249,8 @@ pub record Tables : Type 0 where
 
 pub tables : Tables
 unfolding
-    reaction onFrame addressed commanded carried numbered requested answered onChannel replies onSpi onSample onUpset wordsOf put poweredOn word
-    channelOf controllerAnswer actControl controllerCommand spiAnswer actSpi spiCommand spiCompleted completedWord gpioAnswer actGpio
-    gpioCommand gpioSampled datainAfter firingLines seuAnswer actSeu seuCommand idAnswer actId idCommand dacAnswer actDac dacCommand
+    reaction onFrame addressed commanded carried numbered requested answered decoded replies onSpi onSample onUpset wordsOf put poweredOn word
+    channelOf codeOf registers.read registers.store registers.zeroed held completed completedWord sampled datainAfter firingLines
 tables =
     record {
       listing = refl;

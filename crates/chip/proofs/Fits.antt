@@ -1,61 +1,131 @@
--- The fields of a state hold what their machine types hold.
+-- The fields of a state hold what their machine types hold, and it is in the range of document 01's number 6: every event keeps both.
 use Prim.Native.Nat.{ℕ, _^_, _≤_, _<_}
+use mathlib.Core.Bool.{Bool, true, _&&_}
 use mathlib.Core.List.{List}
-use mathlib.Core.Path.{subst}
+use mathlib.Core.Path.{_≡_, subst}
+use native.Mathlib.Nat.{mod-lt}
 use native.Mathlib.Omega.{arith}
-use lib.Dec.{lit<}
-use Rattle.commands.specs.declared.request.Request.{Request}
-use Rattle.commands.specs.declared.request.Reply.{Reply}
-use Rattle.registers.specs.Controller.{controllerAnswer, spiEnabled, gpioEnabled, seuEnabled}
+use borrow.Author.Tests.{le-leb, leb-true}
+use lib.Dec.{leb, lit≤, lit<}
+use Rattle.bits.proofs.Tests.{and-left, and-right}
 use Rattle.parts.specs.Words.{wordsOf}
+use Rattle.parts.proofs.Laws.{AreBytes, bytes-drop}
+use Rattle.registers.specs.Registers.{count, within}
+use Rattle.registers.proofs.Laws.{RegistersFit}
+use Rattle.channels.specs.Rows.{allHeld}
+use Rattle.channels.proofs.Laws.{Sound, each-held, all-held, RequestFits, power-on-sound, answered-sound, sampled-sound, completed-sound, upset-sound}
+use Rattle.link.specs.Link.{sendUp}
+use Rattle.link.specs.declared.Link.{Link}
+use Rattle.packets.specs.Packets.{requestOf}
 use Rattle.chip.specs.Event.{Event}
-use Rattle.chip.proofs.EventFits.{EventFits}
-use Rattle.chip.specs.State.{poweredOn, powerOn, withLink}
-use Rattle.chip.specs.Link.{sendUp}
-use Rattle.chip.specs.Request.{requestOf}
+use Rattle.chip.specs.State.{poweredOn, powerOn, inRange, withLink, withRegisters}
 use Rattle.chip.specs.Frame.{informationOf, counted}
 use Rattle.chip.specs.Chip.{reaction}
 use Rattle.chip.specs.declared.Adapter.{Adapter}
-use Rattle.chip.specs.declared.link.Link.{Link}
-use Rattle.bits.proofs.Tests.{cond-cases}
-use Rattle.chip.proofs.Steps.{Touched, refused, by-controller, by-spi, by-gpio, by-seu, by-id, by-dac, Commanded, connects, resets, tests, Moved, requests, completes, samples, counts, state-cases}
-use Rattle.registers.proofs.Fits.{RequestFits, ControlFits, SpiFits, GpioFits, DacFits, control-zero-fits, spi-zero-fits, gpio-zero-fits, dac-zero-fits, controller-fits, spi-fits, gpio-fits, seu-fits, dac-fits, completed-fits, sampled-fits}
-use Rattle.parts.proofs.Laws.{AreBytes, bytes-drop}
+use Rattle.chip.proofs.EventFits.{EventFits}
+use Rattle.chip.proofs.Steps.{Commanded, connects, resets, tests, Moved, requests, completes, samples, counts, state-cases}
 
-pub record LinkFits (l : Link) : Type 0 where
-  pub send : l .send .0 < 2 ^ 8
-  pub receive : l .receive .0 < 2 ^ 8
-  pub port : l .port < 2 ^ 8
+-- ---- what the types hold
 
 pub record Fits (a : Adapter) : Type 0 where
-  pub link : LinkFits (a .link)
-  pub control : ControlFits (a .control)
-  pub spi : SpiFits (a .spi)
-  pub gpio : GpioFits (a .gpio)
-  pub dac : DacFits (a .dac)
-  pub seu : a .seu < 2 ^ 32
+  pub send : a .link .send .0 < 2 ^ 8
+  pub receive : a .link .receive .0 < 2 ^ 8
+  pub port : a .link .port < 2 ^ 8
+  pub registers : RegistersFit (a .registers)
   pub id : a .id < 2 ^ 32
+
+-- ---- document 01's list
+
+pub record InRange (a : Adapter) : Type 0 where
+  pub send : a .link .send .0 ≤ 7
+  pub receive : a .link .receive .0 ≤ 7
+  pub port : a .link .port ≤ 1
+  pub id : a .id ≤ 0xFFFFFF
+  pub masked : within count (a .registers) ≡ true
+  pub held : allHeld (a .registers) ≡ true
+
+in-range : (a : Adapter) → InRange a → inRange a ≡ true
+unfolding inRange
+in-range a r = simp (le-leb _ _ (r .send), le-leb _ _ (r .receive), le-leb _ _ (r .port), le-leb _ _ (r .id), r .masked) (r .held)
+
+pub of-in-range : (a : Adapter) → inRange a ≡ true → InRange a
+unfolding inRange
+of-in-range a h =
+    let s : Bool = leb (a .link .send .0) 7 in
+    let r : Bool = leb (a .link .receive .0) 7 in
+    let p : Bool = leb (a .link .port) 1 in
+    let i : Bool = leb (a .id) 0xFFFFFF in
+    let w : Bool = within count (a .registers) in
+    let h5 = and-left (s && r && p && i && w) (allHeld (a .registers)) h in
+    let h4 = and-left (s && r && p && i) w h5 in
+    let h3 = and-left (s && r && p) i h4 in
+    let h2 = and-left (s && r) p h3 in
+    record {
+      send = leb-true _ _ (and-left s r h2);
+      receive = leb-true _ _ (and-right s r h2);
+      port = leb-true _ _ (and-right (s && r) p h3);
+      id = leb-true _ _ (and-right (s && r && p) i h4);
+      masked = and-right (s && r && p && i) w h5;
+      held = and-right (s && r && p && i && w) (allHeld (a .registers)) h;
+    }
+
+-- ---- both, in one: the link, the registers, the ID
+
+pub record Good (a : Adapter) : Type 0 where
+  pub send : a .link .send .0 ≤ 7
+  pub receive : a .link .receive .0 ≤ 7
+  pub port : a .link .port ≤ 1
+  pub registers : Sound (a .registers)
+  pub id : a .id ≤ 0xFFFFFF
+
+pub good : (a : Adapter) → Fits a → inRange a ≡ true → Good a
+good a f h =
+    let r = of-in-range a h in
+    record {
+      send = r .send;
+      receive = r .receive;
+      port = r .port;
+      registers = record { fits = f .registers; masked = r .masked; held = each-held (a .registers) (r .held) };
+      id = r .id;
+    }
+
+pub good-fits : (a : Adapter) → Good a → Fits a
+good-fits a g =
+    record {
+      send = omega (arith, g .send);
+      receive = omega (arith, g .receive);
+      port = omega (arith, g .port);
+      registers = g .registers .fits;
+      id = omega (arith, g .id);
+    }
+
+pub good-ranged : (a : Adapter) → Good a → inRange a ≡ true
+good-ranged a g =
+    in-range a
+    (record { send = g .send; receive = g .receive; port = g .port; id = g .id; masked = g .registers .masked; held = all-held (a .registers) (g .registers .held) })
 
 -- ---- power-on
 
-powered-fits : (port id : ℕ) → port < 256 → id < 2 ^ 32 → Fits (poweredOn port id)
+powered-good : (port id : ℕ) → port ≤ 1 → id ≤ 0xFFFFFF → Good (poweredOn port id)
 unfolding poweredOn
-powered-fits port id p h =
-    record {
-      link = record { send = lit< tt; receive = lit< tt; port = p };
-      control = control-zero-fits;
-      spi = spi-zero-fits;
-      gpio = gpio-zero-fits;
-      dac = dac-zero-fits;
-      seu = lit< tt;
-      id = h;
-    }
+powered-good port id p h = record { send = lit≤ tt; receive = lit≤ tt; port = p; registers = power-on-sound; id = h }
 
-pub power-on-fits : (n : ℕ) → n < 2 ^ 32 → Fits (powerOn n)
-power-on-fits n h = powered-fits 0 n (lit< tt) h
+pub power-on-good : (n : ℕ) → n ≤ 0xFFFFFF → Good (powerOn n)
+power-on-good n h = powered-good 0 n (lit≤ tt) h
 
-with-link : (a : Adapter) (l : Link) → Fits a → LinkFits l → Fits (withLink a l)
-with-link a l f g = record { link = g; control = f .control; spi = f .spi; gpio = f .gpio; dac = f .dac; seu = f .seu; id = f .id }
+-- ---- events
+
+relinked : (a : Adapter) (l : Link) → Good a → l .send .0 ≤ 7 → l .receive .0 ≤ 7 → l .port ≤ 1 → Good (withLink a l)
+relinked a l g s r p = record { send = s; receive = r; port = p; registers = g .registers; id = g .id }
+
+stored : (a : Adapter) (rs : List ℕ) → Good a → Sound rs → Good (withRegisters a rs)
+stored a rs g s = record { send = g .send; receive = g .receive; port = g .port; registers = s; id = g .id }
+
+counted-good : (a : Adapter) → Good a → Good (counted a)
+counted-good a g = relinked a _ g (g .send) (omega arith) (g .port)
+
+raised-good : (a : Adapter) → Good a → Good (withLink a (sendUp (a .link)))
+raised-good a g = relinked a _ g (omega arith) (g .receive) (g .port)
 
 -- the request's TRN and D fit where the body is bytes
 request-fits : (body : List ℕ) → AreBytes body → RequestFits (requestOf (informationOf body))
@@ -65,51 +135,23 @@ request-fits body f =
       value = omega (arith, bytes-drop 2 body f 4, bytes-drop 2 body f 5, bytes-drop 2 body f 6, bytes-drop 2 body f 7);
     }
 
-touched-fits : (a : Adapter) (q : Request) (b : Adapter) (r : Reply) → Touched a q b r → Fits a → RequestFits q → Fits b
-touched-fits a q b r (refused e h) f v = f
-touched-fits a q b r by-controller f v =
-    record {
-      link = f .link;
-      control = controller-fits (a .control) q (f .control) v .0;
-      spi = cond-cases SpiFits (spiEnabled (controllerAnswer (a .control) q .control)) (λ _. f .spi) (λ _. spi-zero-fits);
-      gpio = cond-cases GpioFits (gpioEnabled (controllerAnswer (a .control) q .control)) (λ _. f .gpio) (λ _. gpio-zero-fits);
-      dac = f .dac;
-      seu = f .seu;
-      id = f .id;
-    }
-touched-fits a q b r by-spi f v =
-    record { link = f .link; control = f .control; spi = spi-fits (a .spi) q (f .spi) v (spiEnabled (a .control)) .0; gpio = f .gpio; dac = f .dac; seu = f .seu; id = f .id }
-touched-fits a q b r by-gpio f v =
-    record { link = f .link; control = f .control; spi = f .spi; gpio = gpio-fits (a .gpio) q (f .gpio) v (gpioEnabled (a .control)) .0; dac = f .dac; seu = f .seu; id = f .id }
-touched-fits a q b r by-seu f v =
-    record { link = f .link; control = f .control; spi = f .spi; gpio = f .gpio; dac = f .dac; seu = seu-fits (a .seu) (seuEnabled (a .control)) q (f .seu) .0; id = f .id }
-touched-fits a q b r by-id f v = f
-touched-fits a q b r by-dac f v =
-    record { link = f .link; control = f .control; spi = f .spi; gpio = f .gpio; dac = dac-fits (a .dac) q (f .dac) .0; seu = f .seu; id = f .id }
+commanded-good : (a : Adapter) (port control : ℕ) (b : Adapter) → Commanded a port control b → Good a → port ≤ 1 → Good b
+commanded-good a port control b (connects _) g p = relinked a _ g (lit≤ tt) (lit≤ tt) p
+commanded-good a port control b (resets _) g p = powered-good port (a .id) p (g .id)
+commanded-good a port control b (tests _) g p = relinked a _ g (g .send) (g .receive) (g .port)
 
-counted-fits : (a : Adapter) → Fits a → Fits (counted a)
-counted-fits a f = with-link a _ f (record { send = f .link .send; receive = omega arith; port = f .link .port })
+moved-good : (a : Adapter) (e : Event) (b : Adapter) → Moved a e b → Good a → EventFits e → Good b
+moved-good a e b (requests port body) g f =
+    stored (counted a) _ (counted-good a g) (answered-sound (a .registers) _ (g .registers) (request-fits body (f .bytes)) (a .id))
+moved-good a e b (completes received h) g f = stored a _ g (completed-sound (a .registers) (g .registers) (wordsOf 4 received) h)
+moved-good a e b (samples levels kind h) g f = stored a _ g (sampled-sound (a .registers) (g .registers) levels kind h)
+moved-good a e b counts g f = stored a _ g (upset-sound (a .registers) (g .registers) _ (mod-lt _ (lit< tt)))
 
-raised-fits : (a : Adapter) → Fits a → Fits (withLink a (sendUp (a .link)))
-raised-fits a f = with-link a _ f (record { send = omega arith; receive = f .link .receive; port = f .link .port })
+pub good-stays : (a : Adapter) (e : Event) → Good a → EventFits e → Good (reaction a e .adapter)
+good-stays a e g f =
+    state-cases a e Good g (λ port body b h c. commanded-good a port _ b c g (subst EventFits h f .port)) (λ b m. moved-good a e b m g f) raised-good
 
-port-byte : {p : ℕ} → p ≤ 1 → p < 256
-port-byte h = omega arith
-
-commanded-fits : (a : Adapter) (port control : ℕ) (b : Adapter) → Commanded a port control b → Fits a → port ≤ 1 → Fits b
-commanded-fits a port control b (connects _) f p = with-link a _ f (record { send = lit< tt; receive = lit< tt; port = port-byte p })
-commanded-fits a port control b (resets _) f p = powered-fits port (a .id) (port-byte p) (f .id)
-commanded-fits a port control b (tests _) f p = with-link a _ f (record { send = f .link .send; receive = f .link .receive; port = f .link .port })
-
-moved-fits : (a : Adapter) (e : Event) (b : Adapter) → Moved a e b → Fits a → EventFits e → Fits b
-moved-fits a e b (requests port body b₁ r t) f g = touched-fits _ _ b₁ r t (counted-fits a f) (request-fits body (g .bytes))
-moved-fits a e b (completes received h) f g =
-    record { link = f .link; control = f .control; spi = completed-fits (a .spi) (wordsOf 4 received) (f .spi) .0; gpio = f .gpio; dac = f .dac; seu = f .seu; id = f .id }
-moved-fits a e b (samples levels kind h) f g =
-    record { link = f .link; control = f .control; spi = f .spi; gpio = sampled-fits (a .gpio) levels kind (f .gpio); dac = f .dac; seu = f .seu; id = f .id }
-moved-fits a e b counts f g =
-    record { link = f .link; control = f .control; spi = f .spi; gpio = f .gpio; dac = f .dac; seu = omega arith; id = f .id }
-
-pub fits-kept : (a : Adapter) (e : Event) → Fits a → EventFits e → Fits (reaction a e .adapter)
-fits-kept a e f g =
-    state-cases a e Fits f (λ port body b h c. commanded-fits a port _ b c f (subst EventFits h g .port)) (λ b m. moved-fits a e b m f g) raised-fits
+-- both numbers stay below 8
+pub numbers-below : (a : Adapter) (e : Event) → Good a → EventFits e
+    → (reaction a e .adapter .link .send .0 < 8) × (reaction a e .adapter .link .receive .0 < 8)
+numbers-below a e g f = let r = good-stays a e g f in (omega (arith, r .send), omega (arith, r .receive))

@@ -1,5 +1,5 @@
 -- The chip's laws, for what stands above it.
-use Prim.Native.Nat.{ℕ, _+_, _*_, _/_, _%_, _^_, _≤_, _<_}
+use Prim.Native.Nat.{ℕ, _≤_}
 use mathlib.Core.Bool.{Bool, true, false, _&&_, _||_}
 use mathlib.Core.List.{List, [], _∷_}
 use mathlib.Core.Logic.{_⊎_, inl, inr}
@@ -7,25 +7,25 @@ use mathlib.Core.Path.{_≡_, refl, sym, ap, subst, _∙_}
 use native.Mathlib.Omega.{arith}
 use borrow.Author.Tests.{eqb-true}
 use lib.Dec.{eqb}
-use lib.Pow.{shr-shr}
 use lib.ListN.{length}
-use Rattle.chip.specs.Numbers.{address}
+use Rattle.packets.specs.Packets.{address, requestOf}
 use Rattle.chip.specs.Event.{Event, frame}
-use Rattle.chip.specs.State.{poweredOn}
+use Rattle.chip.specs.State.{poweredOn, withRegisters}
 use Rattle.chip.specs.Answer.{Reaction, sends, gives, response, Said, said, says}
-use Rattle.chip.specs.Link.{acknowledgeControl}
-use Rattle.parts.specs.Words.{word}
-use Rattle.chip.specs.Request.{byteOf, replies}
+use Rattle.link.specs.Link.{acknowledgeControl}
+use Rattle.channels.specs.Perform.{answered}
+use Rattle.commands.specs.declared.request.Reply.{Reply}
+use Rattle.commands.specs.declared.request.Reply.the-variants.{Sent, Later}
+use Rattle.chip.specs.Request.{replies, finished, requested}
 use Rattle.chip.specs.Frame.{isConnect, isReset, isResetFrame, addressOf, controlOf, informationOf, commanded, addressed, onFrame}
 use Rattle.chip.specs.Chip.{reaction, acceptedReset}
 use Rattle.chip.specs.declared.Adapter.{Adapter}
 use Rattle.chip.specs.declared.Response.{Response}
 use Rattle.bits.proofs.Tests.{and-left, and-right, or-second}
-use Rattle.chip.proofs.Steps.{touched-id, Commanded, connects, resets, tests, Moved, requests, completes, samples, counts, moved-send, Shape, dropped, acknowledged, echoed, rejected, replied, quiet, shapes, state-cases}
+use Rattle.chip.proofs.Steps.{moved-id, Commanded, connects, resets, tests, moved-send, Shape, dropped, acknowledged, echoed, rejected}
+use Rattle.chip.proofs.Steps.{replied, quiet, shapes, state-cases}
 pub use Rattle.chip.proofs.Bodies.{number-given, OneFrame, one-frame, silent, sendable, frame-bytes}
-pub use Rattle.chip.proofs.Fits.{Fits, power-on-fits, fits-kept}
-pub use Rattle.chip.proofs.Errors.{error-keeps}
-pub use Rattle.chip.proofs.Ranges.{power-on-in-range, range-kept, numbers-below, disabled-spi, disabled-gpio}
+pub use Rattle.chip.proofs.Fits.{Fits, Good, good, good-fits, good-ranged, power-on-good, good-stays, numbers-below}
 
 -- ---- the state in what an event leaves
 
@@ -56,12 +56,6 @@ unfolding poweredOn
 commanded-id a port control b (connects _) = refl
 commanded-id a port control b (resets _) = refl
 commanded-id a port control b (tests _) = refl
-
-moved-id : (a : Adapter) (e : Event) (b : Adapter) → Moved a e b → b .id ≡ a .id
-moved-id a e b (requests port body b₁ r t) = touched-id _ _ b₁ r t
-moved-id a e b (completes received h) = refl
-moved-id a e b (samples levels kind h) = refl
-moved-id a e b counts = refl
 
 pub id-stays : (a : Adapter) (e : Event) → reaction a e .adapter .id ≡ a .id
 id-stays a e =
@@ -96,6 +90,26 @@ send-number a e = by (reaction a e) (shapes a e)
     by r (replied b trn ch err len d m f) = raised b trn ch err len d (moved-send a e b m)
     by r (quiet b m) = stays _ (moved-send a e b m)
 
+-- ---- judging is performing without storing: a request's number, port and frames are those of its reply from the state as it was
+
+pub record SameAnswer (r t : Reaction) : Type 0 where
+  pub number : r .number ≡ t .number
+  pub port : r .port ≡ t .port
+  pub frames : r .frames ≡ t .frames
+
+abbrev pub judged : Adapter → List ℕ → Reaction
+judged a info = let q = requestOf info in finished a (q .trn) (q .ch) (answered (a .registers) (a .id) q .reply)
+
+pub judging : (a : Adapter) (info : List ℕ) → SameAnswer (requested a info) (judged a info)
+unfolding requested replies
+judging a info = by (answered (a .registers) (a .id) (requestOf info) .reply)
+  where
+    by : (p : Reply)
+        → SameAnswer (finished (withRegisters a (answered (a .registers) (a .id) (requestOf info) .registers)) (requestOf info .trn) (requestOf info .ch) p)
+        (finished a (requestOf info .trn) (requestOf info .ch) p)
+    by (Sent err len d) = record { number = refl; port = refl; frames = refl }
+    by Later = record { number = refl; port = refl; frames = refl }
+
 -- ---- RESET
 
 either : (c m n : ℕ) → (eqb c m || eqb c n) ≡ true → (P : ℕ → Type 0) → P m → P n → P c
@@ -119,18 +133,3 @@ accepted-reset a port body h =
     let command = and-right (eqb (addressOf body) address) (isReset (controlOf body)) h1 in
     let empty = and-right (eqb (addressOf body) address && isReset (controlOf body)) (eqb (length (informationOf body)) 0) h in
     simp (here, not-connect (controlOf body) command, command, empty)
-
--- ---- the wire
-
-four-digits : (d q1 q2 q3 r0 r1 r2 : ℕ) → d ≡ r0 + 256 * q1 → q1 ≡ r1 + 256 * q2 → q2 ≡ r2 + 256 * q3
-    → r0 + 256 * r1 + 65536 * r2 + 16777216 * q3 ≡ d
-four-digits d q1 q2 q3 r0 r1 r2 e f g = omega arith
-
--- D read from the four bytes of a reply's data, in the wire's order, is the D sent
-pub data-round : (d : ℕ) → d < 2 ^ 32 → word (byteOf d 0) (byteOf d 1) (byteOf d 2) (byteOf d 3) ≡ d
-data-round d h =
-    let e2 : d / 65536 ≡ d / 256 / 256 = sym (shr-shr d 8 8) in
-    let e3 : d / 16777216 ≡ d / 256 / 256 / 256 = sym (shr-shr d 16 8) ∙ ap (λ (n : ℕ). n / 256) e2 in
-    let small : d / 256 / 256 / 256 % 256 ≡ d / 256 / 256 / 256 = omega arith in
-    rw (e2, e3, small)
-    (four-digits d (d / 256) (d / 256 / 256) (d / 256 / 256 / 256) (d / 1 % 256) (d / 256 % 256) (d / 256 / 256 % 256) (omega arith) (omega arith) (omega arith))

@@ -3,11 +3,8 @@ pub mod Cases
 pub mod Answers
 pub mod Happens
 pub mod Steps
-pub mod Replies
 pub mod Bodies
 pub mod Fits
-pub mod Ranges
-pub mod Errors
 pub mod Laws
 pub mod OneOutcome
 pub mod Examples

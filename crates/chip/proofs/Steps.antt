@@ -1,100 +1,40 @@
 -- What an event comes to: the shape of its answer, and beside it what changed of the state. A law about answers goes through the shapes
 -- (`shapes`), a law about the state through what can move it (`state-cases`).
 use Prim.Native.Nat.{ℕ, _+_, _%_, _^_, _≤_, _<_}
-use mathlib.Core.Bool.{true, not, _||_}
+use mathlib.Core.Bool.{true, not}
 use mathlib.Core.List.{List, [], _∷_}
-use mathlib.Core.Path.{_≡_, refl, ap}
+use mathlib.Core.Path.{_≡_, refl}
 use borrow.Author.Tests.{not-false}
+use native.Mathlib.Nat.{mod-lt}
 use lib.Dec.{eqb, lit≤, lit<}
 use lib.ListN.{length, getD, drop}
 use Rattle.bits.specs.Bits.{bitOf}
 use Rattle.bits.proofs.Tests.{cond-cases}
-use Rattle.commands.specs.declared.channel.Channel.{Channel}
-use Rattle.commands.specs.declared.channel.Channel.the-variants.{Controller, Spi, Gpio, Seu, Id, Dac, Unknown}
-use Rattle.commands.specs.declared.request.Request.{Request}
+use Rattle.commands.specs.declared.channel.Channel.the-variants.{Spi, Gpio}
+use Rattle.commands.specs.declared.command.Register.the-variants.{SpiGo, Seu}
 use Rattle.commands.specs.declared.request.Reply.{Reply}
 use Rattle.commands.specs.declared.request.Reply.the-variants.{Sent, Later}
-use Rattle.commands.specs.Request.{refusal, trnWrong, chUnknown}
-use Rattle.commands.specs.Channels.{channelOf}
-use Rattle.registers.specs.Controller.{controllerAnswer, spiEnabled, gpioEnabled, seuEnabled, idEnabled}
-use Rattle.registers.specs.Spi.{spiBusy, spiAnswer, spiCompleted}
-use Rattle.registers.specs.Gpio.{gpioAnswer}
-use Rattle.registers.specs.Pins.{gpioSampled}
-use Rattle.registers.specs.Seu.{seuAnswer}
-use Rattle.registers.specs.ChipId.{idAnswer}
-use Rattle.registers.specs.Dac.{dacAnswer}
+use Rattle.registers.specs.Registers.{read, store}
+use Rattle.registers.specs.Pins.{sampled}
+use Rattle.registers.specs.Transfer.{completed}
+use Rattle.channels.specs.Rows.{isEnabled, isBusy}
+use Rattle.channels.specs.Perform.{answered}
+use Rattle.channels.specs.declared.Answered.{Answered}
+use Rattle.channels.proofs.Laws.{ReplyBytes, answered-bytes}
 use Rattle.chip.specs.Event.{Event, frame, completion, sample, upset, spi}
 use Rattle.parts.specs.Words.{wordsOf}
 use Rattle.parts.proofs.Laws.{bytes-drop}
 use Rattle.chip.proofs.EventFits.{EventFits}
-use Rattle.chip.proofs.Replies.{ReplyBytes, control-reply, spi-reply, gpio-reply, seu-reply, id-reply, dac-reply}
 use Rattle.numbers.specs.Numbers.{otherAddress, otherPort, otherControl, badInformation, noFrame, notBusy, linesDisabled}
-use Rattle.chip.specs.Numbers.{address, noTransaction, interruptTransaction}
-use Rattle.chip.specs.State.{withLink, withControl, withSpi, withGpio, withDac, withSeu}
+use Rattle.packets.specs.Packets.{address, requestOf}
+use Rattle.chip.specs.State.{withLink, withRegisters}
 use Rattle.chip.specs.Answer.{Reaction, sends, gives}
-use Rattle.chip.specs.Link.{rejectControl, acknowledgeControl, receiveNumber, sendUp, numberIn, inLoopback}
-use Rattle.chip.specs.Request.{requestOf, onChannel, answered, replies, finished, requested}
-use Rattle.chip.specs.Frame.{isConnect, isReset, isTest, controlOf, informationOf, connected, reset, looped, counted, commanded, numbered, carried, addressed, onFrame}
+use Rattle.link.specs.Link.{rejectControl, acknowledgeControl, receiveNumber, sendUp, numberIn, inLoopback}
+use Rattle.chip.specs.Request.{replies, finished, requested}
+use Rattle.chip.specs.Frame.{isConnect, isReset, isTest, controlOf, informationOf, connected, reset, looped, counted, commanded, numbered}
+use Rattle.chip.specs.Frame.{carried, addressed, onFrame}
 use Rattle.chip.specs.Chip.{onSpi, onSample, onUpset, reaction}
 use Rattle.chip.specs.declared.Adapter.{Adapter}
-use Rattle.chip.specs.declared.link.Link.{Link}
-use Rattle.chip.specs.declared.request.Answered.{Answered}
-
--- ---- how a request can change the state: one channel's registers, by that channel's own answer
-
-pub data Touched (a : Adapter) (q : Request) : Adapter → Reply → Type 0 where
-  refused : (e : ℕ) → e < 256 → Touched a q a (refusal e)
-  by-controller : Touched a q (withControl a (controllerAnswer (a .control) q .control)) (controllerAnswer (a .control) q .reply)
-  by-spi : Touched a q (withSpi a (spiAnswer (a .spi) (spiEnabled (a .control)) q .spi)) (spiAnswer (a .spi) (spiEnabled (a .control)) q .reply)
-  by-gpio : Touched a q (withGpio a (gpioAnswer (a .gpio) (gpioEnabled (a .control)) q .gpio)) (gpioAnswer (a .gpio) (gpioEnabled (a .control)) q .reply)
-  by-seu : Touched a q (withSeu a (seuAnswer (a .seu) (seuEnabled (a .control)) q .seu)) (seuAnswer (a .seu) (seuEnabled (a .control)) q .reply)
-  by-id : Touched a q a (idAnswer (a .id) (idEnabled (a .control)) q)
-  by-dac : Touched a q (withDac a (dacAnswer (a .dac) q .dac)) (dacAnswer (a .dac) q .reply)
-
-on-channel : (a : Adapter) (q : Request) (c : Channel) → Touched a q (onChannel a q c .adapter) (onChannel a q c .reply)
-unfolding onChannel
-on-channel a q Controller = by-controller
-on-channel a q Spi = by-spi
-on-channel a q Gpio = by-gpio
-on-channel a q Seu = by-seu
-on-channel a q Id = by-id
-on-channel a q Dac = by-dac
-on-channel a q Unknown = refused chUnknown (lit< tt)
-
-pub touched : (a : Adapter) (q : Request) → Touched a q (answered a q .adapter) (answered a q .reply)
-unfolding answered
-touched a q =
-    cond-cases (λ (x : Answered). Touched a q (x .adapter) (x .reply)) (eqb (q .trn) noTransaction || eqb (q .trn) interruptTransaction)
-    (λ _. refused trnWrong (lit< tt)) (λ _. on-channel a q (channelOf (q .ch)))
-
-pub touched-link : (a : Adapter) (q : Request) (b : Adapter) (r : Reply) → Touched a q b r → b .link ≡ a .link
-touched-link a q b r (refused e h) = refl
-touched-link a q b r by-controller = refl
-touched-link a q b r by-spi = refl
-touched-link a q b r by-gpio = refl
-touched-link a q b r by-seu = refl
-touched-link a q b r by-id = refl
-touched-link a q b r by-dac = refl
-
-pub touched-id : (a : Adapter) (q : Request) (b : Adapter) (r : Reply) → Touched a q b r → b .id ≡ a .id
-touched-id a q b r (refused e h) = refl
-touched-id a q b r by-controller = refl
-touched-id a q b r by-spi = refl
-touched-id a q b r by-gpio = refl
-touched-id a q b r by-seu = refl
-touched-id a q b r by-id = refl
-touched-id a q b r by-dac = refl
-
--- ---- what an event can come to
-
-touched-reply : (a : Adapter) (q : Request) (b : Adapter) (r : Reply) → Touched a q b r → ReplyBytes r
-touched-reply a q b r (refused e h) = (h, lit< tt)
-touched-reply a q b r by-controller = control-reply (a .control) q
-touched-reply a q b r by-spi = spi-reply (a .spi) q (spiEnabled (a .control))
-touched-reply a q b r by-gpio = gpio-reply (a .gpio) q (gpioEnabled (a .control))
-touched-reply a q b r by-seu = seu-reply (a .seu) q (seuEnabled (a .control))
-touched-reply a q b r by-id = id-reply (a .id) q (idEnabled (a .control))
-touched-reply a q b r by-dac = dac-reply (a .dac) q
 
 -- ---- how an event can change the state, but for the send number of a reply
 
@@ -104,26 +44,36 @@ pub data Commanded (a : Adapter) (port control : ℕ) : Adapter → Type 0 where
   resets : isReset control ≡ true → Commanded a port control (reset a port)
   tests : isTest control ≡ true → Commanded a port control (looped a port)
 
--- by a request, a completion, a pin sample or an upset
-pub data Moved (a : Adapter) : Event → Adapter → Type 0 where
-  requests : (port : ℕ) (body : List ℕ) (b : Adapter) (r : Reply) → Touched (counted a) (requestOf (informationOf body)) b r → Moved a (frame port body) b
-  completes : (received : List ℕ) → spiBusy (a .spi) ≡ true
-      → Moved a (completion (spi received)) (withSpi a (spiCompleted (a .spi) (wordsOf 4 received) .spi))
-  samples : (levels kind : ℕ) → gpioEnabled (a .control) ≡ true → Moved a (sample levels kind) (withGpio a (gpioSampled (a .gpio) levels kind .gpio))
-  counts : Moved a upset (withSeu a ((a .seu + 1) % 2 ^ 32))
+-- what a request answers, and the registers that it leaves
+abbrev pub answeredBy : Adapter → List ℕ → Answered
+answeredBy a body = answered (a .registers) (a .id) (requestOf (informationOf body))
 
--- none of these moves the send number or the active port
+-- the registers anew, by a request, a completion, a pin sample or an upset
+pub data Moved (a : Adapter) : Event → Adapter → Type 0 where
+  requests : (port : ℕ) (body : List ℕ) → Moved a (frame port body) (withRegisters (counted a) (answeredBy a body .registers))
+  completes : (received : List ℕ) → isBusy (a .registers) Spi ≡ true
+      → Moved a (completion (spi received)) (withRegisters a (completed (a .registers) (wordsOf 4 received)))
+  samples : (levels kind : ℕ) → isEnabled (a .registers) Gpio ≡ true → Moved a (sample levels kind) (withRegisters a (sampled (a .registers) levels kind .registers))
+  counts : Moved a upset (withRegisters a (store (a .registers) Seu ((read (a .registers) Seu + 1) % 2 ^ 32)))
+
+-- none of these moves the send number, the active port or the ID
 pub moved-send : (a : Adapter) (e : Event) (b : Adapter) → Moved a e b → b .link .send ≡ a .link .send
-moved-send a e b (requests port body b₁ r t) = ap (λ (l : Link). l .send) (touched-link _ _ b₁ r t)
+moved-send a e b (requests port body) = refl
 moved-send a e b (completes received h) = refl
 moved-send a e b (samples levels kind h) = refl
 moved-send a e b counts = refl
 
 pub moved-port : (a : Adapter) (e : Event) (b : Adapter) → Moved a e b → b .link .port ≡ a .link .port
-moved-port a e b (requests port body b₁ r t) = ap (λ (l : Link). l .port) (touched-link _ _ b₁ r t)
+moved-port a e b (requests port body) = refl
 moved-port a e b (completes received h) = refl
 moved-port a e b (samples levels kind h) = refl
 moved-port a e b counts = refl
+
+pub moved-id : (a : Adapter) (e : Event) (b : Adapter) → Moved a e b → b .id ≡ a .id
+moved-id a e b (requests port body) = refl
+moved-id a e b (completes received h) = refl
+moved-id a e b (samples levels kind h) = refl
+moved-id a e b counts = refl
 
 -- ---- the shapes of an answer
 
@@ -144,7 +94,7 @@ pub data Shape (a : Adapter) (e : Event) : Reaction → Type 0 where
   echoed : (port : ℕ) (body : List ℕ) → e ≡ frame port body → Shape a e (sends a port body)
   rejected : (port : ℕ) (body : List ℕ) → e ≡ frame port body → Shape a e (sends a port (address ∷ rejectControl (a .link) ∷ []))
   -- a reply or an interrupt
-  replied : (b : Adapter) (trn ch err len d : ℕ) → Moved a e b → (a .spi .go < 256 → EventFits e → HeaderBytes trn ch err len)
+  replied : (b : Adapter) (trn ch err len d : ℕ) → Moved a e b → (EventFits e → HeaderBytes trn ch err len)
       → Shape a e (replies b trn ch err len d)
   -- 17
   quiet : (b : Adapter) → Moved a e b → Shape a e (gives b noFrame)
@@ -156,21 +106,17 @@ module _ (a : Adapter) (port : ℕ) (body : List ℕ) where
       cond-cases (Shape a (frame port body)) (not (eqb (length (drop 2 body)) 0)) (λ _. dropped badInformation (lit≤ tt) (lit≤ tt))
       (λ _. acknowledged port body refl b c)
 
-  of-reply : (b : Adapter) (r : Reply) → Touched (counted a) (requestOf (informationOf body)) b r
-      → Shape a (frame port body) (finished b (requestOf (informationOf body) .trn) (requestOf (informationOf body) .ch) r)
-  of-reply b (Sent err len d) t =
-      replied b _ _ err len d (requests port body b _ t)
-      (λ _ f. record {
-        trn = bytes-drop 2 body (f .bytes) 0;
-        ch = bytes-drop 2 body (f .bytes) 1;
-        err = touched-reply _ _ _ _ t .0;
-        len = touched-reply _ _ _ _ t .1;
-      })
-  of-reply b Later t = quiet b (requests port body b _ t)
+  of-reply : (r : Reply) → ReplyBytes r
+      → Shape a (frame port body)
+      (finished (withRegisters (counted a) (answeredBy a body .registers)) (requestOf (informationOf body) .trn) (requestOf (informationOf body) .ch) r)
+  of-reply (Sent err len d) t =
+      replied _ _ _ err len d (requests port body)
+      (λ f. record { trn = bytes-drop 2 body (f .bytes) 0; ch = bytes-drop 2 body (f .bytes) 1; err = t .0; len = t .1 })
+  of-reply Later t = quiet _ (requests port body)
 
   of-request : Shape a (frame port body) (requested (counted a) (drop 2 body))
   unfolding requested
-  of-request = of-reply _ _ (touched (counted a) (requestOf (drop 2 body)))
+  of-request = of-reply (answeredBy a body .reply) (answered-bytes (a .registers) (a .id) (requestOf (drop 2 body)))
 
   of-order : Shape a (frame port body) (numbered a port (controlOf body) (drop 2 body))
   unfolding numbered
@@ -201,18 +147,18 @@ module _ (a : Adapter) (port : ℕ) (body : List ℕ) where
 
 -- every event's answer has one of them
 pub shapes : (a : Adapter) (e : Event) → Shape a e (reaction a e)
-unfolding reaction onSpi onSample onUpset spiCompleted
+unfolding reaction onSpi onSample onUpset
 shapes a (frame port body) = of-frame a port body
 shapes a (completion (spi received)) =
-    cond-cases (Shape a (completion (spi received))) (not (spiBusy (a .spi))) (λ _. dropped notBusy (lit≤ tt) (lit≤ tt))
-    (λ h. replied _ _ _ _ _ _ (completes received (not-false (spiBusy (a .spi)) h))
-    (λ g _. record { trn = g; ch = lit< tt; err = lit< tt; len = lit< tt }))
+    cond-cases (Shape a (completion (spi received))) (not (isBusy (a .registers) Spi)) (λ _. dropped notBusy (lit≤ tt) (lit≤ tt))
+    (λ h. replied _ _ _ _ _ _ (completes received (not-false (isBusy (a .registers) Spi) h))
+    (λ _. record { trn = mod-lt (read (a .registers) SpiGo) (lit< tt); ch = lit< tt; err = lit< tt; len = lit< tt }))
 shapes a (sample levels kind) =
-    cond-cases (Shape a (sample levels kind)) (not (gpioEnabled (a .control))) (λ _. dropped linesDisabled (lit≤ tt) (lit≤ tt))
-    (λ h. cond-cases (Shape a (sample levels kind)) (gpioSampled (a .gpio) levels kind .interrupt)
-    (λ _. replied _ _ _ _ _ _ (samples levels kind (not-false (gpioEnabled (a .control)) h))
-    (λ _ _. record { trn = lit< tt; ch = lit< tt; err = lit< tt; len = lit< tt }))
-    (λ _. quiet _ (samples levels kind (not-false (gpioEnabled (a .control)) h))))
+    cond-cases (Shape a (sample levels kind)) (not (isEnabled (a .registers) Gpio)) (λ _. dropped linesDisabled (lit≤ tt) (lit≤ tt))
+    (λ h. cond-cases (Shape a (sample levels kind)) (sampled (a .registers) levels kind .interrupt)
+    (λ _. replied _ _ _ _ _ _ (samples levels kind (not-false (isEnabled (a .registers) Gpio) h))
+    (λ _. record { trn = lit< tt; ch = lit< tt; err = lit< tt; len = lit< tt }))
+    (λ _. quiet _ (samples levels kind (not-false (isEnabled (a .registers) Gpio) h))))
 shapes a upset = quiet _ counts
 
 -- ---- the state after an event

@@ -2,25 +2,31 @@
 use Prim.Native.Nat.{ℕ, _+_, _%_, _^_}
 use mathlib.Core.Bool.{Bool, false, not, cond}
 use mathlib.Core.List.{List}
-use Rattle.registers.specs.Controller.{gpioEnabled}
-use Rattle.registers.specs.Spi.{spiBusy, spiCompleted}
-use Rattle.registers.specs.Pins.{gpioSampled}
-use Rattle.chip.specs.Event.{Completion, spi, Event, frame, completion, sample, upset}
-use Rattle.parts.specs.Words.{wordsOf}
 use Rattle.numbers.specs.Numbers.{notBusy, linesDisabled, noFrame}
-use Rattle.chip.specs.Numbers.{spiChannel, gpioChannel, interruptTransaction, interruptLength}
-use Rattle.chip.specs.State.{withSpi, withGpio, withSeu}
+use Rattle.parts.specs.Words.{wordsOf}
+use Rattle.commands.specs.declared.channel.Channel.the-variants.{Spi, Gpio}
+use Rattle.commands.specs.declared.command.Register.the-variants.{SpiData0, SpiGo, Ints, Seu}
+use Rattle.commands.specs.Spi.{go}
+use Rattle.registers.specs.Registers.{read, store}
+use Rattle.registers.specs.Transfer.{completed}
+use Rattle.registers.specs.Pins.{sampled}
+use Rattle.channels.specs.Rows.{isEnabled, isBusy}
+use Rattle.commands.specs.Request.{interruptTransaction}
+use Rattle.chip.specs.Event.{Completion, spi, Event, frame, completion, sample, upset}
+use Rattle.chip.specs.Numbers.{spiChannel, gpioChannel, interruptLength}
+use Rattle.chip.specs.State.{withRegisters}
 use Rattle.chip.specs.Answer.{Reaction, gives}
-use Rattle.chip.specs.Request.{replies, finished}
+use Rattle.chip.specs.Request.{replies}
 use Rattle.chip.specs.Frame.{onFrame, isResetFrame}
 use Rattle.chip.specs.declared.Adapter.{Adapter}
 
--- Completion when not busy: 15. Else the GO's reply, with its own TRN. Byte 0 of the received ones holds bits 7 to 0.
+-- Completion when not busy: 15. Else the GO's reply, with its own TRN, carries DATA[31:0]. Byte 0 of the received ones holds bits 7 to 0.
+-- (A TRN is a byte: in a state in range the remainder takes nothing away.)
 unfoldable pub onSpi : Adapter → List ℕ → Reaction
 onSpi a received =
-    cond (not (spiBusy (a .spi))) (gives a notBusy)
-    (let x = spiCompleted (a .spi) (wordsOf 4 received) in
-    finished (withSpi a (x .spi)) (a .spi .go) spiChannel (x .reply))
+    cond (not (isBusy (a .registers) Spi)) (gives a notBusy)
+    (let after = completed (a .registers) (wordsOf 4 received) in
+    replies (withRegisters a after) (read (a .registers) SpiGo % 0x100) spiChannel 0 (go .given) (read after SpiData0))
 
 abbrev pub onCompletion : Adapter → Completion → Reaction
 onCompletion a (spi received) = onSpi a received
@@ -28,15 +34,15 @@ onCompletion a (spi received) = onSpi a received
 -- A pin sample with GPIO disabled: 16. Else an interrupt with data INTS where one goes out, or 17.
 unfoldable pub onSample : Adapter → ℕ → ℕ → Reaction
 onSample a levels kind =
-    cond (not (gpioEnabled (a .control))) (gives a linesDisabled)
-    (let x = gpioSampled (a .gpio) levels kind in
+    cond (not (isEnabled (a .registers) Gpio)) (gives a linesDisabled)
+    (let x = sampled (a .registers) levels kind in
     cond (x .interrupt)
-    (replies (withGpio a (x .gpio)) interruptTransaction gpioChannel 0 interruptLength (x .gpio .ints))
-    (gives (withGpio a (x .gpio)) noFrame))
+    (replies (withRegisters a (x .registers)) interruptTransaction gpioChannel 0 interruptLength (read (x .registers) Ints))
+    (gives (withRegisters a (x .registers)) noFrame))
 
 -- An upset adds 1 to a 32-bit counter that wraps to 0, and gives 17.
 unfoldable pub onUpset : Adapter → Reaction
-onUpset a = gives (withSeu a ((a .seu + 1) % 2 ^ 32)) noFrame
+onUpset a = gives (withRegisters a (store (a .registers) Seu ((read (a .registers) Seu + 1) % 2 ^ 32))) noFrame
 
 unfoldable pub reaction : Adapter → Event → Reaction
 reaction a (frame port body) = onFrame a port body

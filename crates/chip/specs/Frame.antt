@@ -5,11 +5,11 @@ use mathlib.Core.List.{List, [], _∷_}
 use lib.Dec.{eqb}
 use lib.ListN.{length, getD, drop}
 use Rattle.numbers.specs.Numbers.{otherAddress, otherPort, otherControl, badInformation}
-use Rattle.chip.specs.Numbers.{address}
+use Rattle.packets.specs.Packets.{address}
 use Rattle.bits.specs.Bits.{bitOf}
 use Rattle.chip.specs.State.{withLink, poweredOn}
 use Rattle.chip.specs.Answer.{Reaction, sends, gives}
-use Rattle.chip.specs.Link.{receiveNumber, receiveUp, numberIn, rejectControl, acknowledgeControl, freshLink, loopedAt, inLoopback}
+use Rattle.link.specs.Link.{receiveNumber, receiveUp, numberIn, rejectControl, acknowledgeControl, freshLink, loopedAt, inLoopback}
 use Rattle.chip.specs.Request.{requested}
 use Rattle.chip.specs.declared.Adapter.{Adapter}
 

@@ -11,11 +11,14 @@ use crate::Response;
 use crate::answer;
 use crate::frame;
 use crate::request;
-use registers::controller;
+use commands::channel::Channel;
+use commands::command::Register;
+use commands::request::INTERRUPT;
+use commands::spi::GO;
 use registers::gpio;
 use registers::spi;
 
-// The channels of a GO's reply and of an interrupt, and an interrupt's LEN.
+// The channels of a GO's reply and of an interrupt; an interrupt's LEN.
 const SPI_CHANNEL: u8 = 0x01;
 
 const GPIO_CHANNEL: u8 = 0x02;
@@ -39,23 +42,27 @@ pub fn is_reset(body: &[u8]) -> bool
     frame::resets(body)
 }
 
-// An SPI completion with 16 received bytes.
+// An SPI completion with 16 received bytes: the GO's reply, with its own TRN.
 pub fn on_spi(a: Adapter, received: &[u8], output: &mut [u8]) -> Response
     requires { ⌜ length (now received) ≡ transferBytes ⌝ }
     requires { ⌜ outputLeast ≤ length (now output) ⌝ }
     ensures { λ r. ⌜ said r (now (output .exit)) ≡ says (reaction a (Event.completion (Completion.spi (now (received .entry))))) (now (output .entry)) ⌝ }
 {
-    let s = a.spi;
-    let go = s.go;
-    if go == 0 {
-        return answer::give(a, numbers::NOT_BUSY);
+    let registers = a.registers;
+    if channels::is_busy(registers, Channel::Spi) {
+        let mut words = [0u32; 4];
+        parts::load_words(received, &mut words);
+        let after = spi::complete(registers, words);
+        let go = (registers::read(registers, Register::SpiGo) % 0x100) as u8;
+        let value = registers::read(after, Register::SpiData0);
+        let b = Adapter {
+            registers: after,
+            ..a
+        };
+        request::reply(b, go, SPI_CHANNEL, 0, GO.given, value, output)
+    } else {
+        answer::give(a, numbers::NOT_BUSY)
     }
-    let mut words = [0u32; 4];
-    parts::load_words(received, &mut words);
-    let x = spi::completed(s, words);
-    let after = x.spi;
-    let told = x.reply;
-    request::finish(Adapter { spi: after, ..a }, go, SPI_CHANNEL, told, output)
 }
 
 // A pin sample with 32 levels and an edge kind.
@@ -63,21 +70,23 @@ pub fn on_sample(a: Adapter, levels: u32, kind: u8, output: &mut [u8]) -> Respon
     requires { ⌜ outputLeast ≤ length (now output) ⌝ }
     ensures { λ r. ⌜ said r (now (output .exit)) ≡ says (reaction a (Event.sample levels kind)) (now (output .entry)) ⌝ }
 {
-    let control = a.control;
-    if controller::gpio_enabled(control) {
-        let g = a.gpio;
-        let x = gpio::sample(g, levels, kind);
-        let mut b = a;
-        let after = x.gpio;
-        b.gpio = after;
+    let registers = a.registers;
+    if channels::is_enabled(registers, Channel::Gpio) {
+        let x = gpio::sample(registers, levels, kind);
+        let after = x.registers;
+        let b = Adapter {
+            registers: after,
+            ..a
+        };
         if x.interrupt {
+            let ints = registers::read(after, Register::Ints);
             request::reply(
                 b,
-                request::INTERRUPT,
+                INTERRUPT,
                 GPIO_CHANNEL,
                 0,
                 INTERRUPT_LENGTH,
-                after.ints,
+                ints,
                 output,
             )
         } else {
@@ -92,7 +101,12 @@ pub fn on_sample(a: Adapter, levels: u32, kind: u8, output: &mut [u8]) -> Respon
 pub fn on_upset(a: Adapter) -> Response
     ensures { λ r. ⌜ r ≡ response (reaction a Event.upset) ⌝ }
 {
-    let mut b = a;
-    b.seu = std::num::wrapping_add_u32(a.seu, 1);
+    let registers = a.registers;
+    let count = std::num::wrapping_add_u32(registers::read(registers, Register::Seu), 1);
+    let after = registers::store(registers, Register::Seu, count);
+    let b = Adapter {
+        registers: after,
+        ..a
+    };
     answer::give(b, numbers::NO_FRAME)
 }

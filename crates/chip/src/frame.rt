@@ -8,7 +8,6 @@ ghost use Rattle.chip.specs.Frame.{isConnect, isReset, isResetFrame, isT
 use crate::Adapter;
 use crate::Response;
 use crate::answer;
-use crate::link;
 use crate::request;
 use crate::state;
 
@@ -66,7 +65,7 @@ pub(crate) fn resets(body: &[u8]) -> bool
     requires { ⌜ bodyLeast ≤ length (now body) ⌝ }
     ensures { λ r. ⌜ r ≡ isResetFrame (now (body .entry)) ⌝ }
 {
-    if body[0] != link::ADDRESS {
+    if body[0] != packets::ADDRESS {
         return false;
     }
     if is_reset(body[1]) {
@@ -100,7 +99,7 @@ fn command(a: Adapter, b: Adapter, port: u8, body: &[u8], output: &mut [u8]) -> 
     ensures { λ r. ⌜ said r (now (output .exit)) ≡ says (commanded a b port (now (body .entry))) (now (output .entry)) ⌝ }
 {
     if body.len() == 2 {
-        let acknowledgement = [link::ADDRESS, link::acknowledge_control(body[1])];
+        let acknowledgement = [packets::ADDRESS, link::acknowledge_control(body[1])];
         answer::send(b, port, &acknowledgement, output)
     } else {
         answer::give(a, numbers::BAD_INFORMATION)
@@ -119,7 +118,7 @@ fn in_order(a: Adapter, port: u8, control: u8, info: &[u8], output: &mut [u8]) -
         let after = Adapter { link: counted, ..a };
         request::request(after, info, output)
     } else {
-        let reject = [link::ADDRESS, link::reject_control(link)];
+        let reject = [packets::ADDRESS, link::reject_control(link)];
         answer::send(a, port, &reject, output)
     }
 }
@@ -171,7 +170,7 @@ pub(crate) fn check(a: Adapter, port: u8, body: &[u8], output: &mut [u8]) -> Res
     requires { ⌜ outputLeast ≤ length (now output) ⌝ }
     ensures { λ r. ⌜ said r (now (output .exit)) ≡ says (onFrame a port (now (body .entry))) (now (output .entry)) ⌝ }
 {
-    if body[0] != link::ADDRESS {
+    if body[0] != packets::ADDRESS {
         return answer::give(a, numbers::OTHER_ADDRESS);
     }
     check_control(a, port, body, output)

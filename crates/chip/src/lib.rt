@@ -2,23 +2,15 @@
 mod answer;
 pub mod events;
 mod frame;
-pub mod link;
 mod request;
 pub mod state;
 
 use link::Link;
-use registers::controller::Control;
-use registers::dac::Dac;
-use registers::gpio::Gpio;
-use registers::spi::Spi;
+use registers::COUNT;
 
 pub struct Adapter {
     pub link: Link,
-    pub control: Control,
-    pub spi: Spi,
-    pub gpio: Gpio,
-    pub dac: Dac,
-    pub seu: u32,
+    pub registers: [u32; COUNT],
     pub id: u32,
 }
 

@@ -1,1 +1,2 @@
+-- One outcome for each call.
 pub mod OneOutcome

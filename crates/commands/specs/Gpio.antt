@@ -1,13 +1,12 @@
 -- The commands of channel 0x02, the 32 parallel lines.
-use Prim.Native.Nat.{ℕ}
 use mathlib.Core.List.{List, [], _∷_}
-use Rattle.bits.specs.Table.{Row, row, look}
-use Rattle.commands.specs.declared.request.Lengths.{Lengths}
-use Rattle.commands.specs.declared.gpio.Command.{Command}
-use Rattle.commands.specs.declared.gpio.Command.the-variants.{Known, Unknown}
-use Rattle.commands.specs.declared.gpio.Does.the-variants.{Write, Read, ReadDatain}
-use Rattle.commands.specs.declared.gpio.Register.the-variants.{Dataout, Direction, Intsel, Inttrig, Ints, Clksel, Edgesel, Intenable}
-use Rattle.commands.specs.Request.{lengths}
+use Rattle.bits.specs.Table.{Row, row}
+use Rattle.commands.specs.declared.command.Command.{Command}
+use Rattle.commands.specs.declared.command.Command.the-variants.{Known}
+use Rattle.commands.specs.declared.command.Does.the-variants.{Write, Read}
+use Rattle.commands.specs.declared.command.Lengths.{Lengths}
+use Rattle.commands.specs.declared.command.Register.the-variants.{Dataout, Direction, Intsel, Inttrig, Ints, Clksel, Edgesel, Intenable, Datain}
+use Rattle.commands.specs.Command.{lengths}
 
 -- LEN: write 4/2, read 1/4
 abbrev write : Lengths
@@ -16,6 +15,7 @@ write = lengths 4 2
 abbrev read : Lengths
 read = lengths 1 4
 
+-- DATAIN is only read
 abbrev pub gpioCommands : List (Row Command)
 gpioCommands =
     row 0x10 (Known write (Write Dataout))
@@ -34,8 +34,5 @@ gpioCommands =
     ∷ row 0x91 (Known read (Read Edgesel))
     ∷ row 0x60 (Known write (Write Intenable))
     ∷ row 0x61 (Known read (Read Intenable))
-    ∷ row 0x01 (Known read ReadDatain)
+    ∷ row 0x01 (Known read (Read Datain))
     ∷ []
-
-unfoldable pub gpioCommand : ℕ → Command
-gpioCommand cmd = look gpioCommands Unknown cmd

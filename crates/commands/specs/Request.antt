@@ -1,8 +1,14 @@
 -- What requests to all channels have in common.
 use Prim.Native.Nat.{ℕ}
-use Rattle.commands.specs.declared.request.Lengths.{Lengths}
 use Rattle.commands.specs.declared.request.Reply.{Reply}
 use Rattle.commands.specs.declared.request.Reply.the-variants.{Sent}
+
+-- no request's TRN is one of these; the second is an interrupt's
+abbrev pub noTransaction : ℕ
+noTransaction = 0x00
+
+abbrev pub interruptTransaction : ℕ
+interruptTransaction = 0xFF
 
 -- Table 4.2. One error bit is set, the first that applies, in this order.
 abbrev pub trnWrong : ℕ
@@ -30,7 +36,3 @@ refusal error = Sent error 2 0
 -- a reply without an error
 abbrev pub granted : ℕ → ℕ → Reply
 granted length value = Sent 0 length value
-
--- LEN of a command, request/reply
-abbrev pub lengths : ℕ → ℕ → Lengths
-lengths asked given = record { asked = asked; given = given }

@@ -1,12 +1,12 @@
 -- The commands of channel 0x13, the counter of single event upsets.
-use Prim.Native.Nat.{ℕ}
 use mathlib.Core.List.{List, [], _∷_}
-use Rattle.bits.specs.Table.{Row, row, look}
-use Rattle.commands.specs.declared.request.Lengths.{Lengths}
-use Rattle.commands.specs.declared.seu.Command.{Command}
-use Rattle.commands.specs.declared.seu.Command.the-variants.{Known, Unknown}
-use Rattle.commands.specs.declared.seu.Does.the-variants.{Read, Clear}
-use Rattle.commands.specs.Request.{lengths}
+use Rattle.bits.specs.Table.{Row, row}
+use Rattle.commands.specs.declared.command.Command.{Command}
+use Rattle.commands.specs.declared.command.Command.the-variants.{Known}
+use Rattle.commands.specs.declared.command.Does.the-variants.{Read, Clear}
+use Rattle.commands.specs.declared.command.Lengths.{Lengths}
+use Rattle.commands.specs.declared.command.Register.the-variants.{Seu}
+use Rattle.commands.specs.Command.{lengths}
 
 -- LEN: read 4/4, clear 4/2
 abbrev read : Lengths
@@ -17,9 +17,6 @@ clear = lengths 4 2
 
 abbrev pub seuCommands : List (Row Command)
 seuCommands =
-    row 0xf1 (Known read Read)
-    ∷ row 0xf0 (Known clear Clear)
+    row 0xf1 (Known read (Read Seu))
+    ∷ row 0xf0 (Known clear (Clear Seu))
     ∷ []
-
-unfoldable pub seuCommand : ℕ → Command
-seuCommand cmd = look seuCommands Unknown cmd

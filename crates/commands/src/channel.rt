@@ -1,6 +1,13 @@
-// The channels by their numbers.
+// The channels by their numbers, and the command of a channel's code.
 ghost use mathlib.Core.Path.{_≡_};
-ghost use Rattle.commands.specs.Channels.{channelOf};
+ghost use Rattle.commands.specs.Channels.{channelOf, commandOf};
+use crate::chip_id;
+use crate::command::Command;
+use crate::controller;
+use crate::dac;
+use crate::gpio;
+use crate::seu;
+use crate::spi;
 
 pub enum Channel {
     Controller,
@@ -25,5 +32,20 @@ pub fn channel_of(ch: u8) -> Channel
         0x14 => Channel::Id,
         0x15 => Channel::Dac,
         _ => Channel::Unknown,
+    }
+}
+
+// The command of a channel's code.
+pub fn command_of(which: Channel, cmd: u8) -> Command
+    ensures { λ r. ⌜ r ≡ commandOf which cmd ⌝ }
+{
+    match which {
+        Channel::Controller => controller::command_of(cmd),
+        Channel::Spi => spi::command_of(cmd),
+        Channel::Gpio => gpio::command_of(cmd),
+        Channel::Seu => seu::command_of(cmd),
+        Channel::Id => chip_id::command_of(cmd),
+        Channel::Dac => dac::command_of(cmd),
+        Channel::Unknown => Command::Unknown,
     }
 }

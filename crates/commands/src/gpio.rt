@@ -1,37 +1,18 @@
 // The commands of channel 0x02, the parallel lines.
 ghost use mathlib.Core.Path.{_≡_};
-ghost use Rattle.commands.specs.Gpio.{gpioCommand};
-use crate::request::Lengths;
-
-// The registers that are written and read; DATAIN is only read.
-pub enum Register {
-    Dataout,
-    Direction,
-    Intsel,
-    Inttrig,
-    Ints,
-    Clksel,
-    Edgesel,
-    Intenable,
-}
-
-pub enum Does {
-    Write(Register),
-    Read(Register),
-    ReadDatain,
-}
-
-pub enum Command {
-    Known(Lengths, Does),
-    Unknown,
-}
+ghost use Rattle.commands.specs.Command.{codeOf};
+ghost use Rattle.commands.specs.Gpio.{gpioCommands};
+use crate::command::Command;
+use crate::command::Does;
+use crate::command::Lengths;
+use crate::command::Register;
 
 const WRITE: Lengths = Lengths { asked: 4, given: 2 };
 
 const READ: Lengths = Lengths { asked: 1, given: 4 };
 
-pub fn command_of(cmd: u8) -> Command
-    ensures { λ r. ⌜ r ≡ gpioCommand cmd ⌝ }
+pub(crate) fn command_of(cmd: u8) -> Command
+    ensures { λ r. ⌜ r ≡ codeOf gpioCommands cmd ⌝ }
 {
     match cmd {
         0x10 => Command::Known(WRITE, Does::Write(Register::Dataout)),
@@ -50,7 +31,7 @@ pub fn command_of(cmd: u8) -> Command
         0x91 => Command::Known(READ, Does::Read(Register::Edgesel)),
         0x60 => Command::Known(WRITE, Does::Write(Register::Intenable)),
         0x61 => Command::Known(READ, Does::Read(Register::Intenable)),
-        0x01 => Command::Known(READ, Does::ReadDatain),
+        0x01 => Command::Known(READ, Does::Read(Register::Datain)),
         _ => Command::Unknown,
     }
 }

@@ -1,9 +1,10 @@
-// The commands of each channel, as document 01's table has them: code, LEN asked, LEN given, what it does.
+// The commands of each channel, as document 01's table has them: code, LEN asked, LEN given, what it does. Of registers only the names.
 pub mod channel;
-pub mod chip_id;
-pub mod controller;
-pub mod dac;
-pub mod gpio;
+mod chip_id;
+pub mod command;
+mod controller;
+mod dac;
+mod gpio;
 pub mod request;
-pub mod seu;
+mod seu;
 pub mod spi;

@@ -1,4 +1,4 @@
-// What requests to all channels have in common: their fields, their lengths, their errors and their answers.
+// What requests to all channels have in common: their fields, their errors and their answers.
 ghost use mathlib.Core.Path.{_≡_};
 ghost use Rattle.commands.specs.Request.{granted, refusal};
 
@@ -11,17 +11,16 @@ pub struct Request {
     pub value: u32,
 }
 
-// LEN as a command asks it and as its reply gives it.
-pub struct Lengths {
-    pub asked: u8,
-    pub given: u8,
-}
-
 // A reply's ERR, LEN and D[31:0]; or no reply yet.
 pub enum Reply {
     Sent { error: u8, length: u8, value: u32 },
     Later,
 }
+
+// No request's TRN is one of these; the second is an interrupt's.
+pub const NO_TRANSACTION: u8 = 0x00;
+
+pub const INTERRUPT: u8 = 0xFF;
 
 // The error bits, in the order in which the first that applies is taken.
 pub const TRN_WRONG: u8 = 0x08;

@@ -1,5 +1,5 @@
 pub mod Formats
 pub mod OneOutcome
-pub mod Record
 pub mod Ring
+pub mod Record
 pub mod Spelling

@@ -12,7 +12,7 @@ use Rattle.chip.specs.Event.{Event}
 use Rattle.chip.specs.Chip.{reaction}
 use Rattle.chip.specs.State.{inRange}
 use Rattle.chip.proofs.EventFits.{EventFits}
-use Rattle.chip.proofs.Fits.{Fits}
+use Rattle.chip.proofs.Fits.{Fits, good}
 use Rattle.chip.proofs.Laws.{id-stays}
 use Rattle.parts.specs.Words.{bytesOf, wordsOf}
 use Rattle.parts.proofs.Laws.{length-bytes, words-bytes}
@@ -34,12 +34,12 @@ length-before a e = rw (before-image a e) (omega (arith, length-bytes (imageWord
 module _ (a : Adapter) (e : Event) (rest : List ℕ) (f : Fits a) (ranged : inRange a ≡ true) (typed : EventFits e) where
   words-before : wordsOf 18 (before a e ++ rest) ≡ imageWords a
   unfolding imageWords
-  words-before = rw (before-image a e) (words-bytes (image-words a f) rest)
+  words-before = rw (before-image a e) (words-bytes (image-words a (good a f ranged)) rest)
 
   pub taken-back : restored (reaction a e .adapter) (before a e ++ rest) ≡ a
   unfolding restored
-  taken-back = ap (stateOf (reaction a e .adapter .id)) words-before ∙ state-image a f (reaction a e .adapter .id) (id-stays a e)
+  taken-back = ap (stateOf (reaction a e .adapter .id)) words-before ∙ state-image a (good a f ranged) (reaction a e .adapter .id) (id-stays a e)
 
   pub sound-back : sound (reaction a e .adapter) (before a e ++ rest) ≡ true
   unfolding sound
-  sound-back = rw (taken-back, words-before, image-spelled a f) ranged
+  sound-back = rw (taken-back, words-before, image-spelled a (good a f ranged)) ranged

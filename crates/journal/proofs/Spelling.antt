@@ -3,34 +3,26 @@ use Prim.Native.Nat.{ℕ, zero, suc, _+_, _*_, _/_, _%_, _≤_, _<_}
 use mathlib.Core.Path.{_≡_, refl, ap, _∙_}
 use mathlib.Core.Bool.{Bool, true, false}
 use mathlib.Core.List.{List, [], _∷_}
-use native.Mathlib.Nat.{div-div-eq-div-mul}
+use native.Mathlib.Nat.{div-div-eq-div-mul, mod-eq-of-lt, mod-lt}
 use native.Mathlib.Omega.{arith}
-use lib.ListN.{length, take, drop, getD}
-use lib.Seq.{drop-cons, take-all}
-use lib.Dec.{eqb}
+use lib.ListN.{length, getD}
+use lib.Dec.{eqb, lit<}
 use borrow.Author.Tests.{eqb-true, eqb-false, lt-ltb, ltb-true}
 use Rattle.bits.specs.Bits.{bitOf, digit}
+use Rattle.bits.proofs.Bits.{bit-zero}
+use Rattle.bits.proofs.Tests.{both}
+use Rattle.commands.specs.declared.command.Register.{Register}
+use Rattle.commands.specs.declared.command.Register.the-variants.{Crb, Crc, Crd, SpiControl, SpiFreq, SpiSs, SpiData0, SpiData1, SpiData2, SpiData3, SpiGo}
+use Rattle.commands.specs.declared.command.Register.the-variants.{Dataout, Datain, Direction, Intsel, Inttrig, Ints, Clksel, Edgesel, Intenable}
+use Rattle.commands.specs.declared.command.Register.the-variants.{Seu, DacA, DacB, DacC, DacD}
+use Rattle.registers.specs.Registers.{rowOf, read}
+use Rattle.registers.proofs.Laws.{read-fits, read-within, elements, elements-all, all-read}
+use Rattle.link.specs.declared.Link.{Link}
 use Rattle.chip.specs.declared.Adapter.{Adapter}
-use Rattle.chip.proofs.Fits.{Fits}
+use Rattle.chip.proofs.Fits.{Good}
 use Rattle.parts.specs.Words.{word, bytesOf, wordsOf}
 use Rattle.parts.proofs.Laws.{Words, none, more, word-digits, word-small, byte0, byte1, byte2, byte3, over3, AreBytes, length-words, words-small}
-use Rattle.journal.specs.Image.{flags, halves, imageWords, linkOf, controlOf, spiOf, dacOf, stateOf, spelled}
-use Rattle.bits.proofs.Tests.{both}
-
--- the n elements of a list from place i
-elements : List ℕ → ℕ → ℕ → List ℕ
-elements l i zero = []
-elements l i (suc n) = getD l i 0 ∷ elements l (suc i) n
-
-elements-from : (l : List ℕ) (i n : ℕ) → i + n ≤ length l → elements l i n ≡ take n (drop i l)
-unfolding elements
-elements-from l i zero h = refl
-elements-from l i (suc n) h =
-    let k : i < length l = omega arith in
-    rw (drop-cons l i 0 k) (ap (λ (t : List ℕ). getD l i 0 ∷ t) (elements-from l (suc i) n (omega arith)))
-
-elements-all : (l : List ℕ) (n : ℕ) → length l ≡ n → elements l 0 n ≡ l
-elements-all l n e = elements-from l 0 n (omega arith) ∙ take-all n l (omega arith)
+use Rattle.journal.specs.Image.{flags, halves, four, imageWords, linkOf, registersOf, stateOf, spelled}
 
 -- ---- a state is read back
 
@@ -49,12 +41,6 @@ flags-read false true true = record { first = refl; second = refl; third = refl;
 flags-read false true false = record { first = refl; second = refl; third = refl; few = omega arith }
 flags-read false false true = record { first = refl; second = refl; third = refl; few = omega arith }
 flags-read false false false = record { first = refl; second = refl; third = refl; few = omega arith }
-
-ss-small : (x : ℕ) → x < 256 → word x 0 0 0 < 4294967296
-ss-small x h = omega arith
-
-ss-read : (x : ℕ) → x < 256 → word x 0 0 0 % 256 ≡ x
-ss-read x h = omega arith
 
 -- a word's bits from 24 on are the fourth number's
 module _ (a b c d : ℕ) (ha : a < 256) (hb : b < 256) (hc : c < 256) where
@@ -77,95 +63,150 @@ module _ (low high : ℕ) (hl : low < 65536) (hh : high < 65536) where
   halves-small : halves low high < 4294967296
   halves-small = omega arith
 
-module _ (a : Adapter) (f : Fits a) where
+small : (n m : ℕ) → n ≤ m → m < 256 → n % 256 ≡ n
+small n m l h = mod-eq-of-lt (omega arith)
+
+halved : (n m : ℕ) → n ≤ m → m ≡ 65535 → n % 65536 ≡ n
+halved n m l h = mod-eq-of-lt (omega arith)
+
+under : (n m : ℕ) → n ≤ m → m ≡ 65535 → n < 65536
+under n m l h = omega arith
+
+low-byte : (n : ℕ) → n % 256 < 4294967296
+low-byte n = omega arith
+
+one-bit : (n : ℕ) → n ≤ 1 → digit (bitOf n 0) ≡ n
+one-bit zero h = refl
+one-bit (suc zero) h = refl
+one-bit (suc (suc n)) h = absurd (omega arith)
+
+module _ (a : Adapter) (g : Good a) where
+  abbrev r : Register → ℕ
+  r x = read (a .registers) x
+
+  -- no register has a bit set that reads 0, so that one of 8 bits is below 256
+  byte : (x : Register) → rowOf x .mask < 256 → r x % 256 ≡ r x
+  byte x h = small (r x) (rowOf x .mask) (read-within (a .registers) (g .registers .masked) x) h
+
+  half : (x : Register) → rowOf x .mask ≡ 65535 → r x % 65536 ≡ r x
+  half x h = halved (r x) (rowOf x .mask) (read-within (a .registers) (g .registers .masked) x) h
+
+  half-below : (x : Register) → rowOf x .mask ≡ 65535 → r x < 65536
+  half-below x h = under (r x) (rowOf x .mask) (read-within (a .registers) (g .registers .masked) x) h
+
+  full : (x : Register) → r x < 4294967296
+  full x = read-fits (a .registers) x (g .registers .fits)
+
+  send-byte : a .link .send .0 < 256
+  send-byte = omega (arith, g .send)
+
+  receive-byte : a .link .receive .0 < 256
+  receive-byte = omega (arith, g .receive)
+
+  port-byte : a .link .port < 256
+  port-byte = omega (arith, g .port)
+
   flags-of : ℕ
-  flags-of = flags (a .link .primary .loopback) (a .link .auxiliary .loopback) (a .gpio .intenable)
+  flags-of = flags (a .link .primary .loopback) (a .link .auxiliary .loopback) (bitOf (read (a .registers) Intenable) 0)
+
+  flags-few : flags-of < 8
+  unfolding flags-of
+  flags-few = flags-read (a .link .primary .loopback) (a .link .auxiliary .loopback) (bitOf (read (a .registers) Intenable) 0) .few
 
   flags-byte : flags-of < 256
-  unfolding flags-of
-  flags-byte = let q = flags-read (a .link .primary .loopback) (a .link .auxiliary .loopback) (a .gpio .intenable) in omega (arith, q .few)
+  flags-byte = omega (arith, flags-few)
+
+  four-small : (x y z t : Register) → four r x y z t < 4294967296
+  four-small x y z t = word-small _ _ _ _ (mod-lt (r x) (lit< tt)) (mod-lt (r y) (lit< tt)) (mod-lt (r z) (lit< tt)) (mod-lt (r t) (lit< tt))
 
   pub image-words : Words (imageWords a)
   unfolding imageWords flags-of
   image-words =
-      more (word-small _ _ _ _ (f .link .send) (f .link .receive) (f .link .port) flags-byte)
-      (more (word-small _ _ _ _ (f .control .crb) (f .control .crc) (f .control .crd) (f .spi .go))
-      (more (halves-small _ _ (f .spi .control) (f .spi .freq))
-      (more (ss-small (a .spi .ss) (f .spi .ss))
-      (more (f .spi .words 0)
-      (more (f .spi .words 1)
-      (more (f .spi .words 2)
-      (more (f .spi .words 3)
-      (more (f .gpio .dataout)
-      (more (f .gpio .datain)
-      (more (f .gpio .direction)
-      (more (f .gpio .intsel)
-      (more (f .gpio .inttrig)
-      (more (f .gpio .ints)
-      (more (f .gpio .clksel)
-      (more (f .gpio .edgesel)
-      (more (word-small _ _ _ _ (f .dac .a) (f .dac .b) (f .dac .c) (f .dac .d))
-      (more (f .seu) none)))))))))))))))))
+      more (word-small _ _ _ _ send-byte receive-byte port-byte flags-byte)
+      (more (four-small Crb Crc Crd SpiGo)
+      (more (halves-small _ _ (mod-lt (r SpiControl) (lit< tt)) (mod-lt (r SpiFreq) (lit< tt)))
+      (more (low-byte (r SpiSs))
+      (more (full SpiData0)
+      (more (full SpiData1)
+      (more (full SpiData2)
+      (more (full SpiData3)
+      (more (full Dataout)
+      (more (full Datain)
+      (more (full Direction)
+      (more (full Intsel)
+      (more (full Inttrig)
+      (more (full Ints)
+      (more (full Clksel)
+      (more (full Edgesel)
+      (more (four-small DacA DacB DacC DacD)
+      (more (full Seu) none)))))))))))))))))
 
   read-link : linkOf (word (a .link .send .0) (a .link .receive .0) (a .link .port) flags-of) ≡ a .link
   unfolding flags-of
   read-link =
-      let q = flags-read (a .link .primary .loopback) (a .link .auxiliary .loopback) (a .gpio .intenable) in
+      let q = flags-read (a .link .primary .loopback) (a .link .auxiliary .loopback) (bitOf (read (a .registers) Intenable) 0) in
       simp (
-        byte0 _ _ _ flags-of (f .link .send) (f .link .receive) (f .link .port),
-        byte1 _ _ _ flags-of (f .link .send) (f .link .receive) (f .link .port),
-        byte2 _ _ _ flags-of (f .link .send) (f .link .receive) (f .link .port),
-        over3 _ _ _ flags-of (f .link .send) (f .link .receive) (f .link .port),
-        over-25 _ _ _ flags-of (f .link .send) (f .link .receive) (f .link .port),
+        byte0 _ _ _ flags-of send-byte receive-byte port-byte,
+        byte1 _ _ _ flags-of send-byte receive-byte port-byte,
+        byte2 _ _ _ flags-of send-byte receive-byte port-byte,
+        over3 _ _ _ flags-of send-byte receive-byte port-byte,
+        over-25 _ _ _ flags-of send-byte receive-byte port-byte,
         q .first,
         q .second,
       )
 
-  read-intenable : bitOf (word (a .link .send .0) (a .link .receive .0) (a .link .port) flags-of) 26 ≡ a .gpio .intenable
+  -- INTENABLE is 0 or 1
+  intenable : digit (bitOf (word (a .link .send .0) (a .link .receive .0) (a .link .port) flags-of) 26) ≡ r Intenable
   unfolding flags-of
-  read-intenable =
-      let q = flags-read (a .link .primary .loopback) (a .link .auxiliary .loopback) (a .gpio .intenable) in
-      simp (over-26 _ _ _ flags-of (f .link .send) (f .link .receive) (f .link .port), q .third)
+  intenable =
+      let q = flags-read (a .link .primary .loopback) (a .link .auxiliary .loopback) (bitOf (read (a .registers) Intenable) 0) in
+      simp (over-26 _ _ _ flags-of send-byte receive-byte port-byte, q .third) (one-bit (r Intenable) (read-within (a .registers) (g .registers .masked) Intenable))
 
-  read-control : controlOf (word (a .control .crb) (a .control .crc) (a .control .crd) (a .spi .go)) ≡ a .control
-  read-control =
-      simp (
-        byte0 _ _ _ (a .spi .go) (f .control .crb) (f .control .crc) (f .control .crd),
-        byte1 _ _ _ (a .spi .go) (f .control .crb) (f .control .crc) (f .control .crd),
-        byte2 _ _ _ (a .spi .go) (f .control .crb) (f .control .crc) (f .control .crd),
-      )
+  -- the bytes of four registers
+  module _ (x y z t : Register) (hx : rowOf x .mask < 256) (hy : rowOf y .mask < 256) (hz : rowOf z .mask < 256) (ht : rowOf t .mask < 256) where
+    first : four r x y z t % 256 ≡ r x
+    first = byte0 _ _ _ _ (mod-lt (r x) (lit< tt)) (mod-lt (r y) (lit< tt)) (mod-lt (r z) (lit< tt)) ∙ byte x hx
 
-  read-dac : dacOf (word (a .dac .a) (a .dac .b) (a .dac .c) (a .dac .d)) ≡ a .dac
-  read-dac =
-      simp (
-        byte0 _ _ _ (a .dac .d) (f .dac .a) (f .dac .b) (f .dac .c),
-        byte1 _ _ _ (a .dac .d) (f .dac .a) (f .dac .b) (f .dac .c),
-        byte2 _ _ _ (a .dac .d) (f .dac .a) (f .dac .b) (f .dac .c),
-        byte3 _ _ _ (a .dac .d) (f .dac .a) (f .dac .b) (f .dac .c) (f .dac .d),
-      )
+    second : four r x y z t / 256 % 256 ≡ r y
+    second = byte1 _ _ _ _ (mod-lt (r x) (lit< tt)) (mod-lt (r y) (lit< tt)) (mod-lt (r z) (lit< tt)) ∙ byte y hy
 
-  read-spi : spiOf (imageWords a) ≡ a .spi
-  unfolding imageWords elements
-  read-spi =
+    third : four r x y z t / 65536 % 256 ≡ r z
+    third = byte2 _ _ _ _ (mod-lt (r x) (lit< tt)) (mod-lt (r y) (lit< tt)) (mod-lt (r z) (lit< tt)) ∙ byte z hz
+
+    fourth : four r x y z t / 16777216 % 256 ≡ r t
+    fourth = byte3 _ _ _ _ (mod-lt (r x) (lit< tt)) (mod-lt (r y) (lit< tt)) (mod-lt (r z) (lit< tt)) (mod-lt (r t) (lit< tt)) ∙ byte t ht
+
+  read-registers : registersOf (imageWords a) ≡ a .registers
+  unfolding imageWords flags-of
+  read-registers =
       simp (
-        byte3 _ _ _ (a .spi .go) (f .control .crb) (f .control .crc) (f .control .crd) (f .spi .go),
-        low-half _ _ (f .spi .control) (f .spi .freq),
-        high-half _ _ (f .spi .control) (f .spi .freq),
-        ss-read _ (f .spi .ss),
+        first Crb Crc Crd SpiGo (lit< tt) (lit< tt) (lit< tt) (lit< tt),
+        second Crb Crc Crd SpiGo (lit< tt) (lit< tt) (lit< tt) (lit< tt),
+        third Crb Crc Crd SpiGo (lit< tt) (lit< tt) (lit< tt) (lit< tt),
+        fourth Crb Crc Crd SpiGo (lit< tt) (lit< tt) (lit< tt) (lit< tt),
+        low-half (r SpiControl) (r SpiFreq) (half-below SpiControl refl) (half-below SpiFreq refl),
+        high-half (r SpiControl) (r SpiFreq) (half-below SpiControl refl) (half-below SpiFreq refl),
+        half SpiControl refl,
+        half SpiFreq refl,
+        byte SpiSs (lit< tt),
+        intenable,
+        first DacA DacB DacC DacD (lit< tt) (lit< tt) (lit< tt) (lit< tt),
+        second DacA DacB DacC DacD (lit< tt) (lit< tt) (lit< tt) (lit< tt),
+        third DacA DacB DacC DacD (lit< tt) (lit< tt) (lit< tt) (lit< tt),
+        fourth DacA DacB DacC DacD (lit< tt) (lit< tt) (lit< tt) (lit< tt),
       )
-      (ap (λ (l : List ℕ). record { control = a .spi .control; freq = a .spi .freq; ss = a .spi .ss; words = l; go = a .spi .go }) (elements-all (a .spi .words) 4 (f .spi .count)))
+      (all-read (a .registers) (g .registers .fits .size))
 
   pub state-image : (id : ℕ) → id ≡ a .id → stateOf id (imageWords a) ≡ a
   unfolding stateOf imageWords flags-of
-  state-image id e = simp (read-link, read-intenable, read-control, read-dac, read-spi, e)
+  state-image id e = simp (read-link, read-registers, e)
 
   pub image-spelled : spelled (imageWords a) ≡ true
   unfolding spelled imageWords flags-of
   image-spelled =
-      let q = flags-read (a .link .primary .loopback) (a .link .auxiliary .loopback) (a .gpio .intenable) in
       let top : word (a .link .send .0) (a .link .receive .0) (a .link .port) flags-of < 134217728 =
-      under-27 _ _ _ flags-of (f .link .send) (f .link .receive) (f .link .port) (q .few) in
-      let low : word (a .spi .ss) 0 0 0 < 256 = omega (arith, f .spi .ss) in
+      under-27 _ _ _ flags-of send-byte receive-byte port-byte flags-few in
+      let low : r SpiSs % 256 < 256 = mod-lt (r SpiSs) (lit< tt) in
       simp (lt-ltb _ 134217728 top, lt-ltb _ 256 low)
 
 -- ---- a state has no other spelling
@@ -196,22 +237,69 @@ head-word w h =
 both-halves : (w : ℕ) → w < 4294967296 → halves (w % 65536) (w / 65536 % 65536) ≡ w
 both-halves w h = omega arith
 
-ss-word : (w : ℕ) → w < 256 → word (w % 256) 0 0 0 ≡ w
-ss-word w h = omega arith
+byte-again : (n : ℕ) → n % 256 % 256 ≡ n % 256
+byte-again n = omega arith
+
+half-again : (n : ℕ) → n % 65536 % 65536 ≡ n % 65536
+half-again n = omega arith
+
+flag-again : (b : Bool) → bitOf (digit b) 0 ≡ b
+flag-again true = refl
+flag-again false = refl
 
 pub image-state : (id : ℕ) (ws : List ℕ) → length ws ≡ 18 → ((i : ℕ) → getD ws i 0 < 4294967296) → spelled ws ≡ true → imageWords (stateOf id ws) ≡ ws
-unfolding imageWords stateOf spelled elements
-image-state id ws n small s =
+unfolding imageWords stateOf spelled elements read
+image-state id ws n below s =
     let p = both _ _ s in
     simp (
+      byte-again,
+      half-again,
+      flag-again,
       head-word (getD ws 0 0) (ltb-true _ 134217728 (p .0)),
-      word-digits (getD ws 1 0) (small 1),
-      both-halves (getD ws 2 0) (small 2),
-      ss-word (getD ws 3 0) (ltb-true _ 256 (p .1)),
-      word-digits (getD ws 16 0) (small 16),
+      word-digits (getD ws 1 0) (below 1),
+      both-halves (getD ws 2 0) (below 2),
+      mod-eq-of-lt {n = getD ws 3 0} (ltb-true _ 256 (p .1)),
+      word-digits (getD ws 16 0) (below 16),
     )
     (elements-all ws 18 n)
 
 -- the image of the state that bytes spell is these bytes, read as words
 pub image-bytes : (id : ℕ) (r : List ℕ) → AreBytes r → spelled (wordsOf 18 r) ≡ true → bytesOf (imageWords (stateOf id (wordsOf 18 r))) ≡ bytesOf (wordsOf 18 r)
 image-bytes id r b s = ap bytesOf (image-state id (wordsOf 18 r) (length-words 18 r) (words-small 18 r b) s)
+
+-- ---- as code puts them together
+
+pub four-of : (rs : List ℕ) (a b c d : Register) (x y z t w : ℕ) → x ≡ read rs a → y ≡ read rs b → z ≡ read rs c → t ≡ read rs d
+    → w ≡ word (x % 256) (y % 256) (z % 256) (t % 256) → w ≡ four (read rs) a b c d
+four-of rs a b c d x y z t w ea eb ec ed e = simp (e, ea, eb, ec, ed)
+
+module _ (a : Adapter) where
+  abbrev at : ℕ → ℕ
+  at i = getD (a .registers) i 0
+
+  pub imaged : (n f w0 w1 control freq ss w16 : ℕ) → n ≡ read (a .registers) Intenable
+      → f ≡ flags (a .link .primary .loopback) (a .link .auxiliary .loopback) (eqb (n % 2) 1)
+      → w0 ≡ word (a .link .send .0) (a .link .receive .0) (a .link .port) f → w1 ≡ four (read (a .registers)) Crb Crc Crd SpiGo
+      → control ≡ read (a .registers) SpiControl → freq ≡ read (a .registers) SpiFreq → ss ≡ read (a .registers) SpiSs
+      → w16 ≡ four (read (a .registers)) DacA DacB DacC DacD
+      → w0 ∷ w1 ∷ halves (control % 65536) (freq % 65536) ∷ ss % 256 ∷ at 6 ∷ at 7 ∷ at 8 ∷ at 9
+      ∷ at 11 ∷ at 12 ∷ at 13 ∷ at 14 ∷ at 15 ∷ at 16 ∷ at 17 ∷ at 18 ∷ w16 ∷ at 20 ∷ []
+      ≡ imageWords a
+  unfolding imageWords read
+  imaged n f w0 w1 control freq ss w16 en ef e0 e1 ec eq es e16 = simp (e0, e1, ec, eq, es, e16, ef, bit-zero, en)
+
+pub put-in-places : (ws : List ℕ) (n : ℕ) → n ≡ digit (eqb (getD ws 0 0 / 67108864 % 2) 1)
+    → getD ws 1 0 % 256 ∷ getD ws 1 0 / 256 % 256 ∷ getD ws 1 0 / 65536 % 256
+    ∷ getD ws 2 0 % 65536 ∷ getD ws 2 0 / 65536 % 65536 ∷ getD ws 3 0 % 256 ∷ getD ws 4 0 ∷ getD ws 5 0 ∷ getD ws 6 0 ∷ getD ws 7 0
+    ∷ getD ws 1 0 / 16777216 % 256
+    ∷ getD ws 8 0 ∷ getD ws 9 0 ∷ getD ws 10 0 ∷ getD ws 11 0 ∷ getD ws 12 0 ∷ getD ws 13 0 ∷ getD ws 14 0 ∷ getD ws 15 0 ∷ n
+    ∷ getD ws 17 0
+    ∷ getD ws 16 0 % 256 ∷ getD ws 16 0 / 256 % 256 ∷ getD ws 16 0 / 65536 % 256 ∷ getD ws 16 0 / 16777216 % 256
+    ∷ []
+    ≡ registersOf ws
+put-in-places ws n e = simp e
+
+pub state-of-words : (id : ℕ) (ws rs : List ℕ) (l : Link) → l ≡ linkOf (getD ws 0 0) → rs ≡ registersOf ws
+    → _≡_ {A = Adapter} (record { link = l; registers = rs; id = id }) (stateOf id ws)
+unfolding stateOf
+state-of-words id ws rs l e f = simp (e, f)

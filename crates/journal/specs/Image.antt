@@ -6,11 +6,12 @@ use lib.ListN.{getD}
 use lib.Dec.{ltb}
 use Rattle.bits.specs.Bits.{bitOf, digit}
 use Rattle.chip.specs.declared.Adapter.{Adapter}
-use Rattle.chip.specs.declared.link.Link.{Link}
-use Rattle.registers.specs.declared.controller.Control.{Control}
-use Rattle.registers.specs.declared.spi.Spi.{Spi}
-use Rattle.registers.specs.declared.gpio.Gpio.{Gpio}
-use Rattle.registers.specs.declared.dac.Dac.{Dac}
+use Rattle.link.specs.declared.Link.{Link}
+use Rattle.commands.specs.declared.command.Register.{Register}
+use Rattle.commands.specs.declared.command.Register.the-variants.{Crb, Crc, Crd, SpiControl, SpiFreq, SpiSs, SpiData0, SpiData1, SpiData2, SpiData3, SpiGo}
+use Rattle.commands.specs.declared.command.Register.the-variants.{Dataout, Datain, Direction, Intsel, Inttrig, Ints, Clksel, Edgesel, Intenable}
+use Rattle.commands.specs.declared.command.Register.the-variants.{Seu, DacA, DacB, DacC, DacD}
+use Rattle.registers.specs.Registers.{read}
 use Rattle.parts.specs.Words.{word}
 
 -- ---- from the state to words
@@ -23,26 +24,32 @@ flags primary auxiliary intenable = digit primary + 2 * digit auxiliary + 4 * di
 abbrev pub halves : ℕ → ℕ → ℕ
 halves low high = low + 65536 * high
 
+-- four registers of 8 bits; in a state in range the remainders take nothing away, here and below
+abbrev pub four : (Register → ℕ) → Register → Register → Register → Register → ℕ
+four r a b c d = word (r a % 256) (r b % 256) (r c % 256) (r d % 256)
+
 unfoldable pub imageWords : Adapter → List ℕ
 imageWords a =
-    word (a .link .send .0) (a .link .receive .0) (a .link .port) (flags (a .link .primary .loopback) (a .link .auxiliary .loopback) (a .gpio .intenable))
-    ∷ word (a .control .crb) (a .control .crc) (a .control .crd) (a .spi .go)
-    ∷ halves (a .spi .control) (a .spi .freq)
-    ∷ word (a .spi .ss) 0 0 0
-    ∷ getD (a .spi .words) 0 0
-    ∷ getD (a .spi .words) 1 0
-    ∷ getD (a .spi .words) 2 0
-    ∷ getD (a .spi .words) 3 0
-    ∷ a .gpio .dataout
-    ∷ a .gpio .datain
-    ∷ a .gpio .direction
-    ∷ a .gpio .intsel
-    ∷ a .gpio .inttrig
-    ∷ a .gpio .ints
-    ∷ a .gpio .clksel
-    ∷ a .gpio .edgesel
-    ∷ word (a .dac .a) (a .dac .b) (a .dac .c) (a .dac .d)
-    ∷ a .seu
+    let r = read (a .registers) in
+    word (a .link .send .0) (a .link .receive .0) (a .link .port)
+    (flags (a .link .primary .loopback) (a .link .auxiliary .loopback) (bitOf (r Intenable) 0))
+    ∷ four r Crb Crc Crd SpiGo
+    ∷ halves (r SpiControl % 65536) (r SpiFreq % 65536)
+    ∷ r SpiSs % 256
+    ∷ r SpiData0
+    ∷ r SpiData1
+    ∷ r SpiData2
+    ∷ r SpiData3
+    ∷ r Dataout
+    ∷ r Datain
+    ∷ r Direction
+    ∷ r Intsel
+    ∷ r Inttrig
+    ∷ r Ints
+    ∷ r Clksel
+    ∷ r Edgesel
+    ∷ four r DacA DacB DacC DacD
+    ∷ r Seu
     ∷ []
 
 -- ---- from words to the state
@@ -61,48 +68,20 @@ linkOf w =
       auxiliary = record { loopback = bitOf w 25 };
     }
 
-abbrev pub controlOf : ℕ → Control
-controlOf w = record { crb = w % 256; crc = byteFrom 8 w; crd = byteFrom 16 w }
-
-abbrev pub spiOf : List ℕ → Spi
-spiOf ws =
-    record {
-      control = getD ws 2 0 % 65536;
-      freq = getD ws 2 0 / 65536 % 65536;
-      ss = getD ws 3 0 % 256;
-      words = getD ws 4 0 ∷ getD ws 5 0 ∷ getD ws 6 0 ∷ getD ws 7 0 ∷ [];
-      go = byteFrom 24 (getD ws 1 0);
-    }
-
-abbrev pub gpioOf : List ℕ → Gpio
-gpioOf ws =
-    record {
-      dataout = getD ws 8 0;
-      datain = getD ws 9 0;
-      direction = getD ws 10 0;
-      intsel = getD ws 11 0;
-      inttrig = getD ws 12 0;
-      ints = getD ws 13 0;
-      clksel = getD ws 14 0;
-      edgesel = getD ws 15 0;
-      intenable = bitOf (getD ws 0 0) 26;
-    }
-
-abbrev pub dacOf : ℕ → Dac
-dacOf w = record { a = w % 256; b = byteFrom 8 w; c = byteFrom 16 w; d = byteFrom 24 w }
+-- the registers in their places
+abbrev pub registersOf : List ℕ → List ℕ
+registersOf ws =
+    let w : ℕ → ℕ = λ i. getD ws i 0 in
+    w 1 % 256 ∷ byteFrom 8 (w 1) ∷ byteFrom 16 (w 1)
+    ∷ w 2 % 65536 ∷ w 2 / 65536 % 65536 ∷ w 3 % 256 ∷ w 4 ∷ w 5 ∷ w 6 ∷ w 7 ∷ byteFrom 24 (w 1)
+    ∷ w 8 ∷ w 9 ∷ w 10 ∷ w 11 ∷ w 12 ∷ w 13 ∷ w 14 ∷ w 15 ∷ digit (bitOf (w 0) 26)
+    ∷ w 17
+    ∷ w 16 % 256 ∷ byteFrom 8 (w 16) ∷ byteFrom 16 (w 16) ∷ byteFrom 24 (w 16)
+    ∷ []
 
 -- the state that words spell, for the chip of this ID
 unfoldable pub stateOf : ℕ → List ℕ → Adapter
-stateOf id ws =
-    record {
-      link = linkOf (getD ws 0 0);
-      control = controlOf (getD ws 1 0);
-      spi = spiOf ws;
-      gpio = gpioOf ws;
-      dac = dacOf (getD ws 16 0);
-      seu = getD ws 17 0;
-      id = id;
-    }
+stateOf id ws = record { link = linkOf (getD ws 0 0); registers = registersOf ws; id = id }
 
 -- no bit is set that no field has: word 0 has 27 bits, word 3 has 8
 unfoldable pub spelled : List ℕ → Bool

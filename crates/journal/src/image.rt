@@ -1,16 +1,16 @@
 // The image of the state: 18 words. docs/JOURNAL.md has the table; the chip's ID is not in it.
 use chip::Adapter;
-use chip::link::Link;
-use chip::link::Port;
-use chip::link::ReceiveNumber;
-use chip::link::SendNumber;
-use registers::controller::Control;
-use registers::dac::Dac;
-use registers::gpio::Gpio;
-use registers::spi::Spi;
+use commands::command::Register;
+use link::Link;
+use link::Port;
+use link::ReceiveNumber;
+use link::SendNumber;
+use registers::COUNT;
+use registers::read;
 ghost use mathlib.Core.Path.{_≡_};
 ghost use Prim.Native.Nat.{_/_, _%_, _*_};
-ghost use Rattle.journal.specs.Image.{flags, imageWords, stateOf, spelled, linkOf, controlOf, spiOf, gpioOf, dacOf};
+ghost use Rattle.registers.specs.Registers.{read};
+ghost use Rattle.journal.specs.Image.{flags, four, imageWords, stateOf, spelled, linkOf, registersOf};
 
 fn flags_of(primary: bool, auxiliary: bool, intenable: bool) -> u8
     ensures { λ r. ⌜ r ≡ flags primary auxiliary intenable ⌝ }
@@ -18,46 +18,64 @@ fn flags_of(primary: bool, auxiliary: bool, intenable: bool) -> u8
     (primary as u8) + 2 * (auxiliary as u8) + 4 * (intenable as u8)
 }
 
-fn halves(low: u16, high: u16) -> u32
-    ensures { λ r. ⌜ r ≡ Rattle.journal.specs.Image.halves low high ⌝ }
+// Four registers of 8 bits in a word.
+fn four(registers: [u32; COUNT], a: Register, b: Register, c: Register, d: Register) -> u32
+    ensures { λ r. ⌜ r ≡ four (read registers) a b c d ⌝ }
 {
-    (low as u32) + 65536 * (high as u32)
+    let x = (read(registers, a) % 256) as u8;
+    let y = (read(registers, b) % 256) as u8;
+    let z = (read(registers, c) % 256) as u8;
+    let t = (read(registers, d) % 256) as u8;
+    parts::word_of(x, y, z, t)
 }
 
 // The state's words.
 pub fn words_of(a: Adapter) -> [u32; 18]
     ensures { λ r. ⌜ r ≡ imageWords a ⌝ }
 {
-    let d = a.spi.words;
+    let r = a.registers;
     let f = flags_of(
         a.link.primary.loopback,
         a.link.auxiliary.loopback,
-        a.gpio.intenable,
+        read(r, Register::Intenable) % 2 == 1,
     );
     let w0 = parts::word_of(a.link.send.0, a.link.receive.0, a.link.port, f);
-    let w1 = parts::word_of(a.control.crb, a.control.crc, a.control.crd, a.spi.go);
-    let w2 = halves(a.spi.control, a.spi.freq);
-    let w3 = parts::word_of(a.spi.ss, 0, 0, 0);
-    let w16 = parts::word_of(a.dac.a, a.dac.b, a.dac.c, a.dac.d);
+    let w1 = four(
+        r,
+        Register::Crb,
+        Register::Crc,
+        Register::Crd,
+        Register::SpiGo,
+    );
+    let w2 = read(r, Register::SpiControl) % 65536 + 65536 * (read(r, Register::SpiFreq) % 65536);
+    let w3 = read(r, Register::SpiSs) % 256;
+    let w16 = four(
+        r,
+        Register::DacA,
+        Register::DacB,
+        Register::DacC,
+        Register::DacD,
+    );
+    // The words of 32 bits stand as they are: DATA, the lines, the SEU counter.
     [
         w0,
         w1,
         w2,
         w3,
-        d[0],
-        d[1],
-        d[2],
-        d[3],
-        a.gpio.dataout,
-        a.gpio.datain,
-        a.gpio.direction,
-        a.gpio.intsel,
-        a.gpio.inttrig,
-        a.gpio.ints,
-        a.gpio.clksel,
-        a.gpio.edgesel,
+        r[6],
+        r[7],
+        r[8],
+        r[9],
+        r[11],
+        r[12],
+        r[13],
+        r[14],
+        r[15],
+        r[16],
+        r[17],
+        r[18],
         w16,
-        a.seu,
+        r[20],
     ]
 }
 
@@ -77,57 +95,41 @@ fn link_of(w: u32) -> Link
     }
 }
 
-fn control_of(w: u32) -> Control
-    ensures { λ r. ⌜ r ≡ controlOf w ⌝ }
+fn registers_of(w: [u32; 18]) -> [u32; COUNT]
+    ensures { λ r. ⌜ r ≡ registersOf w ⌝ }
 {
-    Control {
-        crb: (w % 256) as u8,
-        crc: (w / 256 % 256) as u8,
-        crd: (w / 65536 % 256) as u8,
-    }
-}
-
-fn dac_of(w: u32) -> Dac
-    ensures { λ r. ⌜ r ≡ dacOf w ⌝ }
-{
-    Dac {
-        a: (w % 256) as u8,
-        b: (w / 256 % 256) as u8,
-        c: (w / 65536 % 256) as u8,
-        d: (w / 16777216 % 256) as u8,
-    }
-}
-
-fn spi_of(w: [u32; 18]) -> Spi
-    ensures { λ r. ⌜ r ≡ spiOf w ⌝ }
-{
-    let go = w[1];
-    let both = w[2];
-    let ss = w[3];
-    Spi {
-        control: (both % 65536) as u16,
-        freq: (both / 65536 % 65536) as u16,
-        ss: (ss % 256) as u8,
-        words: [w[4], w[5], w[6], w[7]],
-        go: (go / 16777216 % 256) as u8,
-    }
-}
-
-fn gpio_of(w: [u32; 18]) -> Gpio
-    ensures { λ r. ⌜ r ≡ gpioOf w ⌝ }
-{
-    let flags = w[0];
-    Gpio {
-        dataout: w[8],
-        datain: w[9],
-        direction: w[10],
-        intsel: w[11],
-        inttrig: w[12],
-        ints: w[13],
-        clksel: w[14],
-        edgesel: w[15],
-        intenable: flags / 67108864 % 2 == 1,
-    }
+    let w0 = w[0];
+    let w1 = w[1];
+    let w2 = w[2];
+    let w3 = w[3];
+    let w16 = w[16];
+    [
+        w1 % 256,
+        w1 / 256 % 256,
+        w1 / 65536 % 256,
+        w2 % 65536,
+        w2 / 65536 % 65536,
+        w3 % 256,
+        w[4],
+        w[5],
+        w[6],
+        w[7],
+        w1 / 16777216 % 256,
+        w[8],
+        w[9],
+        w[10],
+        w[11],
+        w[12],
+        w[13],
+        w[14],
+        w[15],
+        bits::number_of(w0 / 67108864 % 2 == 1),
+        w[17],
+        w16 % 256,
+        w16 / 256 % 256,
+        w16 / 65536 % 256,
+        w16 / 16777216 % 256,
+    ]
 }
 
 // The state that words spell, for the chip of this ID.
@@ -135,17 +137,10 @@ pub fn state_of(w: [u32; 18], id: u32) -> Adapter
     ensures { λ r. ⌜ r ≡ stateOf id w ⌝ }
 {
     let link = link_of(w[0]);
-    let control = control_of(w[1]);
-    let spi = spi_of(w);
-    let gpio = gpio_of(w);
-    let dac = dac_of(w[16]);
+    let registers = registers_of(w);
     Adapter {
         link: link,
-        control: control,
-        spi: spi,
-        gpio: gpio,
-        dac: dac,
-        seu: w[17],
+        registers: registers,
         id: id,
     }
 }

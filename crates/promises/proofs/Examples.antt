@@ -8,21 +8,18 @@ use lib.Dec.{ltb, lit<, lit≤}
 use borrow.Author.Tests.{ltb-true}
 use Rattle.bits.specs.Bits.{word}
 use Rattle.commands.specs.Channels.{channelOf}
-use Rattle.commands.specs.Controller.{controllerCommand}
-use Rattle.commands.specs.Spi.{spiCommand}
-use Rattle.commands.specs.Gpio.{gpioCommand}
-use Rattle.commands.specs.Dac.{dacCommand}
-use Rattle.registers.specs.Controller.{controllerAnswer, actControl}
-use Rattle.registers.specs.Spi.{spiAnswer, actSpi}
-use Rattle.registers.specs.Gpio.{gpioAnswer, actGpio}
-use Rattle.registers.specs.Pins.{gpioSampled, datainAfter, firingLines}
-use Rattle.registers.specs.Dac.{dacAnswer, actDac}
+use Rattle.commands.specs.Command.{codeOf}
+use Rattle.registers.specs.Registers.{read, store, zeroed}
+use Rattle.registers.specs.Pins.{sampled, datainAfter, firingLines}
+use Rattle.channels.specs.Rows.{held}
+use Rattle.channels.specs.Errors.{decoded}
+use Rattle.channels.specs.Perform.{answered}
 use Rattle.parts.specs.Parts.{put}
 use Rattle.wire.specs.Bits.{low, wire}
 use Rattle.wire.specs.Frame.{stuff}
 use Rattle.chip.specs.Event.{spi, frame, completion, sample, upset}
 use Rattle.chip.specs.State.{poweredOn}
-use Rattle.chip.specs.Request.{onChannel, answered, replies, requested}
+use Rattle.chip.specs.Request.{replies, requested}
 use Rattle.chip.specs.Frame.{isResetFrame, commanded, numbered, carried, addressed, onFrame}
 use Rattle.chip.specs.Chip.{reaction, onSample, onUpset}
 use Rattle.listing.specs.Characters.{isHex, hexValue, allHex, arePairs, pairBytes, hexDigit, hexText}
@@ -74,14 +71,14 @@ typed (empty ∷ ks) h = (tt, typed ks h)
 
 listing-text : textLines 0x00000A (atStart 64) listing ≡ listingOutput
 unfolding
-    reaction onFrame addressed commanded carried numbered requested answered onChannel replies poweredOn isResetFrame put channelOf
-    controllerAnswer actControl controllerCommand spiAnswer actSpi spiCommand gpioAnswer actGpio gpioCommand
+    reaction onFrame addressed commanded carried numbered requested answered decoded replies poweredOn isResetFrame put channelOf codeOf
+    read store zeroed held
 listing-text = refl
 
 everything-text : textLines 0x00000A (atStart 64) everything ≡ everythingOutput
 unfolding
-    reaction onFrame addressed commanded carried numbered requested answered onChannel replies onSample onUpset poweredOn isResetFrame put
-    channelOf controllerAnswer actControl controllerCommand gpioSampled datainAfter firingLines word
+    reaction onFrame addressed commanded carried numbered requested answered decoded replies onSample onUpset poweredOn isResetFrame put
+    channelOf codeOf read store zeroed held sampled datainAfter firingLines word
 everything-text = refl
 
 -- the file's lines say the calls
@@ -113,8 +110,8 @@ eight-text =
 -- THE TABLE HOLDS.
 pub table : Table
 unfolding
-    reaction onFrame addressed commanded carried numbered requested answered onChannel replies poweredOn isResetFrame put channelOf
-    controllerAnswer actControl controllerCommand dacAnswer actDac dacCommand stuff wire low literal below
+    reaction onFrame addressed commanded carried numbered requested answered decoded replies poweredOn isResetFrame put channelOf codeOf
+    read store zeroed held stuff wire low literal below
 table =
     record {
       eight-lines = give listing listingOutput refl listing-text;

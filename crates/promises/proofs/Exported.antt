@@ -15,7 +15,7 @@ use Rattle.chip.specs.Event.{Event, frame}
 use Rattle.chip.specs.State.{inRange}
 use Rattle.chip.specs.Request.{replies}
 use Rattle.chip.specs.Chip.{reaction}
-use Rattle.chip.proofs.Fits.{Fits}
+use Rattle.chip.proofs.Fits.{Good, good-fits}
 use Rattle.chip.proofs.Laws.{number-given}
 use Rattle.chip.proofs.Steps.{Shape, dropped, acknowledged, echoed, rejected, replied, quiet, moved-port, shapes}
 use Rattle.journal.specs.Layout as Layout
@@ -37,7 +37,7 @@ use Rattle.sca.proofs.States.{state-back, state-bytes}
 use Rattle.promises.specs.Runs.{Call, event, back, empty, Given, AllOfTheirTypes, Run, left, bare, refuses, Demand3}
 use Rattle.promises.specs.Ours.{Handed, shown, givesOurs, leavesOurs, ours}
 use Rattle.promises.specs.Exported.{BytePair, bytePair, unpacked, unpackedKept, givesExported, leavesExported, exported}
-use Rattle.promises.proofs.Runs.{demand3, state-fits, back-fits, created-new}
+use Rattle.promises.proofs.Runs.{demand3, state-good, back-good, created-new}
 
 -- ---- packing loses nothing
 
@@ -95,7 +95,7 @@ record SmallFrame (r : Reaction) : Type 0 where
   port : r .port < 256
   length : frontLength (r .frames) < 256
 
-small-frame : (a : Adapter) (e : Event) → Fits a → wrongArgument e ≡ false → wrongBody e ≡ false → SmallFrame (reaction a e)
+small-frame : (a : Adapter) (e : Event) → Good a → wrongArgument e ≡ false → wrongBody e ≡ false → SmallFrame (reaction a e)
 unfolding replies
 small-frame a e f h k = by (reaction a e) (shapes a e)
   where
@@ -104,7 +104,7 @@ small-frame a e f h k = by (reaction a e) (shapes a e)
     by r (acknowledged port body g b c) = record { port = port-of e port body h g; length = lit< tt }
     by r (echoed port body g) = record { port = port-of e port body h g; length = length-of e port body k g }
     by r (rejected port body g) = record { port = port-of e port body h g; length = lit< tt }
-    by r (replied b trn ch err len d m g) = record { port = rw (moved-port a e b m) (f .link .port); length = lit< tt }
+    by r (replied b trn ch err len d m g) = record { port = rw (moved-port a e b m) (good-fits a f .port); length = lit< tt }
     by r (quiet b m) = record { port = lit< tt; length = lit< tt }
 
 pub called-number : (a : Adapter) (j : List ℕ) (e : Event) (o : List ℕ) → called a j e o .answer .number < 256
@@ -117,7 +117,7 @@ called-number a j e o = go (verdict a j e o) refl
         rw (called-refused a j e o n q) (rw q at s)
     go Passed q = rw (called-done a j e o q) (small-given _ (number-given a e))
 
-called-small : (a : Adapter) (j : List ℕ) (e : Event) (o : List ℕ) → Fits a → Small (called a j e o .answer)
+called-small : (a : Adapter) (j : List ℕ) (e : Event) (o : List ℕ) → Good a → Small (called a j e o .answer)
 unfolding done verdict
 called-small a j e o f = go (verdict a j e o) refl
   where
@@ -173,7 +173,7 @@ kept-unpacked j = go (wellFormed j) refl
 abbrev spell : Handed → BytePair
 spell p = bytePair (stateBytes (p .adapter)) (p .journal)
 
-module _ (p : Handed) (f : Fits (p .adapter)) where
+module _ (p : Handed) (f : Good (p .adapter)) where
   -- a call on the bytes of a state gives what the call on the state gives,
   gives-same : (k : Call) → givesExported (spell p) k ≡ givesOurs p k
   unfolding happened steppedBack emptied
@@ -194,7 +194,7 @@ module _ (p : Handed) (f : Fits (p .adapter)) where
 
 -- ---- every run
 
-leaves-all : (ks : List Call) (p : Handed) → ((n : ℕ) → Fits (foldl leavesOurs p (take n ks) .adapter)) → foldl leavesExported (spell p) ks ≡ spell (foldl leavesOurs p ks)
+leaves-all : (ks : List Call) (p : Handed) → ((n : ℕ) → Good (foldl leavesOurs p (take n ks) .adapter)) → foldl leavesExported (spell p) ks ≡ spell (foldl leavesOurs p ks)
 leaves-all [] p f = refl
 leaves-all (k ∷ ks) p f =
     ap (λ (q : BytePair). foldl leavesExported q ks) (leaves-same p (f 0) k) ∙ leaves-all ks (leavesOurs p k) (λ n. f (suc n))
@@ -215,13 +215,13 @@ module _ (new : List ℕ) (size : length new ≡ 76) (r : Run) where
 
   left-same : left (exported new) r ≡ spell (left ours r)
   unfolding front
-  left-same = ap (λ (p : BytePair). foldl leavesExported p (r .calls)) start-same ∙ leaves-all (r .calls) (ours .start (r .id) (r .bytes)) (λ n. state-fits (front r n))
+  left-same = ap (λ (p : BytePair). foldl leavesExported p (r .calls)) start-same ∙ leaves-all (r .calls) (ours .start (r .id) (r .bytes)) (λ n. state-good (front r n))
 
   gives-left : (k : Call) → givesExported (left (exported new) r) k ≡ givesOurs (left ours r) k
-  gives-left k = ap (λ (p : BytePair). givesExported p k) left-same ∙ gives-same (left ours r) (state-fits r) k
+  gives-left k = ap (λ (p : BytePair). givesExported p k) left-same ∙ gives-same (left ours r) (state-good r) k
 
   leaves-left : (k : Call) → leavesExported (left (exported new) r) k ≡ spell (leavesOurs (left ours r) k)
-  leaves-left k = ap (λ (p : BytePair). leavesExported p k) left-same ∙ leaves-same (left ours r) (state-fits r) k
+  leaves-left k = ap (λ (p : BytePair). leavesExported p k) left-same ∙ leaves-same (left ours r) (state-good r) k
 
   kept-left : exported new .kept (left (exported new) r) ≡ keptIn (left ours r .journal)
   unfolding kept
@@ -235,12 +235,12 @@ pub demand3-exported : (new : List ℕ) → length new ≡ 76 → Demand3 (expor
 demand3-exported new size =
     record {
       undamaged = λ r k. rw (gives-left new size r k) (demand3 .undamaged r k);
-      state = λ r. ap (λ (p : BytePair). stateIn (p .state)) (left-same new size r) ∙ state-back (left ours r .adapter) (state-fits r) ∙ demand3 .state r;
+      state = λ r. ap (λ (p : BytePair). stateIn (p .state)) (left-same new size r) ∙ state-back (left ours r .adapter) (state-good r) ∙ demand3 .state r;
       reply = λ r e output. gives-left new size r (event e output) ∙ demand3 .reply r e output;
       takes-back = λ r h.
           let d = demand3 .takes-back r (λ z. h (ap (λ (x : KeptNumber). x .kept) (kept-left new size r) ∙ z)) in (
             gives-left new size r back ∙ d .0,
-            ap (λ (p : BytePair). stateIn (p .state)) (leaves-left new size r back) ∙ state-back (leavesOurs (left ours r) back .adapter) (back-fits r) ∙ d .1,
+            ap (λ (p : BytePair). stateIn (p .state)) (leaves-left new size r back) ∙ state-back (leavesOurs (left ours r) back .adapter) (back-good r) ∙ d .1,
           );
       refused-at-zero = λ r z.
           let d = demand3 .refused-at-zero r (sym (ap (λ (x : KeptNumber). x .kept) (kept-left new size r)) ∙ z) in

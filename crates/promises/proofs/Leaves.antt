@@ -23,7 +23,7 @@ use Rattle.chip.specs.Event.{Event, frame, completion, sample, upset}
 use Rattle.chip.proofs.EventFits.{EventFits}
 use Rattle.chip.specs.Chip.{reaction, acceptedReset}
 use Rattle.chip.specs.State.{inRange}
-use Rattle.chip.proofs.Ranges.{of-in-range}
+use Rattle.chip.proofs.Fits.{of-in-range}
 use Rattle.chip.proofs.Laws.{dropped-keeps, accepted-reset, OneFrame, one-frame, sendable}
 use Rattle.chip.proofs.Bodies.{one, none, Every, Framable}
 use Rattle.journal.specs.Layout.{slotsOf, pushed}

@@ -17,7 +17,7 @@ use Rattle.chip.specs.Event.{spi, Event, frame, completion, sample, upset}
 use Rattle.chip.proofs.EventFits.{EventFits}
 use Rattle.chip.specs.State.{powerOn, inRange}
 use Rattle.chip.specs.Chip.{reaction, acceptedReset}
-use Rattle.chip.proofs.Laws.{Fits, power-on-fits, fits-kept, power-on-in-range, range-kept, number-given}
+use Rattle.chip.proofs.Laws.{Fits, Good, good-fits, good-ranged, power-on-good, good-stays, number-given}
 use Rattle.journal.specs.Layout.{slotsOf, wrongLength, keptOf, past, emptied, lowered}
 use Rattle.journal.specs.Record.{restored, sound}
 use Rattle.bits.proofs.Tests.{either}
@@ -26,8 +26,10 @@ use Rattle.adapter.specs.declared.Verdict.the-variants.{Refused, Passed}
 use Rattle.adapter.specs.declared.KeptNumber.{KeptNumber}
 use Rattle.adapter.specs.Refusals.{wrongArgument, wrongBody, inOrder, verdict}
 use Rattle.adapter.specs.Calls.{Outcome, outcome, plain, recorded, done, called, Stepped, stepped, steppedBack, Cleared, keptIn, created}
-use Rattle.adapter.proofs.Laws.{called-refused, called-done, own-refusals, recorded-well, recorded-slots, recorded-kept, newest-restores, newest-sound, older-stay, back-refused, back-done, empty-done}
-use Rattle.promises.specs.Runs.{Call, event, back, empty, Given, OfItsTypes, AllOfTheirTypes, Run, left, refusal, refused, Standing, atStart, keeps, standing, stateAfter, dueState, bare, answered, due, refuses, lent, Demand3}
+use Rattle.adapter.proofs.Laws.{called-refused, called-done, own-refusals, recorded-well, recorded-slots, recorded-kept, newest-restores}
+use Rattle.adapter.proofs.Laws.{newest-sound, older-stay, back-refused, back-done, empty-done}
+use Rattle.promises.specs.Runs.{Call, event, back, empty, Given, OfItsTypes, AllOfTheirTypes, Run, left, refusal, refused, Standing, atStart}
+use Rattle.promises.specs.Runs.{keeps, standing, stateAfter, dueState, bare, answered, due, refuses, lent, Demand3}
 use Rattle.promises.specs.Ours.{Handed, handed, shown, givesOurs, leavesOurs, ours}
 use Rattle.promises.proofs.Formats.{always-64}
 
@@ -103,15 +105,16 @@ told id s back = cond (eqb (s .number) 0) (bare 5 []) (bare 17 [])
 told id s empty = bare 17 []
 
 module _ (id : ℕ) (small : id ≤ number.idMost) where
-  after-fits : (es : List Event) → AllFit es → Fits (stateAfter id es)
+  after-good : (es : List Event) → AllFit es → Good (stateAfter id es)
   unfolding AllFit
-  after-fits [] f = power-on-fits id (omega arith)
-  after-fits (e ∷ es) f = fits-kept (stateAfter id es) e (after-fits es (f .1)) (f .0)
+  after-good [] f = power-on-good id small
+  after-good (e ∷ es) f = good-stays (stateAfter id es) e (after-good es (f .1)) (f .0)
+
+  after-fits : (es : List Event) → AllFit es → Fits (stateAfter id es)
+  after-fits es f = good-fits (stateAfter id es) (after-good es f)
 
   after-ranged : (es : List Event) → AllFit es → inRange (stateAfter id es) ≡ true
-  unfolding AllFit
-  after-ranged [] f = power-on-in-range id small
-  after-ranged (e ∷ es) f = range-kept (stateAfter id es) e (after-ranged es (f .1)) (f .0)
+  after-ranged es f = good-ranged (stateAfter id es) (after-good es f)
 
   -- ---- the invariant
 
@@ -533,12 +536,12 @@ pub at-most-64 : (r : Run) → standing r .number ≤ 64
 at-most-64 r = let m = at-most-slots r in omega (arith, always-64 (r .bytes) (r .size))
 
 -- What a run leaves, and what a step back after it leaves, holds what the state's types hold.
-pub state-fits : (r : Run) → Fits (left ours r .adapter)
+pub state-good : (r : Run) → Good (left ours r .adapter)
 unfolding pair
-state-fits r = rw (at-end r) (after-fits (r .id) (r .id-fits) (standing r .events) (inv-end r .fit))
+state-good r = rw (at-end r) (after-good (r .id) (r .id-fits) (standing r .events) (inv-end r .fit))
 
-pub back-fits : (r : Run) → Fits (leavesOurs (left ours r) back .adapter)
+pub back-good : (r : Run) → Good (leavesOurs (left ours r) back .adapter)
 unfolding pair
-back-fits r =
+back-good r =
     let x = step (r .id) (r .id-fits) (standing r) (last r) (inv-end r) back tt in
-    rw (at-end r, x .leaves-eq) (after-fits (r .id) (r .id-fits) (keeps (standing r) back .events) (x .inv .fit))
+    rw (at-end r, x .leaves-eq) (after-good (r .id) (r .id-fits) (keeps (standing r) back .events) (x .inv .fit))

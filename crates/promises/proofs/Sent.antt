@@ -13,8 +13,7 @@ use Rattle.chip.specs.Event.{Event}
 use Rattle.chip.specs.State.{inRange}
 use Rattle.chip.specs.Chip.{reaction}
 use Rattle.chip.proofs.EventFits.{EventFits}
-use Rattle.chip.proofs.Fits.{Fits}
-use Rattle.chip.proofs.Ranges.{of-in-range}
+use Rattle.chip.proofs.Fits.{of-in-range}
 use Rattle.chip.proofs.Bodies.{Every, Framable, sendable, frame-bytes}
 use Rattle.promises.specs.Wire.{found}
 use Rattle.promises.specs.Calls.{Gives}
@@ -30,6 +29,6 @@ module _ (cable output : List ℕ) (least : 24 ≤ length cable) (most : length 
   every-body (body ∷ more) f b =
       (round-trip body (b .0) (f .0 .least) (f .0 .most) cable output least most room, every-body more (f .1) (b .1))
 
-  pub answer-comes-back : (a : Adapter) (e : Event) → inRange a ≡ true → Fits a → EventFits e → Every ComesBack (reaction a e .frames)
-  answer-comes-back a e ranged fits typed =
-      every-body (reaction a e .frames) (sendable a e (of-in-range a ranged .port) typed .1) (frame-bytes a e (fits .spi .go) typed)
+  pub answer-comes-back : (a : Adapter) (e : Event) → inRange a ≡ true → EventFits e → Every ComesBack (reaction a e .frames)
+  answer-comes-back a e ranged typed =
+      every-body (reaction a e .frames) (sendable a e (of-in-range a ranged .port) typed .1) (frame-bytes a e typed)

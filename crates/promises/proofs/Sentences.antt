@@ -1,24 +1,34 @@
--- Sentences of document 01 that no one definition says by itself, each as a law over every state. Assumes nothing.
-use Prim.Native.Nat.{ℕ}
-use mathlib.Core.Bool.{Bool, true, false, cond, true≢false}
+-- Sentences of document 01 that no one definition says by itself, each as a law over every state, or over any 25 registers. Assumes nothing.
+use Prim.Native.Nat.{ℕ, _/_, _%_, _^_, _<_}
+use mathlib.Core.Bool.{Bool, true, false, not, cond, true≢false}
 use mathlib.Core.Path.{_≡_, refl, sym, ap, _∙_}
 use mathlib.Core.List.{List, _∷_}
-use borrow.Author.Tests.{eq-eqb, ne-eqb}
-use lib.Dec.{eqb}
+use native.Mathlib.Nat.{mod-eq-of-lt}
+use native.Mathlib.Omega.{arith}
+use borrow.Author.Tests.{eq-eqb, ne-eqb, ltb-true}
+use lib.Bits.{bitAnd, and-mask}
+use lib.Dec.{eqb, leb, ltb}
+use lib.ListN.{length}
 use Rattle.bits.specs.Bits.{bitOf}
+use Rattle.bits.proofs.Tests.{and-right}
 use Rattle.commands.specs.declared.request.Reply.the-variants.{Later}
 use Rattle.commands.specs.Channels.{channelOf}
-use Rattle.commands.specs.Spi.{spiCommand}
-use Rattle.registers.specs.declared.controller.Control.{Control}
-use Rattle.registers.specs.Controller.{spiEnabled}
-use Rattle.registers.specs.Spi.{spiZero, spiBusy, spiAnswer, actSpi}
+use Rattle.commands.specs.Command.{codeOf}
+use Rattle.commands.specs.declared.channel.Channel.the-variants.{Controller, Spi}
+use Rattle.commands.specs.declared.command.Register.{Register}
+use Rattle.commands.specs.declared.command.Register.the-variants.{SpiGo, Seu}
+use Rattle.registers.specs.Registers.{count, rowOf, read, store, written}
+use Rattle.registers.proofs.Laws.{read-stored}
+use Rattle.channels.specs.Rows.{isEnabled, isBusy, settled}
+use Rattle.channels.proofs.Laws.{Own, disabled-holds, settled-held, settled-enabled, settled-zero}
+use Rattle.channels.specs.Errors.{decoded}
+use Rattle.channels.specs.Perform.{answered}
 use Rattle.numbers.specs.Numbers.{notBusy, noFrame}
 use Rattle.chip.specs.declared.Adapter.{Adapter}
 use Rattle.chip.specs.Event.{spi, frame, completion, upset}
-use Rattle.chip.specs.State.{poweredOn, withControl, withSeu}
+use Rattle.chip.specs.State.{poweredOn, withRegisters}
 use Rattle.chip.specs.Answer.{gives}
-use Rattle.chip.specs.Link.{numberIn, inLoopback}
-use Rattle.chip.specs.Request.{onChannel, answered}
+use Rattle.link.specs.Link.{numberIn, inLoopback}
 use Rattle.chip.specs.Frame.{connected, reset, numbered, carried, addressed, onFrame}
 use Rattle.chip.specs.Chip.{onSpi, onUpset, reaction}
 
@@ -55,38 +65,58 @@ module _ (a : Adapter) (port x c d : ℕ) (info : List ℕ) where
 
 -- ---- "An upset adds 1 to a 32-bit counter that wraps to 0, and gives 17."
 
-pub wraps : (a : Adapter) → a .seu ≡ 0xFFFFFFFF → reaction a upset ≡ gives (withSeu a 0) noFrame
+pub wraps : (a : Adapter) → read (a .registers) Seu ≡ 0xFFFFFFFF → reaction a upset ≡ gives (withRegisters a (store (a .registers) Seu 0)) noFrame
 unfolding reaction onUpset
 wraps a e = simp e
 
 -- ---- "GO gives no reply yet (17) and makes SPI busy."
 
 -- a GO, in a request with any TRN that is answered and any data, to an SPI that is enabled and not busy
-pub go-makes-busy : (a : Adapter) (trn d : ℕ) → eqb trn 0x00 ≡ false → eqb trn 0xFF ≡ false → spiEnabled (a .control) ≡ true → spiBusy (a .spi) ≡ false
-    → let x = answered a (record { trn = trn; ch = 0x01; len = 2; cmd = 0x72; value = d }) in (x .reply ≡ Later) × (spiBusy (x .adapter .spi) ≡ true)
-unfolding answered onChannel channelOf spiAnswer actSpi spiCommand
-go-makes-busy a trn d zero last on idle = simp (zero, last, on, idle) (refl, refl)
+pub go-makes-busy : (rs : List ℕ) (id trn d : ℕ) → length rs ≡ count → 0 < trn → trn < 0xFF → isEnabled rs Spi ≡ true → isBusy rs Spi ≡ false
+    → let x = answered rs id (record { trn = trn; ch = 0x01; len = 2; cmd = 0x72; value = d }) in (x .reply ≡ Later) × (isBusy (x .registers) Spi ≡ true)
+unfolding answered decoded channelOf codeOf
+go-makes-busy rs id trn d n l u on idle =
+    simp (ne-eqb trn 0x00 (λ e. omega arith), ne-eqb trn 0xFF (λ e. omega arith), on, idle) (refl, ap not (ne-eqb _ 0 (λ e. kept e)))
+  where
+    kept : read (store rs SpiGo trn) SpiGo ≡ 0 → ⊥
+    kept e =
+        let m : trn % 256 ≡ trn = mod-eq-of-lt (omega arith) in
+        let z : bitAnd trn 255 ≡ 0 = sym (read-stored rs SpiGo SpiGo trn n) ∙ e in
+        omega (arith, and-mask trn 8)
 
 -- ---- "Disabling, or RESET, while busy drops the GO for good; CONNECT does not."
 
-idle : (a : Adapter) (received : List ℕ) → a .spi .go ≡ 0 → reaction a (completion (spi received)) ≡ gives a notBusy
+idle : (a : Adapter) (received : List ℕ) → read (a .registers) SpiGo ≡ 0 → reaction a (completion (spi received)) ≡ gives a notBusy
 unfolding reaction onSpi
 idle a received e = simp (eq-eqb _ 0 e)
 
-zeroed : (t : Bool) → cond t spiZero spiZero .go ≡ 0
-zeroed true = refl
-zeroed false = refl
+-- A write of the controller leaves `settled` registers. One that disables SPI leaves no GO (`off` are the registers as it writes them), and no later
+-- one brings it back, though it may enable SPI again: a completion is 15.
+pub disabling-drops : (off : List ℕ) → length off ≡ count → isEnabled off Spi ≡ false → read (settled off) SpiGo ≡ 0
+disabling-drops off n e = disabled-holds (settled off) (settled-held off n) Spi refl (settled-enabled off Spi ∙ e) SpiGo refl
 
--- A controller's answer is `withControl` of the registers it leaves. After one that disables SPI, and another that may enable it again, a
--- completion is 15.
-pub disabling-drops : (a : Adapter) (off again : Control) (received : List ℕ) → spiEnabled off ≡ false
-    → let b = withControl (withControl a off) again in reaction b (completion (spi received)) ≡ gives b notBusy
-disabling-drops a off again received e = idle _ received (simp e (zeroed (spiEnabled again)))
+pub dropped-for-good : (a : Adapter) (rs received : List ℕ) (r : Register) (d : ℕ) → length rs ≡ count → Own Controller r → read rs SpiGo ≡ 0
+    → let b = withRegisters a (settled (written rs r d)) in
+    (read (b .registers) SpiGo ≡ 0) × (reaction b (completion (spi received)) ≡ gives b notBusy)
+dropped-for-good a rs received r d n o z = (still, idle _ received still)
+  where
+    apart : (p : ℕ) → p < 3 → 10 ≡ p → ⊥
+    apart p l e = omega arith
+
+    elsewhere : read (written rs r d) SpiGo ≡ 0
+    elsewhere =
+        read-stored rs r SpiGo _ n
+        ∙ ap (λ (t : Bool). cond t (bitAnd (d / 2 ^ (rowOf r .low)) (rowOf r .mask)) (read rs SpiGo))
+        (ne-eqb 10 (rowOf r .place) (apart _ (ltb-true _ 3 (and-right (leb 0 (rowOf r .place)) (ltb (rowOf r .place) 3) o))))
+        ∙ z
+
+    still : read (settled (written rs r d)) SpiGo ≡ 0
+    still = settled-zero (written rs r d) SpiGo elsewhere
 
 pub reset-drops : (a : Adapter) (port : ℕ) (received : List ℕ) → reaction (reset a port) (completion (spi received)) ≡ gives (reset a port) notBusy
-unfolding poweredOn
+unfolding poweredOn read
 reset-drops a port received = idle (reset a port) received refl
 
--- SPI as it was, an open GO too
-pub connect-keeps : (a : Adapter) (port : ℕ) → connected a port .spi ≡ a .spi
+-- the registers as they were, an open GO too
+pub connect-keeps : (a : Adapter) (port : ℕ) → connected a port .registers ≡ a .registers
 connect-keeps a port = refl

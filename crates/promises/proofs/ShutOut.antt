@@ -8,13 +8,16 @@ use native.Mathlib.Omega.{arith}
 use lib.ListN.{length, getD, replicate, length-replicate}
 use lib.Dec.{lit<, lit≤}
 use Rattle.numbers.specs.Numbers as number
+use Rattle.commands.specs.declared.command.Register.the-variants.{Seu}
+use Rattle.registers.specs.Registers.{read, store}
 use Rattle.chip.specs.declared.Adapter.{Adapter}
 use Rattle.chip.specs.Event.{Event, frame, upset}
 use Rattle.chip.specs.State.{poweredOn, powerOn}
 use Rattle.chip.specs.Frame.{isResetFrame, commanded, addressed, onFrame}
 use Rattle.chip.specs.Chip.{reaction, onUpset, acceptedReset}
 use Rattle.adapter.specs.declared.KeptNumber.{KeptNumber}
-use Rattle.promises.specs.Runs.{Call, event, back, empty, Given, Calls, AllOfTheirTypes, Run, left, Standing, atStart, keeps, standing, stateAfter, bare, lent, Demand3}
+use Rattle.promises.specs.Runs.{Call, event, back, empty, Given, Calls, AllOfTheirTypes, Run, left, Standing, atStart, keeps, standing}
+use Rattle.promises.specs.Runs.{stateAfter, bare, lent, Demand3}
 use Rattle.promises.specs.Ours.{Handed, handed, givesOurs, leavesOurs, ours}
 use Rattle.promises.proofs.Formats.{slots-64, any-17408}
 
@@ -70,15 +73,19 @@ start-of c = c .start 0x00000A (replicate 17408 0)
 
 -- ---- what no calls can do that meet the demand
 
+-- the SEU counter, by which states are told apart here
+abbrev upsets : Adapter → ℕ
+upsets a = read (a .registers) Seu
+
 module _ (c : Calls) (d : Demand3 c) where
   -- the start, and the state after an upset
   state-at-start : c .state (start-of c) ≡ powerOn 0x00000A
   unfolding at-start ran
   state-at-start = d .state at-start
 
-  state-after-upset : c .state (c .leaves (start-of c) upset-call) .seu ≡ 1
-  unfolding after-upset ran reaction onUpset poweredOn
-  state-after-upset = ap (λ (a : Adapter). a .seu) (d .state after-upset)
+  state-after-upset : upsets (c .state (c .leaves (start-of c) upset-call)) ≡ 1
+  unfolding after-upset ran reaction onUpset poweredOn read store
+  state-after-upset = ap upsets (d .state after-upset)
 
   -- answers to the first event
   upset-first : c .gives (start-of c) upset-call .number ≡ 17
@@ -107,10 +114,10 @@ module _ (c : Calls) (d : Demand3 c) where
 
   -- leave the state as it came
   pub state-stays : ((p : c .Pair) (e : Event) (o : List ℕ) → c .state (c .leaves p (event e o)) ≡ c .state p) → ⊥
-  unfolding poweredOn
+  unfolding poweredOn read
   state-stays h =
-      let z : c .state (start-of c) .seu ≡ 0 = ap (λ (a : Adapter). a .seu) state-at-start in
-      let s : c .state (c .leaves (start-of c) upset-call) .seu ≡ c .state (start-of c) .seu = ap (λ (a : Adapter). a .seu) (h (start-of c) upset output) in
+      let z : upsets (c .state (start-of c)) ≡ 0 = ap upsets state-at-start in
+      let s : upsets (c .state (c .leaves (start-of c) upset-call)) ≡ upsets (c .state (start-of c)) = ap upsets (h (start-of c) upset output) in
       let u = state-after-upset in
       omega arith
 
@@ -125,13 +132,13 @@ module _ (c : Calls) (d : Demand3 c) where
 
   -- step back and leave the state
   pub back-stays : ((p : c .Pair) → c .state (c .leaves p back) ≡ c .state p) → ⊥
-  unfolding after-back ran poweredOn
+  unfolding after-back ran poweredOn read
   back-stays h =
-      let z : c .state (c .leaves (c .leaves (start-of c) upset-call) back) .seu ≡ 0 =
-      ap (λ (a : Adapter). a .seu) (d .state after-back)
-      ∙ ap (λ (s : Standing). stateAfter 0x00000A (s .events) .seu) (ran-standing (upset-call ∷ back ∷ []) (tt, (tt, tt))) in
-      let s : c .state (c .leaves (c .leaves (start-of c) upset-call) back) .seu ≡ c .state (c .leaves (start-of c) upset-call) .seu =
-      ap (λ (a : Adapter). a .seu) (h (c .leaves (start-of c) upset-call)) in
+      let z : upsets (c .state (c .leaves (c .leaves (start-of c) upset-call) back)) ≡ 0 =
+      ap upsets (d .state after-back)
+      ∙ ap (λ (s : Standing). upsets (stateAfter 0x00000A (s .events))) (ran-standing (upset-call ∷ back ∷ []) (tt, (tt, tt))) in
+      let s : upsets (c .state (c .leaves (c .leaves (start-of c) upset-call) back)) ≡ upsets (c .state (c .leaves (start-of c) upset-call)) =
+      ap upsets (h (c .leaves (start-of c) upset-call)) in
       let u = state-after-upset in
       omega arith
 

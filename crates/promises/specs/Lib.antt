@@ -1,6 +1,5 @@
 pub mod Wire
 pub mod Calls
-pub mod Errors
 pub mod Runs
 pub mod Ours
 pub mod Exported

@@ -1,13 +1,6 @@
-pub mod Cases
-pub mod ChipIdAnswers
-pub mod ControllerAnswers
-pub mod DacAnswers
-pub mod Fits
-pub mod GpioAnswers
+-- Rows: what all rows have. Laws: reading and storing. Pins, Transfer: masks against the rules.
+pub mod Rows
 pub mod Laws
-pub mod OneOutcome
 pub mod Pins
-pub mod Ranges
-pub mod SeuAnswers
-pub mod SpiAnswers
 pub mod Transfer
+pub mod OneOutcome

@@ -1,18 +1,20 @@
 -- The mask expressions of a pin sample are the words that the rules spell line by line.
 use Prim.Native.Nat.{ℕ, _-_, _^_, _<_}
 use mathlib.Core.Bool.{Bool, true, false, not, _&&_, _||_}
+use mathlib.Core.List.{List}
 use mathlib.Core.Path.{_≡_}
 use native.Mathlib.Omega.{arith}
 use borrow.Author.Tests.{eq-eqb, ne-eqb}
 use lib.Bits.{bitAnd, bitOr, and-lt, or-lt}
 use lib.Pow.{ones-sub-lt}
 use Rattle.bits.specs.Bits.{bitOf, word}
-use Rattle.bits.proofs.Bits.{bit-and, bit-or, bit-not, is-word}
+use Rattle.bits.proofs.Bits.{bit-and, bit-or, bit-not, bit-set, bit-clear, is-word}
 use Rattle.bits.proofs.Masks.{bit-none, chosen-by}
 use Rattle.bits.proofs.Taut.{taut3, taut4}
-use Rattle.registers.specs.declared.gpio.Gpio.{Gpio}
 use Rattle.registers.specs.declared.gpio.Sampled.{Sampled}
-use Rattle.registers.specs.Pins.{takes, datainAfter, fires, firingLines, gpioSampled}
+use Rattle.commands.specs.declared.command.Register.the-variants.{Datain, Direction, Intsel, Inttrig, Ints, Clksel, Edgesel, Intenable}
+use Rattle.registers.specs.Registers.{read, store}
+use Rattle.registers.specs.Pins.{takes, datainAfter, fires, firingLines, sampled}
 
 -- `!a` at 32 bits
 abbrev inv : ℕ → ℕ
@@ -54,19 +56,17 @@ taken-none d c e kind n0 n1 n2 =
     (λ i h. simp (bit-none i, ne-eqb kind 0 n0, ne-eqb kind 1 n1, ne-eqb kind 2 n2)
     (taut3 (λ d c e. false) (λ d c e. not d && (not c && false || c && (false && not e || false && e))) tt (bitOf d i) (bitOf c i) (bitOf e i)))
 
-pub datain-mask : (g : Gpio) (levels kind mask : ℕ) → mask ≡ word 32 (taken (g .direction) (g .clksel) (g .edgesel) kind)
-    → bitOr (bitAnd (g .datain) (inv mask)) (bitAnd levels mask) ≡ datainAfter g levels kind
+pub datain-mask : (rs : List ℕ) (d c e was levels kind mask : ℕ) → d ≡ read rs Direction → c ≡ read rs Clksel → e ≡ read rs Edgesel
+    → was ≡ read rs Datain → mask ≡ word 32 (taken d c e kind)
+    → bitOr (bitAnd was (inv mask)) (bitAnd levels mask) ≡ datainAfter rs levels kind
 unfolding datainAfter
-datain-mask g levels kind mask e = rw e (chosen-by 32 (g .datain) levels (taken (g .direction) (g .clksel) (g .edgesel) kind))
+datain-mask rs d c e was levels kind mask hd hc he hw m =
+    simp (m, hd, hc, he, hw) (chosen-by 32 (read rs Datain) levels (taken (read rs Direction) (read rs Clksel) (read rs Edgesel) kind))
 
-pub firing-mask : (g : Gpio) (after : ℕ) → g .datain < 2 ^ 32 → after < 2 ^ 32 → g .intsel < 2 ^ 32 → g .inttrig < 2 ^ 32
-    → bitAnd (g .intsel) (bitOr (bitAnd (bitAnd (inv (g .datain)) after) (inv (g .inttrig))) (bitAnd (bitAnd (g .datain) (inv after)) (g .inttrig)))
-    ≡ firingLines g after
-unfolding firingLines
-firing-mask g after hw hn hs ht =
-    let w = g .datain in
-    let s = g .intsel in
-    let t = g .inttrig in
+pub firing-mask : (w after s t : ℕ) → w < 2 ^ 32 → after < 2 ^ 32 → s < 2 ^ 32 → t < 2 ^ 32
+    → bitAnd s (bitOr (bitAnd (bitAnd (inv w) after) (inv t)) (bitAnd (bitAnd w (inv after)) t))
+    ≡ word 32 (λ i. fires (bitOf w i) (bitOf after i) (bitOf s i) (bitOf t i))
+firing-mask w after s t hw hn hs ht =
     is-word 32 (bitAnd s (bitOr (bitAnd (bitAnd (inv w) after) (inv t)) (bitAnd (bitAnd w (inv after)) t)))
     (λ i. fires (bitOf w i) (bitOf after i) (bitOf s i) (bitOf t i))
     (and-lt 32 s (bitOr (bitAnd (bitAnd (inv w) after) (inv t)) (bitAnd (bitAnd w (inv after)) t)) hs
@@ -76,19 +76,24 @@ firing-mask g after hw hn hs ht =
     (λ i h. simp (bit-or, bit-and, bit-not 32 w i hw h, bit-not 32 after i hn h, bit-not 32 t i ht h)
     (taut4 (λ w n s t. s && (not w && n && not t || w && not n && t)) (λ w n s t. fires w n s t) tt (bitOf w i) (bitOf after i) (bitOf s i) (bitOf t i)))
 
-abbrev sampled : Gpio → ℕ → ℕ → Bool → Sampled
-sampled g after ints interrupt =
-    record { gpio = record { dataout = g .dataout; datain = after; direction = g .direction; intsel = g .intsel; inttrig = g .inttrig; ints = ints; clksel = g .clksel; edgesel = g .edgesel; intenable = g .intenable }; interrupt = interrupt }
+pub firing : (rs : List ℕ) (after w s t r : ℕ) → w ≡ read rs Datain → s ≡ read rs Intsel → t ≡ read rs Inttrig
+    → r ≡ word 32 (λ i. fires (bitOf w i) (bitOf after i) (bitOf s i) (bitOf t i)) → r ≡ firingLines rs after
+unfolding firingLines
+firing rs after w s t r hw hs ht e = simp (e, hw, hs, ht)
 
-module _ (g : Gpio) (levels kind after fired : ℕ) (a : after ≡ datainAfter g levels kind) (f : fired ≡ firingLines g after) where
-  pub interrupts : g .intenable ≡ true → (fired ≡ 0 → ⊥) → sampled g after fired true ≡ gpioSampled g levels kind
-  unfolding gpioSampled
-  interrupts e h = simp (← a, ← f, e, ne-eqb fired 0 h)
+module _ (rs : List ℕ) (levels kind after fired on : ℕ) (taken : List ℕ) (a : after ≡ datainAfter rs levels kind) (f : fired ≡ firingLines rs after)
+    (d : taken ≡ store rs Datain after) (n : on ≡ read rs Intenable) where
+  abbrev given : List ℕ → Bool → Sampled
+  given after interrupt = record { registers = after; interrupt = interrupt }
 
-  pub none-fired : g .intenable ≡ true → fired ≡ 0 → sampled g after (g .ints) false ≡ gpioSampled g levels kind
-  unfolding gpioSampled
-  none-fired e h = simp (← a, ← f, e, eq-eqb fired 0 h)
+  pub interrupts : (told : List ℕ) → (bitAnd on 1 ≡ 0 → ⊥) → (fired ≡ 0 → ⊥) → told ≡ store taken Ints fired → given told true ≡ sampled rs levels kind
+  unfolding sampled
+  interrupts told e h t = simp (← a, ← f, ← d, ← n, bit-set on 0 e, ne-eqb fired 0 h, t)
 
-  pub disabled : g .intenable ≡ false → sampled g after (g .ints) false ≡ gpioSampled g levels kind
-  unfolding gpioSampled
-  disabled e = simp (← a, ← f, e)
+  pub none-fired : (bitAnd on 1 ≡ 0 → ⊥) → fired ≡ 0 → given taken false ≡ sampled rs levels kind
+  unfolding sampled
+  none-fired e h = simp (← a, ← f, ← d, ← n, bit-set on 0 e, eq-eqb fired 0 h)
+
+  pub disabled : bitAnd on 1 ≡ 0 → given taken false ≡ sampled rs levels kind
+  unfolding sampled
+  disabled e = simp (← a, ← d, ← n, bit-clear on 0 e)

@@ -1,7 +1,7 @@
 -- The masks of an SPI completion are the words that the rule spells bit by bit.
 use Prim.Native.Nat.{ℕ, _+_, _-_, _*_, _/_, _%_, _^_, _<_, _≤_}
 use mathlib.Core.Bool.{Bool, cond}
-use mathlib.Core.List.{List, [], _∷_}
+use mathlib.Core.List.{List}
 use mathlib.Core.Path.{_≡_, sym, _∙_}
 use native.Mathlib.Nat.{mod-eq-of-lt}
 use native.Mathlib.Omega.{arith}
@@ -14,11 +14,9 @@ use Rattle.bits.specs.Bits.{bitOf, word}
 use Rattle.bits.proofs.Bits.{is-word, word-same}
 use Rattle.bits.proofs.Masks.{bit-none, bit-below, chosen-by}
 use Rattle.bits.proofs.Tests.{ltb-same}
-use Rattle.commands.specs.declared.request.Reply.{Reply}
-use Rattle.registers.specs.declared.spi.Answered.{Answered}
-use Rattle.registers.specs.declared.spi.Spi.{Spi}
-use Rattle.commands.specs.Request.{granted}
-use Rattle.registers.specs.Spi.{transferLength, completedBit, completedWord, spiCompleted}
+use Rattle.commands.specs.declared.command.Register.the-variants.{SpiControl, SpiData0, SpiData1, SpiData2, SpiData3, SpiGo}
+use Rattle.registers.specs.Registers.{read, store}
+use Rattle.registers.specs.Transfer.{transferLength, dataWords, completedBit, completedWord, completed}
 
 module _ (control : ℕ) where
   pub length-bits : bitAnd control 127 ≡ control % 128
@@ -70,13 +68,21 @@ merged-word w length was received r e =
     let m : (32 * w + i) % 32 ≡ i = omega arith in
     rw (q, m))
 
-pub completed-words : (s : Spi) (received : List ℕ) (length w0 w1 w2 w3 : ℕ) (p : Reply) → length ≡ transferLength (s .control)
-    → w0 ≡ completedWord length (s .words) received 0
-    → w1 ≡ completedWord length (s .words) received 1
-    → w2 ≡ completedWord length (s .words) received 2
-    → w3 ≡ completedWord length (s .words) received 3
-    → p ≡ granted 6 w0
-    → _≡_ {A = Answered} (record { spi = record { control = s .control; freq = s .freq; ss = s .ss; words = w0 ∷ w1 ∷ w2 ∷ w3 ∷ []; go = 0 }; reply = p })
-    (spiCompleted s received)
-unfolding spiCompleted
-completed-words s received length w0 w1 w2 w3 p l e0 e1 e2 e3 g = simp (g, e0, e1, e2, e3, l)
+module _ (rs received : List ℕ) where
+  -- one word as code makes it
+  abbrev Merged : ℕ → ℕ → ℕ → ℕ → ℕ → Type 0
+  Merged w length from was r = r ≡ word 32 (λ i. cond (ltb (from + i) length) (bitOf (getD received w 0) i) (bitOf was i))
+
+  pub completes : (control length d0 d1 d2 d3 w0 w1 w2 w3 : ℕ) (s0 s1 s2 s3 r : List ℕ) → control ≡ read rs SpiControl → length ≡ transferLength control
+      → d0 ≡ read rs SpiData0 → d1 ≡ read rs SpiData1 → d2 ≡ read rs SpiData2 → d3 ≡ read rs SpiData3
+      → Merged 0 length 0 d0 w0 → Merged 1 length 32 d1 w1 → Merged 2 length 64 d2 w2 → Merged 3 length 96 d3 w3
+      → s0 ≡ store rs SpiData0 w0 → s1 ≡ store s0 SpiData1 w1 → s2 ≡ store s1 SpiData2 w2 → s3 ≡ store s2 SpiData3 w3 → r ≡ store s3 SpiGo 0
+      → r ≡ completed rs received
+  unfolding completed
+  completes control length d0 d1 d2 d3 w0 w1 w2 w3 s0 s1 s2 s3 r c l g0 g1 g2 g3 m0 m1 m2 m3 f0 f1 f2 f3 f =
+      let due : ℕ → ℕ = λ w. completedWord length (dataWords rs) received w in
+      let e0 : w0 ≡ due 0 = merged-word 0 length (dataWords rs) received w0 (rw (← g0) m0) in
+      let e1 : w1 ≡ due 1 = merged-word 1 length (dataWords rs) received w1 (rw (← g1) m1) in
+      let e2 : w2 ≡ due 2 = merged-word 2 length (dataWords rs) received w2 (rw (← g2) m2) in
+      let e3 : w3 ≡ due 3 = merged-word 3 length (dataWords rs) received w3 (rw (← g3) m3) in
+      simp (f, f3, f2, f1, f0, e0, e1, e2, e3, l, c)

@@ -1,7 +1,4 @@
-pub mod Controller
-pub mod Spi
-pub mod Gpio
+-- The registers, and what a pin sample and an SPI transfer make of them.
+pub mod Registers
 pub mod Pins
-pub mod Seu
-pub mod ChipId
-pub mod Dac
+pub mod Transfer

@@ -29,7 +29,7 @@ use Rattle.adapter.specs.Calls as Calls
 use Rattle.adapter.specs.Calls.{Outcome, Cleared}
 use Rattle.chip.specs.declared.Response.{Response}
 use Rattle.adapter.specs.declared.Created.{Created}
-use Rattle.chip.proofs.Fits.{Fits}
+use Rattle.chip.proofs.Fits.{Good, good-fits}
 use Rattle.bits.proofs.Tests.{and-left, and-right}
 use Rattle.sca.specs.Adapter.{stateBytes, stateIn, isState, packAnswer, left, happened, backed, steppedBack, gave, created, emptied}
 use Rattle.sca.specs.Inner.{backVerdictIn}
@@ -94,26 +94,26 @@ restored-bytes s r n b c h =
     ∙ ap (λ (x : ℕ). bytesOf (wordsOf 18 r) ++ drop x s) k
 
 -- a state is read back from its bytes
-module _ (a : Adapter) (f : Fits a) where
+module _ (a : Adapter) (g : Good a) where
   image-back : (rest : List ℕ) → wordsOf 18 (bytesOf (imageWords a) ++ rest) ≡ imageWords a
   unfolding imageWords
-  image-back rest = words-bytes (image-words a f) rest
+  image-back rest = words-bytes (image-words a g) rest
 
   id-back : frontWord (drop 72 (stateBytes a)) ≡ a .id
   unfolding wordsOf bytesOf
   id-back =
       ap frontWord (drop-at (bytesOf (imageWords a)) (bytesOf (a .id ∷ [])) 72 (length-image a))
-      ∙ ap (λ (l : List ℕ). getD l 0 0) (words-bytes (more (f .id) none) [])
+      ∙ ap (λ (l : List ℕ). getD l 0 0) (words-bytes (more (good-fits a g .id) none) [])
 
   pub state-back : stateIn (stateBytes a) ≡ a
-  state-back = ap₂ stateOf id-back (image-back (bytesOf (a .id ∷ []))) ∙ state-image a f (a .id) refl
+  state-back = ap₂ stateOf id-back (image-back (bytesOf (a .id ∷ []))) ∙ state-image a g (a .id) refl
 
   pub state-bytes : isState (stateBytes a) ≡ true
   unfolding isState
   state-bytes =
       let k : length (bytesOf (a .id ∷ [])) ≡ 4 = length-bytes (a .id ∷ []) in
       let n : length (stateBytes a) ≡ 76 = simp length-append (omega (arith, length-image a)) in
-      rw (eq-eqb (length (stateBytes a)) 76 n, image-back (bytesOf (a .id ∷ []))) (image-spelled a f)
+      rw (eq-eqb (length (stateBytes a)) 76 n, image-back (bytesOf (a .id ∷ []))) (image-spelled a g)
 
 -- one word
 pub first-word : (ws s : List ℕ) → ws ≡ wordsOf 1 s → getD ws 0 0 ≡ frontWord s

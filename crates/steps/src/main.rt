@@ -2,6 +2,7 @@
 // back until one is refused. A line is the number and the kept number, then with 0 the port and the body. docs/STEPS.md works every line out.
 use chip::Adapter;
 use chip::Response;
+use commands::command::Register;
 
 const OUT: i32 = 1;
 
@@ -89,7 +90,8 @@ fn upsets(a: Adapter, journal: &mut [u8; 17408], count: u8) -> Adapter {
         number = answer.number;
         i += 1;
     }
-    show_seu(number, journal, b.seu);
+    let registers = b.registers;
+    show_seu(number, journal, registers::read(registers, Register::Seu));
     b
 }
 
@@ -104,7 +106,8 @@ fn steps_back(a: Adapter, journal: &mut [u8; 17408], count: u8) -> Adapter {
         number = answer.number;
         i += 1;
     }
-    show_seu(number, journal, b.seu);
+    let registers = b.registers;
+    show_seu(number, journal, registers::read(registers, Register::Seu));
     b
 }
 

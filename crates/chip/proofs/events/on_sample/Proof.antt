@@ -1,6 +1,6 @@
 -- `events::on_sample` meets its contract. Assumes nothing.
 use borrow.Author.Needs.{needs}
-use Rattle.chip.proofs.Happens.{disabled, interrupted, sampled}
+use Rattle.chip.proofs.Happens.{interrupted, taken, disabled}
 use Rattle.chip.proofs.events.on_sample.Statement.{statement}
 use Rattle.chip.proofs.events.on_sample.Tie as tie
 
@@ -13,7 +13,8 @@ on-sample-spec =
     (λ c κs. search needs)
     (λ c κs. search needs)
     (λ c κs. search needs)
+    (λ c κs. search needs)
     (λ c. search needs)
     (λ c. search interrupted)
-    (λ c. search sampled)
+    (λ c. search taken)
     (λ c. search disabled))

@@ -11,5 +11,4 @@ in-range-spec =
     (tie.spec
     (λ c κs. search needs)
     (λ c κs. search needs)
-    (λ c κs. search needs)
-    (λ c. simp (c .gpio-fits .ensures, c .before .spi-fits .ensures, c .before .before .in-range .ensures)))
+    (λ c. simp (c .are-held .ensures, c .before .are-within .ensures)))

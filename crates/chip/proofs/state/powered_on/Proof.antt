@@ -10,8 +10,4 @@ powered-on-spec =
     tie.close
     (tie.spec
     (λ c κs. search needs)
-    (λ c κs. search needs)
-    (λ c κs. search needs)
-    (λ c κs. search needs)
-    (λ c κs. search needs)
-    (λ c. simp (c .zero4 .ensures, c .before .zero3 .ensures, c .before .before .zero2 .ensures, c .before .before .before .zero .ensures, c .before .before .before .before .fresh .ensures)))
+    (λ c. simp (c .fresh .ensures)))

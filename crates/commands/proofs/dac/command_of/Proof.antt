@@ -1,22 +1,23 @@
 -- `dac::command_of` meets its contract. Assumes nothing.
 use mathlib.Core.Path.{ap, sym}
 use Rattle.bits.proofs.Rows.{none-of}
-use Rattle.commands.specs.Dac.{dacCommand, dacCommands}
-use Rattle.commands.specs.declared.dac.Command.the-variants.{Unknown}
+use Rattle.commands.specs.declared.command.Command.the-variants.{Unknown}
+use Rattle.commands.specs.Command.{codeOf}
+use Rattle.commands.specs.Dac.{dacCommands}
 use Rattle.commands.proofs.dac.command_of.Statement.{statement}
 use Rattle.commands.proofs.dac.command_of.Tie as tie
 
 pub command-of-spec : {M : Type 1} → statement M
-unfolding dacCommand
+unfolding codeOf
 command-of-spec =
     tie.close
     (tie.spec
-    (λ c. ap dacCommand (sym (c .match .keys1)))
-    (λ c. ap dacCommand (sym (c .match .keys2)))
-    (λ c. ap dacCommand (sym (c .match .keys3)))
-    (λ c. ap dacCommand (sym (c .match .keys4)))
-    (λ c. ap dacCommand (sym (c .match .keys5)))
-    (λ c. ap dacCommand (sym (c .match .keys6)))
-    (λ c. ap dacCommand (sym (c .match .keys7)))
-    (λ c. ap dacCommand (sym (c .match .keys8)))
+    (λ c. ap (codeOf dacCommands) (sym (c .match .keys1)))
+    (λ c. ap (codeOf dacCommands) (sym (c .match .keys2)))
+    (λ c. ap (codeOf dacCommands) (sym (c .match .keys3)))
+    (λ c. ap (codeOf dacCommands) (sym (c .match .keys4)))
+    (λ c. ap (codeOf dacCommands) (sym (c .match .keys5)))
+    (λ c. ap (codeOf dacCommands) (sym (c .match .keys6)))
+    (λ c. ap (codeOf dacCommands) (sym (c .match .keys7)))
+    (λ c. ap (codeOf dacCommands) (sym (c .match .keys8)))
     (λ c. none-of dacCommands Unknown _ (c .match .rest)))

@@ -1,16 +1,17 @@
 -- `seu::command_of` meets its contract. Assumes nothing.
 use mathlib.Core.Path.{ap, sym}
 use Rattle.bits.proofs.Rows.{none-of}
-use Rattle.commands.specs.Seu.{seuCommand, seuCommands}
-use Rattle.commands.specs.declared.seu.Command.the-variants.{Unknown}
+use Rattle.commands.specs.declared.command.Command.the-variants.{Unknown}
+use Rattle.commands.specs.Command.{codeOf}
+use Rattle.commands.specs.Seu.{seuCommands}
 use Rattle.commands.proofs.seu.command_of.Statement.{statement}
 use Rattle.commands.proofs.seu.command_of.Tie as tie
 
 pub command-of-spec : {M : Type 1} → statement M
-unfolding seuCommand
+unfolding codeOf
 command-of-spec =
     tie.close
     (tie.spec
-    (λ c. ap seuCommand (sym (c .match .keys1)))
-    (λ c. ap seuCommand (sym (c .match .keys2)))
+    (λ c. ap (codeOf seuCommands) (sym (c .match .keys1)))
+    (λ c. ap (codeOf seuCommands) (sym (c .match .keys2)))
     (λ c. none-of seuCommands Unknown _ (c .match .rest)))

@@ -1,19 +1,8 @@
--- `journal::image::state_of` meets its contract: each part is the part that its words spell. Assumes nothing.
+-- `image::state_of` meets its contract. Assumes nothing.
 use borrow.Author.Needs.{needs}
-use Rattle.journal.specs.Image.{stateOf}
+use Rattle.journal.proofs.Spelling.{state-of-words}
 use Rattle.journal.proofs.image.state_of.Statement.{statement}
 use Rattle.journal.proofs.image.state_of.Tie as tie
-
-returns : tie.Need-returns
-unfolding stateOf
-returns c =
-    simp (
-      c .dac-of .ensures,
-      c .before .gpio-of .ensures,
-      c .before .before .spi-of .ensures,
-      c .before .before .before .control-of .ensures,
-      c .before .before .before .before .link-of .ensures,
-    )
 
 pub state-of-spec : {M : Type 1} → statement M
 state-of-spec =
@@ -21,11 +10,5 @@ state-of-spec =
     (tie.spec
     (λ c. search needs)
     (λ c κs. search needs)
-    (λ c. search needs)
     (λ c κs. search needs)
-    (λ c κs. search needs)
-    (λ c κs. search needs)
-    (λ c. search needs)
-    (λ c κs. search needs)
-    (λ c. search needs)
-    returns)
+    (λ c. search state-of-words))

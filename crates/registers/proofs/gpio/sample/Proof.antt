@@ -10,6 +10,9 @@ sample-spec =
     (tie.spec
     (λ c κs. search needs)
     (λ c κs. search needs)
+    (λ c κs. search needs)
+    (λ c κs. search needs)
+    (λ c κs. search needs)
     (λ c. search interrupts)
     (λ c. search none-fired)
     (λ c. search disabled))

@@ -7,7 +7,7 @@ pub taken-lines-spec : {M : Type 1} → statement M
 taken-lines-spec =
     tie.close
     (tie.spec
-    (λ c. let s = c .before .struct-known .given in taken-0 _ _ _ _ (s .1 .1 .0 .fits) (s .1 .1 .1 .1 .1 .1 .0 .fits) (c .before .before .match .keys1))
-    (λ c. let s = c .before .before .struct-known3 .given in taken-1 _ _ _ _ (s .1 .1 .0 .fits) (s .1 .1 .1 .1 .1 .1 .0 .fits) (s .1 .1 .1 .1 .1 .1 .1 .0 .fits) (c .before .before .before .match .keys2))
-    (λ c. let s = c .before .before .struct-known6 .given in taken-2 _ _ _ _ (s .1 .1 .0 .fits) (s .1 .1 .1 .1 .1 .1 .0 .fits) (s .1 .1 .1 .1 .1 .1 .1 .0 .fits) (c .before .before .before .match .keys3))
+    (λ c. let a = c .before .args in search (taken-0 (a .direction) (a .clksel) (a .edgesel) (a .kind)))
+    (λ c. let a = c .before .args in search (taken-1 (a .direction) (a .clksel) (a .edgesel) (a .kind)))
+    (λ c. let a = c .before .args in search (taken-2 (a .direction) (a .clksel) (a .edgesel) (a .kind)))
     (λ c. taken-none _ _ _ _ (c .match .rest .0 .0 .1) (c .match .rest .0 .1) (c .match .rest .1)))

@@ -1,0 +1,174 @@
+-- What each case of the definitions comes to. `search` finds the premises in what a need knows, wherever they stand.
+use Prim.Native.Nat.{ℕ, _+_, _≤_}
+use mathlib.Core.Bool.{Bool, true, false, not, _&&_}
+use mathlib.Core.List.{List}
+use mathlib.Core.Path.{_≡_, sym, ap, _∙_}
+use borrow.Author.Tests.{eq-eqb, ne-eqb}
+use lib.Bits.{bitAnd}
+use lib.Dec.{eqb}
+use Rattle.commands.specs.declared.channel.Channel.{Channel}
+use Rattle.commands.specs.declared.channel.Channel.the-variants as channel
+use Rattle.commands.specs.declared.command.Command.{Command}
+use Rattle.commands.specs.declared.command.Command.the-variants.{Known, Unknown}
+use Rattle.commands.specs.declared.command.Does.{Does}
+use Rattle.commands.specs.declared.command.Does.the-variants.{Write, Switch, Read, ReadId, Clear, Start}
+use Rattle.commands.specs.declared.command.Lengths.{Lengths}
+use Rattle.commands.specs.declared.command.Register.{Register}
+use Rattle.commands.specs.declared.request.Reply.{Reply}
+use Rattle.commands.specs.declared.request.Request.{Request}
+use Rattle.commands.specs.Channels.{channelOf, commandOf}
+use Rattle.commands.specs.Request.{granted, refusal, trnWrong, chUnknown, notEnabled, busy as isBusyBit, cmdUnknown, lenWrong}
+use Rattle.registers.specs.Registers.{count, read, store, shown, written, zeroed, areZero}
+use Rattle.channels.proofs.Owners.{own-inside}
+use Rattle.channels.specs.Rows.{rowOf, isOn, isAtWork, isEnabled, isBusy, held, settled, stillHeld, allHeld}
+use Rattle.channels.specs.Errors.{ofCommand, decoded}
+use Rattle.channels.specs.Perform.{told, left, answered}
+use Rattle.channels.specs.declared.rows.Busy.{Busy}
+use Rattle.channels.specs.declared.rows.Busy.the-variants as busy
+use Rattle.channels.specs.declared.rows.Row.{Row}
+use Rattle.channels.specs.declared.rows.Switch.{Switch as RowSwitch}
+use Rattle.channels.specs.declared.rows.Switch.the-variants.{Bit}
+use Rattle.channels.specs.declared.errors.Decoded.{Decoded}
+use Rattle.channels.specs.declared.errors.Decoded.the-variants.{Wrong, Right}
+use Rattle.channels.specs.declared.Answered.{Answered}
+
+-- ---- the rows
+
+pub row-at : (k which : Channel) (x : Row) → which ≡ k → x ≡ rowOf k → x ≡ rowOf which
+row-at k which x e h = simp (e, h)
+
+pub by-bit : (rs : List ℕ) (s : RowSwitch) (r : Register) (bit v : ℕ) → s ≡ Bit r bit → v ≡ read rs r → not (eqb (bitAnd v bit) 0) ≡ isOn rs s
+by-bit rs s r bit v e h = simp (e, h)
+
+pub by-start : (rs : List ℕ) (b : Busy) (r : Register) (v : ℕ) → b ≡ busy.While r → v ≡ read rs r → not (eqb v 0) ≡ isAtWork rs b
+by-start rs b r v e h = simp (e, h)
+
+module _ (rs : List ℕ) (which : Channel) (x : Row) (e : x ≡ rowOf which) where
+  pub switched : (t : Bool) → t ≡ isOn rs (x .switch) → t ≡ isEnabled rs which
+  switched t h = simp (h, e)
+
+  pub at-work : (t : Bool) → t ≡ isAtWork rs (x .busy) → t ≡ isBusy rs which
+  at-work t h = simp (h, e)
+
+  pub inside : x .first + x .many ≤ count
+  inside = rw e (own-inside which)
+
+  module _ (on : Bool) (o : on ≡ isEnabled rs which) (f : on ≡ false) where
+    pub drops : (s : List ℕ) → x .drops ≡ true → s ≡ zeroed (x .first) (x .many) rs → s ≡ held rs which
+    unfolding held
+    drops s d g = simp (g, sym o ∙ f, ← e, d)
+
+    pub spares : x .drops ≡ false → rs ≡ held rs which
+    unfolding held
+    spares d = simp (sym o ∙ f, ← e, d)
+
+    pub looked-at : (t : Bool) → x .drops ≡ true → t ≡ areZero (x .first) (x .many) rs → t ≡ stillHeld rs which
+    unfolding stillHeld
+    looked-at t d g = simp (g, sym o ∙ f, ← e, d)
+
+    pub unlooked : x .drops ≡ false → true ≡ stillHeld rs which
+    unfolding stillHeld
+    unlooked d = simp (sym o ∙ f, ← e, d)
+
+pub settles : (rs s r : List ℕ) → s ≡ held rs channel.Spi → r ≡ held s channel.Gpio → r ≡ settled rs
+settles rs s r e f = simp (f, e)
+
+pub all-hold : (rs : List ℕ) (x y : Bool) → x ≡ stillHeld rs channel.Spi → y ≡ stillHeld rs channel.Gpio → (x && y) ≡ allHeld rs
+all-hold rs x y e f = simp (e, f)
+
+module _ (rs : List ℕ) (which : Channel) (on : Bool) (o : on ≡ isEnabled rs which) (t : on ≡ true) where
+  pub keeps : rs ≡ held rs which
+  unfolding held
+  keeps = simp (sym o ∙ t)
+
+  pub may-hold : true ≡ stillHeld rs which
+  unfolding stillHeld
+  may-hold = simp (sym o ∙ t)
+
+-- ---- the errors
+
+module _ (command : Command) (len : ℕ) where
+  pub no-command : command ≡ Unknown → Wrong cmdUnknown ≡ ofCommand command len
+  no-command e = simp e
+
+  pub wrong-length : (l : Lengths) (does : Does) → command ≡ Known l does → (len ≡ l .asked → ⊥) → Wrong lenWrong ≡ ofCommand command len
+  wrong-length l does e n = simp (e, ne-eqb _ _ n)
+
+  pub right : (l : Lengths) (does : Does) → command ≡ Known l does → len ≡ l .asked → Right (l .given) does ≡ ofCommand command len
+  right l does e n = simp (e, eq-eqb _ _ n)
+
+module _ (rs : List ℕ) (q : Request) where
+  pub no-transaction : q .trn ≡ 0x00 → Wrong trnWrong ≡ decoded rs q
+  unfolding decoded
+  no-transaction e = simp (eq-eqb _ _ e)
+
+  module _ (n : q .trn ≡ 0x00 → ⊥) where
+    pub interrupt-transaction : q .trn ≡ 0xFF → Wrong trnWrong ≡ decoded rs q
+    unfolding decoded
+    interrupt-transaction e = simp (ne-eqb _ _ n, eq-eqb _ _ e)
+
+    module _ (m : q .trn ≡ 0xFF → ⊥) (ch : Channel) (c : ch ≡ channelOf (q .ch)) (x : Row) (k : x ≡ rowOf ch) where
+      known : rowOf ch .known ≡ x .known
+      known = ap (λ (y : Row). y .known) (sym k)
+
+      pub no-channel : not (x .known) ≡ true → Wrong chUnknown ≡ decoded rs q
+      unfolding decoded
+      no-channel e = simp (ne-eqb _ _ n, ne-eqb _ _ m, ← c, known, e)
+
+      module _ (e : not (x .known) ≡ false) (on : Bool) (o : on ≡ isEnabled rs ch) where
+        pub off : not on ≡ true → Wrong notEnabled ≡ decoded rs q
+        unfolding decoded
+        off f = simp (ne-eqb _ _ n, ne-eqb _ _ m, ← c, known, e, ← o, f)
+
+        module _ (f : not on ≡ false) (at-work : Bool) (b : at-work ≡ isBusy rs ch) where
+          pub is-busy : at-work ≡ true → Wrong isBusyBit ≡ decoded rs q
+          unfolding decoded
+          is-busy g = simp (ne-eqb _ _ n, ne-eqb _ _ m, ← c, known, e, ← o, f, ← b, g)
+
+          pub by-command : (command : Command) (x : Decoded) → at-work ≡ false → command ≡ commandOf ch (q .cmd) → x ≡ ofCommand command (q .len)
+              → x ≡ decoded rs q
+          unfolding decoded
+          by-command command x g h i = simp (i, h, ne-eqb _ _ n, ne-eqb _ _ m, ← c, known, e, ← o, f, ← b, g)
+
+-- ---- what is performed
+
+module _ (rs : List ℕ) (id given : ℕ) (does : Does) (p : Reply) where
+  pub tells-written : (r : Register) → does ≡ Write r → p ≡ granted given 0 → p ≡ told rs id given does
+  tells-written r e h = simp (h, e)
+
+  pub tells-switched : (r : Register) → does ≡ Switch r → p ≡ granted given 0 → p ≡ told rs id given does
+  tells-switched r e h = simp (h, e)
+
+  pub tells-read : (r : Register) (v : ℕ) → does ≡ Read r → v ≡ shown rs r → p ≡ granted given v → p ≡ told rs id given does
+  tells-read r v e w h = simp (h, w, e)
+
+  pub tells-id : does ≡ ReadId → p ≡ granted given id → p ≡ told rs id given does
+  tells-id e h = simp (h, e)
+
+  pub tells-cleared : (r : Register) → does ≡ Clear r → p ≡ granted given 0 → p ≡ told rs id given does
+  tells-cleared r e h = simp (h, e)
+
+module _ (rs : List ℕ) (q : Request) (does : Does) (s : List ℕ) where
+  pub leaves-written : (r : Register) → does ≡ Write r → s ≡ written rs r (q .value) → s ≡ left rs q does
+  leaves-written r e h = simp (h, e)
+
+  pub leaves-switched : (r : Register) (w : List ℕ) → does ≡ Switch r → w ≡ written rs r (q .value) → s ≡ settled w → s ≡ left rs q does
+  leaves-switched r w e g h = simp (h, g, e)
+
+  pub leaves-cleared : (r : Register) → does ≡ Clear r → s ≡ store rs r 0 → s ≡ left rs q does
+  leaves-cleared r e h = simp (h, e)
+
+  pub leaves-started : (r : Register) → does ≡ Start r → s ≡ store rs r (q .trn) → s ≡ left rs q does
+  leaves-started r e h = simp (h, e)
+
+-- ---- every request
+
+module _ (rs : List ℕ) (id : ℕ) (q : Request) (d : Decoded) (e : d ≡ decoded rs q) (p : Reply) where
+  pub wrong-answer : (error : ℕ) → d ≡ Wrong error → p ≡ refusal error → _≡_ {A = Answered} (record { registers = rs; reply = p }) (answered rs id q)
+  unfolding answered
+  wrong-answer error w g = simp (← e, w, g)
+
+  pub right-answer : (given : ℕ) (does : Does) (s : List ℕ) → d ≡ Right given does → p ≡ told rs id given does → s ≡ left rs q does
+      → _≡_ {A = Answered} (record { registers = s; reply = p }) (answered rs id q)
+  unfolding answered
+  right-answer given does s r g h = simp (← e, r, g, h)

@@ -1,0 +1,18 @@
+-- `answer` meets its contract. Assumes nothing.
+use borrow.Author.Needs.{needs}
+use Rattle.channels.proofs.Cases.{wrong-answer, right-answer}
+use Rattle.channels.proofs.answer.Statement.{statement}
+use Rattle.channels.proofs.answer.Tie as tie
+
+pub answer-spec : {M : Type 1} → statement M
+answer-spec =
+    tie.close
+    (tie.spec
+    (λ c κs. search needs)
+    (λ c. search needs)
+    (λ c κs. search needs)
+    (λ c. search needs)
+    (λ c κs. search needs)
+    (λ c κs. search needs)
+    (λ c. search wrong-answer)
+    (λ c. search right-answer))

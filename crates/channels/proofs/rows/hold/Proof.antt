@@ -1,0 +1,16 @@
+-- `rows::hold` meets its contract. Assumes nothing.
+use borrow.Author.Needs.{needs}
+use Rattle.channels.proofs.Cases.{keeps, inside, drops, spares}
+use Rattle.channels.proofs.rows.hold.Statement.{statement}
+use Rattle.channels.proofs.rows.hold.Tie as tie
+
+pub hold-spec : {M : Type 1} → statement M
+hold-spec =
+    tie.close
+    (tie.spec
+    (λ c κs. search needs)
+    (λ c. search keeps)
+    (λ c κs. search needs)
+    (λ c κs. search inside)
+    (λ c. search drops)
+    (λ c. search spares))

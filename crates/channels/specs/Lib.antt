@@ -1,0 +1,4 @@
+-- The channels: their rows, the errors, what is performed. Each file after those that it uses.
+pub mod Rows
+pub mod Errors
+pub mod Perform

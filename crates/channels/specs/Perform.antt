@@ -1,0 +1,46 @@
+-- What a request without an error comes to, and with it every request: its reply, and the registers that it leaves.
+use Prim.Native.Nat.{ℕ}
+use mathlib.Core.List.{List}
+use Rattle.commands.specs.declared.command.Does.{Does}
+use Rattle.commands.specs.declared.command.Does.the-variants.{Write, Switch, Read, ReadId, Clear, Start}
+use Rattle.commands.specs.declared.request.Request.{Request}
+use Rattle.commands.specs.declared.request.Reply.{Reply}
+use Rattle.commands.specs.declared.request.Reply.the-variants.{Later}
+use Rattle.commands.specs.Request.{granted, refusal}
+use Rattle.registers.specs.Registers.{store, shown, written}
+use Rattle.channels.specs.Rows.{settled}
+use Rattle.channels.specs.Errors.{decoded}
+use Rattle.channels.specs.declared.errors.Decoded.{Decoded}
+use Rattle.channels.specs.declared.errors.Decoded.the-variants.{Wrong, Right}
+use Rattle.channels.specs.declared.Answered.{Answered}
+
+-- the reply, from the registers as they were: a GO's comes later
+abbrev pub told : List ℕ → ℕ → ℕ → Does → Reply
+told rs id given (Write r) = granted given 0
+told rs id given (Switch r) = granted given 0
+told rs id given (Read r) = granted given (shown rs r)
+told rs id given ReadId = granted given id
+told rs id given (Clear r) = granted given 0
+told rs id given (Start r) = Later
+
+-- the registers after it; a start keeps its TRN
+abbrev pub left : List ℕ → Request → Does → List ℕ
+left rs q (Write r) = written rs r (q .value)
+left rs q (Switch r) = settled (written rs r (q .value))
+left rs q (Read r) = rs
+left rs q ReadId = rs
+left rs q (Clear r) = store rs r 0
+left rs q (Start r) = store rs r (q .trn)
+
+-- ---- every request: an error reply has LEN 2, zero data, and no register changes
+
+abbrev pub replyTo : List ℕ → ℕ → Decoded → Reply
+replyTo rs id (Wrong error) = refusal error
+replyTo rs id (Right given does) = told rs id given does
+
+abbrev pub leftBy : List ℕ → Request → Decoded → List ℕ
+leftBy rs q (Wrong error) = rs
+leftBy rs q (Right given does) = left rs q does
+
+unfoldable pub answered : List ℕ → ℕ → Request → Answered
+answered rs id q = record { registers = leftBy rs q (decoded rs q); reply = replyTo rs id (decoded rs q) }

@@ -1,0 +1,60 @@
+// The first error of a request: document 01's six, in its order.
+ghost use mathlib.Core.Path.{_≡_};
+ghost use Rattle.channels.specs.Errors.{ofCommand, decoded};
+use crate::rows;
+use commands::channel;
+use commands::command::Command;
+use commands::command::Does;
+use commands::request::BUSY;
+use commands::request::CH_UNKNOWN;
+use commands::request::CMD_UNKNOWN;
+use commands::request::INTERRUPT;
+use commands::request::LEN_WRONG;
+use commands::request::NO_TRANSACTION;
+use commands::request::NOT_ENABLED;
+use commands::request::Request;
+use commands::request::TRN_WRONG;
+use registers::COUNT;
+
+// An error, or the LEN that a reply gives and what is to be done.
+pub enum Decoded {
+    Wrong(u8),
+    Right(u8, Does),
+}
+
+fn of_command(command: Command, len: u8) -> Decoded
+    ensures { λ r. ⌜ r ≡ ofCommand command len ⌝ }
+{
+    match command {
+        Command::Unknown => Decoded::Wrong(CMD_UNKNOWN),
+        Command::Known(lengths, does) => {
+            if len != lengths.asked {
+                return Decoded::Wrong(LEN_WRONG);
+            }
+            Decoded::Right(lengths.given, does)
+        }
+    }
+}
+
+pub(crate) fn decode(registers: [u32; COUNT], q: Request) -> Decoded
+    ensures { λ r. ⌜ r ≡ decoded registers q ⌝ }
+{
+    let which = channel::channel_of(q.ch);
+    if q.trn == NO_TRANSACTION {
+        return Decoded::Wrong(TRN_WRONG);
+    }
+    if q.trn == INTERRUPT {
+        return Decoded::Wrong(TRN_WRONG);
+    }
+    let row = rows::row_of(which);
+    if !row.known {
+        return Decoded::Wrong(CH_UNKNOWN);
+    }
+    if !rows::is_enabled(registers, which) {
+        return Decoded::Wrong(NOT_ENABLED);
+    }
+    if rows::is_busy(registers, which) {
+        return Decoded::Wrong(BUSY);
+    }
+    of_command(channel::command_of(which, q.cmd), q.len)
+}

@@ -1,8 +1,0 @@
--- `link::acknowledge_control` meets its contract. Assumes nothing.
-use Rattle.chip.proofs.Cases.{bit-set, bit-clear}
-use Rattle.chip.proofs.link.acknowledge_control.Statement.{statement}
-use Rattle.chip.proofs.link.acknowledge_control.Tie as tie
-
-pub acknowledge-control-spec : {M : Type 1} → statement M
-acknowledge-control-spec =
-    tie.close (tie.spec (λ c. simp (bit-set (c .before .args .control) 4 (c .if1 .taken))) (λ c. simp (bit-clear (c .before .args .control) 4 (c .if1 .left))))

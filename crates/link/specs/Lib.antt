@@ -1,0 +1,2 @@
+-- The link alone.
+pub mod Link

@@ -1,0 +1,2 @@
+-- Requests and replies, byte by byte.
+pub mod Packets
