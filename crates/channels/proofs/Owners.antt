@@ -92,12 +92,12 @@ drops-behind Dac h = lit≤ tt
 drops-behind Unknown h = absurd (false≢true h)
 
 owned : (ch : Channel) (p : ℕ) → rowOf ch .first ≤ p → p < rowOf ch .first + rowOf ch .many → ownerAt p ≡ ch
-owned Controller p l u = simp (lt-ltb p 3 u)
-owned Spi p l u = simp (le-ltb p 3 l, lt-ltb p 11 u)
-owned Gpio p l u = simp (le-ltb p 3 (omega arith), le-ltb p 11 l, lt-ltb p 20 u)
-owned Seu p l u = simp (le-ltb p 3 (omega arith), le-ltb p 11 (omega arith), le-ltb p 20 l, lt-ltb p 21 u)
+owned Controller p l u = simp (lt-ltb p 3 (omega arith))
+owned Spi p l u = simp (le-ltb p 3 (omega arith), lt-ltb p 11 (omega arith))
+owned Gpio p l u = simp (le-ltb p 3 (omega arith), le-ltb p 11 (omega arith), lt-ltb p 20 (omega arith))
+owned Seu p l u = simp (le-ltb p 3 (omega arith), le-ltb p 11 (omega arith), le-ltb p 20 (omega arith), lt-ltb p 21 (omega arith))
 owned Id p l u = absurd (omega arith)
-owned Dac p l u = simp (le-ltb p 3 (omega arith), le-ltb p 11 (omega arith), le-ltb p 20 (omega arith), le-ltb p 21 l)
+owned Dac p l u = simp (le-ltb p 3 (omega arith), le-ltb p 11 (omega arith), le-ltb p 20 (omega arith), le-ltb p 21 (omega arith))
 owned Unknown p l u = absurd (omega arith)
 
 -- what holds of the channels that drop nothing, and of those that do, holds of all

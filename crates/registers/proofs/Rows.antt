@@ -82,5 +82,6 @@ module _ (r : Register) (x : Row) (e : x ≡ rowOf r) where
   pub has-shown : (rs : List ℕ) (v : ℕ) → v ≡ read rs r → v * 2 ^ (x .low) % 2 ^ 32 ≡ shown rs r
   has-shown rs v h = simp (h, e)
 
-  pub has-written : (rs s : List ℕ) (v : ℕ) → s ≡ store rs r (v / 2 ^ (x .low)) → s ≡ written rs r v
-  has-written rs s v h = simp (h, e)
+  pub has-written : (rs : List ℕ) (v : ℕ) → set rs (x .place) (bitAnd (v / 2 ^ (x .low)) (x .mask)) ≡ written rs r v
+  unfolding store
+  has-written rs v = rw e

@@ -119,7 +119,10 @@ pub fn write(registers: [u32; COUNT], which: Register, value: u32) -> [u32; COUN
     ensures { λ r. ⌜ r ≡ written registers which value ⌝ }
 {
     let row = row_of(which);
-    store(registers, which, value >> row.low)
+    let place = row.place;
+    let mut after = registers;
+    after[place] = (value >> row.low) & row.mask;
+    after
 }
 
 // Some registers, from a place on, at 0.

@@ -1,6 +1,7 @@
 -- `write` meets its contract. Assumes nothing.
+use native.Mathlib.Omega.{arith}
 use borrow.Author.Needs.{needs}
-use Rattle.registers.proofs.Rows.{low-below, has-written}
+use Rattle.registers.proofs.Rows.{place-below, low-below, has-written}
 use Rattle.registers.proofs.write.Statement.{statement}
 use Rattle.registers.proofs.write.Tie as tie
 
@@ -10,5 +11,6 @@ write-spec =
     (tie.spec
     (λ c κs. search needs)
     (λ c. search low-below)
-    (λ c κs. search needs)
+    (λ c. record { fits = omega (arith, place-below (c .before .before .before .args .which) (c .before .before .row-of .result) (c .before .before .row-of .ensures)) })
+    (λ c. search place-below)
     (λ c. search has-written))
