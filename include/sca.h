@@ -96,7 +96,7 @@ enum {
 #define SCA_TRANSFER_BYTES 16   /* the bytes received in an SPI transfer, whatever its length */
 #define SCA_ID_MOST 0xFFFFFF    /* the greatest chip ID */
 #define SCA_RECEIVER_BYTES 24   /* a receiver */
-#define SCA_STATE_BYTES 76      /* an adapter's state */
+#define SCA_STATE_BYTES 74      /* an adapter's state */
 #define SCA_JOURNAL_BYTES 17408 /* a journal */
 #define SCA_KEPT_MOST 64        /* the most events that can be taken back */
 
@@ -304,34 +304,36 @@ uint64_t sca_transmit(const uint8_t *body, size_t body_length, uint8_t *output, 
  *         2         active port                                   0 or 1
  *         3         bit 0: port 0 is in loopback
  *                   bit 1: port 1 is in loopback
- *                   bit 2: INTENABLE                     0x02
- *                   bits 7 to 3                                   0
+ *                   bits 7 to 2                                   0
  *         4         CRB                                  0x00     bit 0 is 0
  *         5         CRC                                  0x00
  *         6         CRD                                  0x00     bits 7 to 5 are 0
- *         7         TRN of the open GO; 0: none is open  0x01
- *         8, 9      CONTROL                              0x01
- *         10, 11    FREQ                                 0x01
- *         12        SS                                   0x01
- *         13 to 15                                                0
- *         16 to 31  DATA, words 0 to 3                   0x01
- *         32 to 35  DATAOUT                              0x02
- *         36 to 39  DATAIN                               0x02
- *         40 to 43  DIRECTION                            0x02
- *         44 to 47  INTSEL                               0x02
- *         48 to 51  INTTRIG                              0x02
- *         52 to 55  INTS                                 0x02
- *         56 to 59  CLKSEL                               0x02
- *         60 to 63  EDGESEL                              0x02
- *         64 to 67  DAC A, B, C, D                       0x15
- *         68 to 71  SEU counter                          0x13
- *         72 to 74  chip ID, byte 72 its bits 7 to 0     0x14
- *         75        chip ID, bits 31 to 24               0x14     0
+ *         7 to 10   SEU counter                          0x13
+ *         11 to 14  DAC A, B, C, D                       0x15
+ *         15, 16    CONTROL                              0x01
+ *         17, 18    FREQ                                 0x01
+ *         19        SS                                   0x01
+ *         20 to 35  DATA, words 0 to 3                   0x01
+ *         36        TRN of the open GO; 0: none is open  0x01
+ *         37 to 40  DATAOUT                              0x02
+ *         41 to 44  DATAIN                               0x02
+ *         45 to 48  DIRECTION                            0x02
+ *         49 to 52  INTSEL                               0x02
+ *         53 to 56  INTTRIG                              0x02
+ *         57 to 60  INTS                                 0x02
+ *         61 to 64  CLKSEL                               0x02
+ *         65 to 68  EDGESEL                              0x02
+ *         69        INTENABLE                            0x02     0 or 1
+ *         70 to 72  chip ID, byte 70 its bits 7 to 0     0x14
+ *         73        chip ID, bits 31 to 24               0x14     0
  *
  *     While SPI is disabled (CRB bit 1 is 0), all fields of channel 0x01 are 0,
  *     and while GPIO is disabled (CRB bit 2 is 0), all of channel 0x02. A state
  *     of any other length, or that is not in these ranges, is refused with 6,
  *     and no other is. Every call that is not refused leaves a state in range.
+ *
+ *     A state that an earlier release left has 76 bytes in another order: 6. Make
+ *     a new one with sca_create.
  *
  * THE JOURNAL
  *     It holds what sca_step_back needs. Every event that is not refused is kept
@@ -355,6 +357,9 @@ uint64_t sca_transmit(const uint8_t *body, size_t body_length, uint8_t *output, 
  *     SCA_JOURNAL_BYTES, or one of bytes 0 to 6 that is not as the table says.
  *     sca_step_back also gives it where the record that it would take back is
  *     damaged. No journal that the calls themselves left is refused.
+ *
+ *     A journal that an earlier release left has the same length and version, but
+ *     other records, and no call can tell. Make it empty with sca_empty first.
  *
  * THE CHIP
  *     A body is address, control, information. Address 0x00 is the chip's. The

@@ -144,13 +144,17 @@ static int all_zero(const uint8_t *bytes, size_t from, size_t to) {
     return 1;
 }
 
-/* Number 6, on the bytes as sca.h lists them. */
-static int in_range(const uint8_t *bytes) {
+/* A record is a state without the chip ID, the first bytes of its slot: docs/JOURNAL.md. */
+enum { RECORD_BYTES = 70, SLOT_BYTES = 256 };
+
+static int record_in_range(const uint8_t *bytes) {
     int spi = bytes[4] & 0x02, gpio = bytes[4] & 0x04;
-    return bytes[0] <= 7 && bytes[1] <= 7 && bytes[2] <= 1 && bytes[3] <= 7 && !(bytes[4] & 0x01) && !(bytes[6] & 0xE0) &&
-           all_zero(bytes, 13, 15) && bytes[75] == 0 && (spi || (all_zero(bytes, 7, 12) && all_zero(bytes, 16, 31))) &&
-           (gpio || (!(bytes[3] & 0x04) && all_zero(bytes, 32, 63)));
+    return bytes[0] <= 7 && bytes[1] <= 7 && bytes[2] <= 1 && bytes[3] <= 3 && !(bytes[4] & 0x01) && !(bytes[6] & 0xE0) &&
+           bytes[69] <= 1 && (spi || all_zero(bytes, 15, 36)) && (gpio || all_zero(bytes, 37, 69));
 }
+
+/* Number 6, on the bytes as sca.h lists them. */
+static int in_range(const uint8_t *bytes) { return record_in_range(bytes) && bytes[73] == 0; }
 
 /* -------------------------------------------------------------------- tests */
 
@@ -227,6 +231,30 @@ static void bits_of_states(void) {
         }
     }
     check(good, "states with any one bit flipped");
+}
+
+/* A step back on the newest slot with any one bit flipped: 4, or the state that its record now spells, with the chip's own ID. */
+static void bits_of_records(void) {
+    int good = 1;
+    for (int deep = 0; deep <= 1; deep++) {
+        size_t newest;
+        reach(deep);
+        newest = 1024 + SLOT_BYTES * (size_t)((some_journal[5] + some_journal[6] - 1) % SCA_KEPT_MOST);
+        good &= record_in_range(some_journal + newest);
+        for (at_end = 0; at_end <= 1; at_end++)
+            for (size_t bit = 0; bit < 8 * SLOT_BYTES; bit++) {
+                unsigned number;
+                int ranged;
+                lend_all();
+                journal.at[newest + bit / 8] ^= (uint8_t)(1 << bit % 8);
+                ranged = record_in_range(journal.at + newest);
+                number = number_of(STEP_BACK, &good);
+                good &= number == (ranged ? SCA_NO_FRAME : SCA_BAD_JOURNAL);
+                good &= !ranged || memcmp(state.at, journal.at + newest, RECORD_BYTES) == 0;
+                good &= memcmp(state.at + RECORD_BYTES, some_state + RECORD_BYTES, SCA_STATE_BYTES - RECORD_BYTES) == 0;
+            }
+    }
+    check(good, "records with any one bit flipped");
 }
 
 static void lengths_of_states(void) {
@@ -460,6 +488,7 @@ int main(void) {
     order();
     no_buffers();
     bits_of_states();
+    bits_of_records();
     receivers();
     transmitters();
     return failures != 0;

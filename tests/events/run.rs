@@ -273,7 +273,7 @@ impl<'a> Run<'a> {
             *output.bytes.last_mut().unwrap() ^= 1;
         }
         if self.lay(Fault::State, kept) {
-            pair.state[64] ^= 1;
+            pair.state[11] ^= 1;
         }
         if self.lay(Fault::RefusedState, !kept && !pair.state.is_empty()) {
             pair.state[0] ^= 1;
@@ -316,7 +316,7 @@ impl<'a> Run<'a> {
         }
         pair.expected = after;
         if self.lay(Fault::RestoredState, number == DONE) {
-            pair.state[68] ^= 1;
+            pair.state[7] ^= 1;
         }
         self.tally.step_back(number, pair.altered);
         let expected = RawAnswer {

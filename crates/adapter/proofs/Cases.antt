@@ -1,5 +1,5 @@
 -- What each call gives and leaves, case by case: a law for every case of the definitions. Assumes nothing.
-use Prim.Native.Nat.{ℕ, _*_, _≤_, _<_}
+use Prim.Native.Nat.{ℕ, _≤_, _<_}
 use mathlib.Core.Path.{_≡_, refl, sym, ap, _∙_}
 use mathlib.Core.Bool.{Bool, true, false, not, cond, _||_, true≢false}
 use mathlib.Core.List.{List}
@@ -14,10 +14,11 @@ use Rattle.chip.specs.Event.{Event, frame, upset}
 use Rattle.chip.specs.Answer.{response, Said, said, says}
 use Rattle.chip.specs.Chip.{reaction, onUpset, acceptedReset}
 use Rattle.chip.specs.State.{powerOn, inRange}
-use Rattle.parts.specs.Words.{bytesOf}
+use Rattle.parts.specs.Parts.{put}
+use Rattle.parts.proofs.Laws.{put-all}
 use Rattle.journal.specs.Layout.{wrongLength, keptOf, wellFormed, past, emptied, pushed, lowered}
 use Rattle.journal.specs.Record.{sound, restored}
-use Rattle.journal.specs.Image.{imageWords}
+use Rattle.journal.specs.Image.{imageBytes, image}
 use Rattle.journal.proofs.Record.{before-image}
 use Rattle.journal.proofs.Ring.{in-journal}
 use Rattle.adapter.specs.declared.Created.{Created}
@@ -102,13 +103,9 @@ module _ (resets : Bool) (j k : List ℕ) where
   pub empties : (r : List ℕ) → resets ≡ true → k ≡ emptied j → k ≡ joined resets r j
   empties r h g = simp h g
 
-  pub pushes : (a : Adapter) (ws : List ℕ) → resets ≡ false → ws ≡ imageWords a → k ≡ pushed (bytesOf ws) j → k ≡ joined resets (bytesOf (imageWords a)) j
-  pushes a ws h e g = simp h (g ∙ ap (λ (x : List ℕ). pushed (bytesOf x) j) e)
-
--- an image has room in a slot
-pub image-short : (a : Adapter) (ws : List ℕ) → ws ≡ imageWords a → 4 * length ws ≤ 256
-unfolding imageWords
-image-short a ws e = omega (arith, ap length e)
+  pub pushes : (a : Adapter) (d r : List ℕ) → resets ≡ false → length d ≡ imageBytes → length (image a) ≡ imageBytes → r ≡ put 0 (image a) d → k ≡ pushed r j
+      → k ≡ joined resets (image a) j
+  pushes a d r h n m e g = simp h (g ∙ ap (λ (x : List ℕ). pushed x j) (e ∙ put-all (image a) d (m ∙ sym n)))
 
 -- ---- an event's call
 
@@ -137,10 +134,10 @@ module _ (a : Adapter) (j : List ℕ) (e : Event) (o : List ℕ) (v : Verdict)
 
   -- an event that nothing refuses is done once its frames are laid out and it is recorded
   pub passes : (r : Response) (p k : List ℕ) (resets : Bool) → v ≡ Passed → said r p ≡ says (reaction a e) o → resets ≡ acceptedReset e
-      → k ≡ joined resets (bytesOf (imageWords a)) j → outcome r k p ≡ called a j e o
+      → k ≡ joined resets (image a) j → outcome r k p ≡ called a j e o
   unfolding called verdict done
   passes r p k resets q s t u =
-      rw (← h, q, ← t, before-image a e, u) (ap (λ (x : Said). outcome (x .response) (joined resets (bytesOf (imageWords a)) j) (x .output)) s)
+      rw (← h, q, ← t, before-image a e, u) (ap (λ (x : Said). outcome (x .response) (joined resets (image a) j) (x .output)) s)
 
   pub passing : v ≡ Passed → Passing a j e o
   passing q =
@@ -155,7 +152,7 @@ module _ (a : Adapter) (j : List ℕ) (e : Event) (o : List ℕ) (v : Verdict)
 
 -- an upset sends no frame
 pub upset-passes : (a : Adapter) (j o : List ℕ) (v : Verdict) → v ≡ inOrder (not (inRange a)) (not (wellFormed j)) (ltb (length o) 16) false false
-    → (r : Response) (k : List ℕ) → v ≡ Passed → r ≡ response (reaction a upset) → k ≡ joined false (bytesOf (imageWords a)) j
+    → (r : Response) (k : List ℕ) → v ≡ Passed → r ≡ response (reaction a upset) → k ≡ joined false (image a) j
     → outcome r k o ≡ called a j upset o
 unfolding reaction onUpset
 upset-passes a j o v h r k q s t = passes a j upset o v h r o k false q (ap (λ (x : Response). said x o) s) refl t

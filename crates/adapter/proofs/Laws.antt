@@ -51,44 +51,44 @@ pub unsent : (a : Adapter) (e : Event) (o : List ℕ) → (reaction a e .number 
 unsent a e o h = ap (λ (r : Reaction). laid (r .frames) o) (silent a e h)
 
 -- what an event leaves in the journal
-module _ (a : Adapter) (e : Event) (j : List ℕ) (w : Well j) where
+module _ (a : Adapter) (e : Event) (j : List ℕ) (w : Well j) (f : Fits a) where
   pub recorded-well : Well (recorded a e j)
   recorded-well = either (acceptedReset e)
     where
       either : (b : Bool) → Well (cond b (emptied j) (pushed (before a e) j))
       either true = emptied-well j (w .size)
-      either false = pushed-well (before a e) j w (length-before a e)
+      either false = pushed-well (before a e) j w (length-before a e f)
 
   pub recorded-slots : slotsOf (recorded a e j) ≡ slotsOf j
   recorded-slots = either (acceptedReset e)
     where
       either : (b : Bool) → slotsOf (cond b (emptied j) (pushed (before a e) j)) ≡ slotsOf j
       either true = emptied-slots j (w .size)
-      either false = pushed-slots (before a e) j w (length-before a e)
+      either false = pushed-slots (before a e) j w (length-before a e f)
 
   pub recorded-kept : keptOf (recorded a e j) ≡ cond (acceptedReset e) 0 (min (slotsOf j) (keptOf j + 1))
   recorded-kept = either (acceptedReset e)
     where
       either : (b : Bool) → keptOf (cond b (emptied j) (pushed (before a e) j)) ≡ cond b 0 (min (slotsOf j) (keptOf j + 1))
       either true = emptied-kept j
-      either false = pushed-kept (before a e) j w (length-before a e)
+      either false = pushed-kept (before a e) j w (length-before a e f)
 
   module _ (kept : acceptedReset e ≡ false) where
     -- the newest record is the event's
-    newest : past (recorded a e j) 0 ≡ before a e ++ behind (before a e) j w (length-before a e)
-    newest = simp kept (pushed-newest (before a e) j w (length-before a e))
+    newest : past (recorded a e j) 0 ≡ before a e ++ behind (before a e) j w (length-before a e f)
+    newest = simp kept (pushed-newest (before a e) j w (length-before a e f))
 
-    module _ (f : Fits a) (ranged : inRange a ≡ true) (typed : EventFits e) where
+    module _ (ranged : inRange a ≡ true) (typed : EventFits e) where
       -- and takes what the event left back to what it happened to
       pub newest-restores : restored (reaction a e .adapter) (past (recorded a e j) 0) ≡ a
-      newest-restores = rw newest (taken-back a e (behind (before a e) j w (length-before a e)) f ranged typed)
+      newest-restores = rw newest (taken-back a e f (behind (before a e) j w (length-before a e f)) ranged typed)
 
       pub newest-sound : sound (reaction a e .adapter) (past (recorded a e j) 0) ≡ true
-      newest-sound = rw newest (sound-back a e (behind (before a e) j w (length-before a e)) f ranged typed)
+      newest-sound = rw newest (sound-back a e f (behind (before a e) j w (length-before a e f)) ranged typed)
 
     -- the others are each one older
     pub older-stay : (i : ℕ) → suc i < min (slotsOf j) (keptOf j + 1) → past (recorded a e j) (suc i) ≡ past j i
-    older-stay i h = simp kept (pushed-older (before a e) j w (length-before a e) i h)
+    older-stay i h = simp kept (pushed-older (before a e) j w (length-before a e f) i h)
 
 -- ---- a step back
 

@@ -1,6 +1,7 @@
 // The adapter as its users call it: every refusal in document 01's order, every event kept in the journal, steps back.
 use chip::Adapter;
 use chip::Response;
+use journal::image::BYTES;
 use numbers::BAD_ARGUMENT;
 use numbers::BAD_BODY;
 use numbers::BAD_ID;
@@ -20,9 +21,8 @@ ghost use lib.Dec.{ltb};
 ghost use Rattle.chip.specs.Event.{Completion, Event};
 ghost use Rattle.chip.specs.State.{inRange};
 ghost use Rattle.numbers.specs.Numbers.{outputLeast};
-ghost use Rattle.parts.specs.Words.{bytesOf};
 ghost use Rattle.journal.specs.Layout.{wellFormed};
-ghost use Rattle.journal.specs.Image.{imageWords};
+ghost use Rattle.journal.specs.Image.{image};
 ghost use Rattle.adapter.specs.Refusals.{inOrder, backVerdict};
 ghost use Rattle.adapter.specs.Calls.{created, cleared, madeEmpty, keptIn, outcome, plain, joined, called, stepped, steppedBack};
 
@@ -113,13 +113,14 @@ fn in_order(state: bool, journal: bool, output: bool, argument: bool, body: bool
 // Keeps an event that happens to the state a, by the image of a; an accepted RESET empties the journal.
 fn record_event(journal: &mut [u8], a: Adapter, resets: bool)
     requires { ⌜ wellFormed (now journal) ≡ true ⌝ }
-    ensures { λ _. ⌜ now (journal .exit) ≡ joined resets (bytesOf (imageWords a)) (now (journal .entry)) ⌝ }
+    ensures { λ _. ⌜ now (journal .exit) ≡ joined resets (image a) (now (journal .entry)) ⌝ }
 {
     if resets {
         journal::empty(journal);
     } else {
-        let words = journal::image::words_of(a);
-        journal::push(journal, &words);
+        let mut image = [0u8; BYTES];
+        journal::image::write(a, &mut image);
+        journal::push(journal, &image);
     }
 }
 

@@ -1,13 +1,13 @@
 -- What each case of the definitions comes to. `search` finds the premises in what a need knows, wherever they stand.
 use Prim.Native.Nat.{ℕ, _+_, _≤_}
-use mathlib.Core.Bool.{Bool, true, false, not, _&&_}
+use mathlib.Core.Bool.{Bool, true, false, not}
 use mathlib.Core.List.{List}
 use mathlib.Core.Path.{_≡_, sym, ap, _∙_}
 use borrow.Author.Tests.{eq-eqb, ne-eqb}
 use lib.Bits.{bitAnd}
 use lib.Dec.{eqb}
+use lib.ListN.{length}
 use Rattle.commands.specs.declared.channel.Channel.{Channel}
-use Rattle.commands.specs.declared.channel.Channel.the-variants as channel
 use Rattle.commands.specs.declared.command.Command.{Command}
 use Rattle.commands.specs.declared.command.Command.the-variants.{Known, Unknown}
 use Rattle.commands.specs.declared.command.Does.{Does}
@@ -18,11 +18,11 @@ use Rattle.commands.specs.declared.request.Reply.{Reply}
 use Rattle.commands.specs.declared.request.Request.{Request}
 use Rattle.commands.specs.Channels.{channelOf, commandOf}
 use Rattle.commands.specs.Request.{granted, refusal, trnWrong, chUnknown, notEnabled, busy as isBusyBit, cmdUnknown, lenWrong}
-use Rattle.registers.specs.Registers.{count, read, store, shown, written, zeroed, areZero}
+use Rattle.registers.specs.Registers.{size, read, store, shown, written, zeroed, areZero}
 use Rattle.channels.proofs.Owners.{own-inside}
-use Rattle.channels.specs.Rows.{rowOf, isOn, isAtWork, isEnabled, isBusy, held, settled, stillHeld, allHeld}
+use Rattle.channels.specs.Rows.{rowOf, isOn, isAtWork, isEnabled, isBusy, held, settled, stillHeld}
 use Rattle.channels.specs.Errors.{ofCommand, decoded}
-use Rattle.channels.specs.Perform.{told, left, answered}
+use Rattle.channels.specs.Perform.{told, left, replied, performed}
 use Rattle.channels.specs.declared.rows.Busy.{Busy}
 use Rattle.channels.specs.declared.rows.Busy.the-variants as busy
 use Rattle.channels.specs.declared.rows.Row.{Row}
@@ -30,7 +30,6 @@ use Rattle.channels.specs.declared.rows.Switch.{Switch as RowSwitch}
 use Rattle.channels.specs.declared.rows.Switch.the-variants.{Bit}
 use Rattle.channels.specs.declared.errors.Decoded.{Decoded}
 use Rattle.channels.specs.declared.errors.Decoded.the-variants.{Wrong, Right}
-use Rattle.channels.specs.declared.Answered.{Answered}
 
 -- ---- the rows
 
@@ -50,31 +49,17 @@ module _ (rs : List ℕ) (which : Channel) (x : Row) (e : x ≡ rowOf which) whe
   pub at-work : (t : Bool) → t ≡ isAtWork rs (x .busy) → t ≡ isBusy rs which
   at-work t h = simp (h, e)
 
-  pub inside : x .first + x .many ≤ count
-  inside = rw e (own-inside which)
+  pub inside : length rs ≡ size → x .first + x .many ≤ length rs
+  inside n = rw (n, e) (own-inside which)
 
   module _ (on : Bool) (o : on ≡ isEnabled rs which) (f : on ≡ false) where
-    pub drops : (s : List ℕ) → x .drops ≡ true → s ≡ zeroed (x .first) (x .many) rs → s ≡ held rs which
+    pub drops : (s : List ℕ) → s ≡ zeroed (x .first) (x .many) rs → s ≡ held rs which
     unfolding held
-    drops s d g = simp (g, sym o ∙ f, ← e, d)
+    drops s g = simp (g, sym o ∙ f, ← e)
 
-    pub spares : x .drops ≡ false → rs ≡ held rs which
-    unfolding held
-    spares d = simp (sym o ∙ f, ← e, d)
-
-    pub looked-at : (t : Bool) → x .drops ≡ true → t ≡ areZero (x .first) (x .many) rs → t ≡ stillHeld rs which
+    pub looked-at : (t : Bool) → t ≡ areZero (x .first) (x .many) rs → t ≡ stillHeld rs which
     unfolding stillHeld
-    looked-at t d g = simp (g, sym o ∙ f, ← e, d)
-
-    pub unlooked : x .drops ≡ false → true ≡ stillHeld rs which
-    unfolding stillHeld
-    unlooked d = simp (sym o ∙ f, ← e, d)
-
-pub settles : (rs s r : List ℕ) → s ≡ held rs channel.Spi → r ≡ held s channel.Gpio → r ≡ settled rs
-settles rs s r e f = simp (f, e)
-
-pub all-hold : (rs : List ℕ) (x y : Bool) → x ≡ stillHeld rs channel.Spi → y ≡ stillHeld rs channel.Gpio → (x && y) ≡ allHeld rs
-all-hold rs x y e f = simp (e, f)
+    looked-at t g = simp (g, sym o ∙ f, ← e)
 
 module _ (rs : List ℕ) (which : Channel) (on : Bool) (o : on ≡ isEnabled rs which) (t : on ≡ true) where
   pub keeps : rs ≡ held rs which
@@ -163,12 +148,19 @@ module _ (rs : List ℕ) (q : Request) (does : Does) (s : List ℕ) where
 
 -- ---- every request
 
-module _ (rs : List ℕ) (id : ℕ) (q : Request) (d : Decoded) (e : d ≡ decoded rs q) (p : Reply) where
-  pub wrong-answer : (error : ℕ) → d ≡ Wrong error → p ≡ refusal error → _≡_ {A = Answered} (record { registers = rs; reply = p }) (answered rs id q)
-  unfolding answered
-  wrong-answer error w g = simp (← e, w, g)
+module _ (rs : List ℕ) (id : ℕ) (q : Request) (d : Decoded) (e : d ≡ decoded rs q) where
+  pub wrong-reply : (error : ℕ) (p : Reply) → d ≡ Wrong error → p ≡ refusal error → p ≡ replied rs id q
+  unfolding replied
+  wrong-reply error p w g = simp (← e, w, g)
 
-  pub right-answer : (given : ℕ) (does : Does) (s : List ℕ) → d ≡ Right given does → p ≡ told rs id given does → s ≡ left rs q does
-      → _≡_ {A = Answered} (record { registers = s; reply = p }) (answered rs id q)
-  unfolding answered
-  right-answer given does s r g h = simp (← e, r, g, h)
+  pub wrong-left : (error : ℕ) → d ≡ Wrong error → rs ≡ performed rs q
+  unfolding performed
+  wrong-left error w = simp (← e, w)
+
+  pub right-reply : (given : ℕ) (does : Does) (p : Reply) → d ≡ Right given does → p ≡ told rs id given does → p ≡ replied rs id q
+  unfolding replied
+  right-reply given does p r g = simp (← e, r, g)
+
+  pub right-left : (given : ℕ) (does : Does) (s : List ℕ) → d ≡ Right given does → s ≡ left rs q does → s ≡ performed rs q
+  unfolding performed
+  right-left given does s r h = simp (← e, r, h)

@@ -1,34 +1,54 @@
--- What all rows have, computed for each channel: its own registers stand among the registers, apart from every other channel's; what switches it
+-- What all rows have, computed for each channel: its own bytes stand among the registers, apart from every other channel's; what switches it
 -- is a register of the controller's, and what makes it busy its own.
 use Prim.Native.Nat.{ℕ, _+_, _≤_, _<_}
-use mathlib.Core.Bool.{Bool, true, false, _&&_, cond, true≢false, false≢true}
-use mathlib.Core.Logic.{inl, inr}
-use mathlib.Core.Path.{_≡_, refl}
+use mathlib.Core.Bool.{Bool, true, false, _&&_, _||_, cond}
+use mathlib.Core.List.{List, [], _∷_}
+use mathlib.Core.Logic.{_⊎_, inl, inr}
+use mathlib.Core.Path.{_≡_, refl, sym, _∙_}
 use native.Mathlib.Omega.{arith}
-use borrow.Author.Tests.{leb-true, leb-false, ltb-true, ltb-false, lt-ltb, le-ltb}
-use lib.Dec.{leb, ltb, lit≤}
-use Rattle.bits.proofs.Tests.{and-left, and-right}
+use borrow.Author.Tests.{leb-true, leb-false, lt-ltb, le-ltb}
+use lib.Dec.{leb, ltb, lit<}
+use Rattle.bits.proofs.Tests.{and-left, and-right, le-or-le}
+use Rattle.parts.proofs.Laws.{Apart}
 use Rattle.commands.specs.declared.channel.Channel.{Channel}
 use Rattle.commands.specs.declared.channel.Channel.the-variants.{Controller, Spi, Gpio, Seu, Id, Dac, Unknown}
 use Rattle.bits.proofs.Rows.{every, look-every}
-use Rattle.commands.specs.Channels.{commandsOf, commandOf}
+use Rattle.commands.specs.Channels.{channelOf, commandsOf, commandOf}
 use Rattle.commands.specs.Command.{codeOf}
 use Rattle.commands.specs.declared.command.Command.{Command}
 use Rattle.commands.specs.declared.command.Command.the-variants as command
 use Rattle.commands.specs.declared.command.Does.{Does}
 use Rattle.commands.specs.declared.command.Does.the-variants.{Write, Switch as Switching, Read, ReadId, Clear, Start}
 use Rattle.commands.specs.declared.command.Register.{Register}
+use Rattle.commands.specs.declared.command.Register.the-variants as register
+use Rattle.parts.specs.Digits.{bytesIn}
+use Rattle.parts.specs.declared.Width.{Width}
+use Rattle.parts.specs.declared.Width.the-variants.{Byte, Half, Word}
 use Rattle.registers.specs.Registers as registers
-use Rattle.registers.proofs.Laws.{Outside}
-use Rattle.channels.specs.Rows.{rowOf}
+use Rattle.registers.specs.Registers.{size}
+use Rattle.registers.proofs.Rows.{place, wide, end}
+use Rattle.channels.specs.Rows.{rowOf, dropping}
 use Rattle.channels.specs.declared.rows.Busy.{Busy}
 use Rattle.channels.specs.declared.rows.Busy.the-variants as busy
 use Rattle.channels.specs.declared.rows.Switch.{Switch}
 use Rattle.channels.specs.declared.rows.Switch.the-variants.{Always, Never, Bit}
 
--- a place of the channel's own
-abbrev pub isOwn : Channel → ℕ → Bool
-isOwn ch p = leb (rowOf ch .first) p && ltb p (rowOf ch .first + rowOf ch .many)
+-- a channel's first byte, how many it has, and where another's may start
+abbrev pub first : Channel → ℕ
+first ch = rowOf ch .first
+
+abbrev pub many : Channel → ℕ
+many ch = rowOf ch .many
+
+abbrev pub last : Channel → ℕ
+last ch = first ch + many ch
+
+-- a register of the channel's own
+abbrev pub isOwn : Channel → Register → Bool
+isOwn ch r = leb (first ch) (place r) && leb (end r) (last ch)
+
+abbrev pub Own : Channel → Register → Type 0
+Own ch r = isOwn ch r ≡ true
 
 -- CRB, CRC and CRD stand before all other registers
 abbrev pub switches : ℕ
@@ -37,113 +57,126 @@ switches = 3
 abbrev pub switchedBy : Switch → Bool
 switchedBy Always = true
 switchedBy Never = true
-switchedBy (Bit r bit) = ltb (registers.rowOf r .place) switches
+switchedBy (Bit r bit) = isOwn Controller r
 
 abbrev pub busyBy : Channel → Busy → Bool
 busyBy ch busy.Never = true
-busyBy ch (busy.While r) = isOwn ch (registers.rowOf r .place)
+busyBy ch (busy.While r) = isOwn ch r
 
--- whose a place is
+-- whose a byte is
 abbrev pub ownerAt : ℕ → Channel
 ownerAt p =
     cond (ltb p 3) Controller
-    (cond (ltb p 11) Spi
-    (cond (ltb p 20) Gpio
-    (cond (ltb p 21) Seu
-    Dac)))
+    (cond (ltb p 7) Seu
+    (cond (ltb p 11) Dac
+    (cond (ltb p 33) Spi
+    Gpio)))
 
 -- ---- channel by channel
 
-pub own-inside : (ch : Channel) → rowOf ch .first + rowOf ch .many ≤ registers.count
-own-inside Controller = lit≤ tt
-own-inside Spi = lit≤ tt
-own-inside Gpio = lit≤ tt
-own-inside Seu = lit≤ tt
-own-inside Id = lit≤ tt
-own-inside Dac = lit≤ tt
-own-inside Unknown = lit≤ tt
+abbrev bounded : Channel → Bool
+bounded ch =
+    leb (last ch) size && (leb (first ch) 0 || leb 1 (many ch)) && (switchedBy (rowOf ch .switch) && busyBy ch (rowOf ch .busy))
 
-pub switched-by : (ch : Channel) → switchedBy (rowOf ch .switch) ≡ true
-switched-by Controller = refl
-switched-by Spi = refl
-switched-by Gpio = refl
-switched-by Seu = refl
-switched-by Id = refl
-switched-by Dac = refl
-switched-by Unknown = refl
+bounds : (ch : Channel) → bounded ch ≡ true
+bounds Controller = refl
+bounds Spi = refl
+bounds Gpio = refl
+bounds Seu = refl
+bounds Id = refl
+bounds Dac = refl
+bounds Unknown = refl
 
-pub busy-by : (ch : Channel) → busyBy ch (rowOf ch .busy) ≡ true
-busy-by Controller = refl
-busy-by Spi = refl
-busy-by Gpio = refl
-busy-by Seu = refl
-busy-by Id = refl
-busy-by Dac = refl
-busy-by Unknown = refl
-
--- what a channel drops stands behind the switches
-pub drops-behind : (ch : Channel) → rowOf ch .drops ≡ true → switches ≤ rowOf ch .first
-drops-behind Controller h = absurd (false≢true h)
-drops-behind Spi h = lit≤ tt
-drops-behind Gpio h = lit≤ tt
-drops-behind Seu h = lit≤ tt
-drops-behind Id h = absurd (false≢true h)
-drops-behind Dac h = lit≤ tt
-drops-behind Unknown h = absurd (false≢true h)
-
-owned : (ch : Channel) (p : ℕ) → rowOf ch .first ≤ p → p < rowOf ch .first + rowOf ch .many → ownerAt p ≡ ch
+owned : (ch : Channel) (p : ℕ) → first ch ≤ p → p < last ch → ownerAt p ≡ ch
 owned Controller p l u = simp (lt-ltb p 3 (omega arith))
-owned Spi p l u = simp (le-ltb p 3 (omega arith), lt-ltb p 11 (omega arith))
-owned Gpio p l u = simp (le-ltb p 3 (omega arith), le-ltb p 11 (omega arith), lt-ltb p 20 (omega arith))
-owned Seu p l u = simp (le-ltb p 3 (omega arith), le-ltb p 11 (omega arith), le-ltb p 20 (omega arith), lt-ltb p 21 (omega arith))
+owned Seu p l u = simp (le-ltb p 3 (omega arith), lt-ltb p 7 (omega arith))
+owned Dac p l u = simp (le-ltb p 3 (omega arith), le-ltb p 7 (omega arith), lt-ltb p 11 (omega arith))
+owned Spi p l u = simp (le-ltb p 3 (omega arith), le-ltb p 7 (omega arith), le-ltb p 11 (omega arith), lt-ltb p 33 (omega arith))
+owned Gpio p l u = simp (le-ltb p 3 (omega arith), le-ltb p 7 (omega arith), le-ltb p 11 (omega arith), le-ltb p 33 (omega arith))
 owned Id p l u = absurd (omega arith)
-owned Dac p l u = simp (le-ltb p 3 (omega arith), le-ltb p 11 (omega arith), le-ltb p 20 (omega arith), le-ltb p 21 (omega arith))
 owned Unknown p l u = absurd (omega arith)
-
--- what holds of the channels that drop nothing, and of those that do, holds of all
-pub by-drops : (P : Channel → Type 0) → ((ch : Channel) → rowOf ch .drops ≡ false → P ch) → P Spi → P Gpio → (ch : Channel) → P ch
-by-drops P none spi gpio Controller = none Controller refl
-by-drops P none spi gpio Spi = spi
-by-drops P none spi gpio Gpio = gpio
-by-drops P none spi gpio Seu = none Seu refl
-by-drops P none spi gpio Id = none Id refl
-by-drops P none spi gpio Dac = none Dac refl
-by-drops P none spi gpio Unknown = none Unknown refl
 
 -- ---- for every channel
 
--- a place has one owner
-pub owner : (ch : Channel) (p : ℕ) → isOwn ch p ≡ true → ownerAt p ≡ ch
-owner ch p h =
-    owned ch p (leb-true _ p (and-left (leb (rowOf ch .first) p) _ h)) (ltb-true p _ (and-right (leb (rowOf ch .first) p) _ h))
+module _ (ch : Channel) where
+  abbrev sized : Bool
+  sized = leb (last ch) size && (leb (first ch) 0 || leb 1 (many ch))
 
--- a place that is not a channel's own is outside of them
-pub not-own : (ch : Channel) (p : ℕ) → isOwn ch p ≡ false → Outside (rowOf ch .first) (rowOf ch .many) p
-not-own ch p h = by (leb (rowOf ch .first) p) (ltb p (rowOf ch .first + rowOf ch .many)) refl refl h
+  pub own-inside : last ch ≤ size
+  own-inside = leb-true (last ch) size (and-left (leb (last ch) size) _ (and-left sized _ (bounds ch)))
+
+  -- none without bytes but at the front
+  some-bytes : (first ch ≤ 0) ⊎ (1 ≤ many ch)
+  some-bytes = le-or-le (first ch) 0 1 (many ch) (and-right (leb (last ch) size) _ (and-left sized _ (bounds ch)))
+
+  pub switched-by : switchedBy (rowOf ch .switch) ≡ true
+  switched-by = and-left (switchedBy (rowOf ch .switch)) _ (and-right sized _ (bounds ch))
+
+  pub busy-by : busyBy ch (rowOf ch .busy) ≡ true
+  busy-by = and-right (switchedBy (rowOf ch .switch)) _ (and-right sized _ (bounds ch))
+
+  -- what starts before its end and ends behind its start has a byte of it
+  nonempty : (p : ℕ) → p < last ch → first ch < last ch
+  nonempty p l = by some-bytes
+    where
+      by : (first ch ≤ 0) ⊎ (1 ≤ many ch) → first ch < last ch
+      by (inl z) = omega arith
+      by (inr m) = omega arith
+
+-- two channels are one, or have no byte in common
+pub one-or-apart : (j k : Channel) → (j ≡ k) ⊎ Apart (first j) (many j) (first k) (many k)
+one-or-apart j k = by (leb (last j) (first k)) (leb (last k) (first j)) refl refl
   where
-    by : (x y : Bool) → leb (rowOf ch .first) p ≡ x → ltb p (rowOf ch .first + rowOf ch .many) ≡ y → (x && y) ≡ false
-        → Outside (rowOf ch .first) (rowOf ch .many) p
-    by true true e f g = absurd (true≢false g)
-    by true false e f g = inr (ltb-false p _ f)
-    by false y e f g = inl (leb-false _ p e)
+    joint : (p : ℕ) → first j ≤ p → p < last j → first k ≤ p → p < last k → j ≡ k
+    joint p a b c d = sym (owned j p a b) ∙ owned k p c d
 
--- a register's place
-abbrev pub place : Register → ℕ
-place r = registers.rowOf r .place
+    meet : (t : Bool) → leb (first j) (first k) ≡ t → first k < last j → first j < last k → j ≡ k
+    meet true e l m = joint (first k) (leb-true _ _ e) l (omega arith) (nonempty k (first j) m)
+    meet false e l m = let f = leb-false (first j) (first k) e in joint (first j) (omega arith) (nonempty j (first k) l) (omega arith) m
 
--- a register of a channel's own
-abbrev pub Own : Channel → Register → Type 0
-Own ch r = isOwn ch (place r) ≡ true
+    by : (s t : Bool) → leb (last j) (first k) ≡ s → leb (last k) (first j) ≡ t → (j ≡ k) ⊎ Apart (first j) (many j) (first k) (many k)
+    by true t e f = inr (inl (leb-true _ _ e))
+    by false true e f = inr (inr (leb-true _ _ f))
+    by false false e f = inl (meet (leb (first j) (first k)) refl (leb-false _ _ e) (leb-false _ _ f))
+
+-- ---- the bytes of a register of a channel's own
+
+module _ (ch : Channel) (r : Register) (h : Own ch r) where
+  pub own-first : first ch ≤ place r
+  own-first = leb-true (first ch) (place r) (and-left (leb (first ch) (place r)) _ h)
+
+  pub own-last : end r ≤ last ch
+  own-last = leb-true (end r) (last ch) (and-right (leb (first ch) (place r)) _ h)
+
+  -- what is apart from the channel's own is apart from the register
+  pub apart-own : (p n : ℕ) → Apart p n (first ch) (many ch) → Apart p n (place r) (wide r)
+  apart-own p n (inl l) = let f = own-first in inl (omega arith)
+  apart-own p n (inr l) = let f = own-last in inr (omega arith)
+
+-- a register has one owner
+pub owner : (j k : Channel) (r : Register) → Own j r → Own k r → j ≡ k
+owner j k r a b =
+    let l = some (registers.rowOf r .width) in
+    let f = own-first j r a in
+    let g = own-last j r a in
+    let h = own-first k r b in
+    let i = own-last k r b in
+    sym (owned j (place r) f (omega arith)) ∙ owned k (place r) h (omega arith)
+  where
+    some : (w : Width) → 0 < bytesIn w
+    some Byte = lit< tt
+    some Half = lit< tt
+    some Word = lit< tt
 
 -- ---- what a command touches is its channel's own, and only a controller's command switches
 
 abbrev pub touches : Channel → Does → Bool
-touches ch (Write r) = isOwn ch (place r) && leb switches (place r)
-touches ch (Switching r) = isOwn ch (place r) && ltb (place r) switches
-touches ch (Read r) = isOwn ch (place r)
+touches ch (Write r) = isOwn ch r && leb switches (place r)
+touches ch (Switching r) = isOwn ch r && isOwn Controller r
+touches ch (Read r) = isOwn ch r
 touches ch ReadId = true
-touches ch (Clear r) = isOwn ch (place r) && leb switches (place r)
-touches ch (Start r) = isOwn ch (place r) && leb switches (place r)
+touches ch (Clear r) = isOwn ch r && leb switches (place r)
+touches ch (Start r) = isOwn ch r && leb switches (place r)
 
 -- and its reply's LEN is a byte
 abbrev pub proper : Channel → Command → Bool
@@ -162,3 +195,16 @@ tables Unknown = refl
 pub commands-proper : (ch : Channel) (cmd : ℕ) → proper ch (commandOf ch cmd) ≡ true
 unfolding codeOf
 commands-proper ch cmd = look-every (proper ch) (commandsOf ch) command.Unknown cmd (tables ch) refl
+
+-- ---- the channels that drop their registers: these stand behind the switches, and the SEU counter is not among them
+
+abbrev pub dropped : ℕ → Bool
+dropped c = leb switches (first (channelOf c)) && (leb (last (channelOf c)) (place register.Seu) || leb (end register.Seu) (first (channelOf c)))
+
+abbrev pub all : (ℕ → Bool) → List ℕ → Bool
+all f [] = true
+all f (c ∷ cs) = f c && all f cs
+
+pub all-dropped : all dropped dropping ≡ true
+unfolding channelOf
+all-dropped = refl

@@ -12,7 +12,6 @@ use Rattle.channels.specs.Rows.{settled}
 use Rattle.channels.specs.Errors.{decoded}
 use Rattle.channels.specs.declared.errors.Decoded.{Decoded}
 use Rattle.channels.specs.declared.errors.Decoded.the-variants.{Wrong, Right}
-use Rattle.channels.specs.declared.Answered.{Answered}
 
 -- the reply, from the registers as they were: a GO's comes later
 abbrev pub told : List ℕ → ℕ → ℕ → Does → Reply
@@ -42,5 +41,8 @@ abbrev pub leftBy : List ℕ → Request → Decoded → List ℕ
 leftBy rs q (Wrong error) = rs
 leftBy rs q (Right given does) = left rs q does
 
-unfoldable pub answered : List ℕ → ℕ → Request → Answered
-answered rs id q = record { registers = leftBy rs q (decoded rs q); reply = replyTo rs id (decoded rs q) }
+unfoldable pub replied : List ℕ → ℕ → Request → Reply
+replied rs id q = replyTo rs id (decoded rs q)
+
+unfoldable pub performed : List ℕ → Request → List ℕ
+performed rs q = leftBy rs q (decoded rs q)

@@ -1,9 +1,11 @@
--- A row for each channel: what enables it, what makes it busy, its own registers. And what follows from it: what a disabled channel holds.
+-- A row for each channel: what enables it, what makes it busy, its own bytes among the registers. And what follows from it: what a disabled
+-- channel holds.
 use Prim.Native.Nat.{ℕ, _^_}
 use mathlib.Core.Bool.{Bool, true, false, not, _&&_, _||_, cond}
-use mathlib.Core.List.{List}
+use mathlib.Core.List.{List, [], _∷_}
 use lib.Bits.{bitAnd}
 use lib.Dec.{eqb}
+use Rattle.commands.specs.Channels.{channelOf}
 use Rattle.commands.specs.declared.channel.Channel.{Channel}
 use Rattle.commands.specs.declared.channel.Channel.the-variants.{Controller, Spi, Gpio, Seu, Id, Dac, Unknown}
 use Rattle.commands.specs.declared.command.Register.the-variants.{Crb, Crd, SpiGo}
@@ -16,20 +18,23 @@ use Rattle.channels.specs.declared.rows.Switch.the-variants.{Always, Nev
 
 -- ---- the rows
 
--- a known channel: its switch, what makes it busy, its own registers (so many, from a place on), and whether they are 0 while it is disabled
-abbrev pub row : Switch → Busy → ℕ → ℕ → Bool → Row
-row switch busy first many drops = record { known = true; switch = switch; busy = busy; first = first; many = many; drops = drops }
+-- a known channel: its switch, what makes it busy, its own bytes (so many, from a place on)
+abbrev pub row : Switch → Busy → ℕ → ℕ → Row
+row switch busy first many = record { known = true; switch = switch; busy = busy; first = first; many = many }
 
 -- CRB bits 1 SPI, 2 GPIO; CRD bit 3 serves 0x13, bit 4 serves 0x14. The controller and the DAC are always enabled. GO makes SPI busy.
--- A disabled SPI or GPIO holds all its registers at 0; the SEU counter and ID aren't touched.
 abbrev pub rowOf : Channel → Row
-rowOf Controller = row Always busy.Never 0 3 false
-rowOf Spi = row (Bit Crb (2 ^ 1)) (busy.While SpiGo) 3 8 true
-rowOf Gpio = row (Bit Crb (2 ^ 2)) busy.Never 11 9 true
-rowOf Seu = row (Bit Crd (2 ^ 3)) busy.Never 20 1 false
-rowOf Id = row (Bit Crd (2 ^ 4)) busy.Never 0 0 false
-rowOf Dac = row Always busy.Never 21 4 false
-rowOf Unknown = record { known = false; switch = Never; busy = busy.Never; first = 0; many = 0; drops = false }
+rowOf Controller = row Always busy.Never 0 3
+rowOf Spi = row (Bit Crb (2 ^ 1)) (busy.While SpiGo) 11 22
+rowOf Gpio = row (Bit Crb (2 ^ 2)) busy.Never 33 33
+rowOf Seu = row (Bit Crd (2 ^ 3)) busy.Never 3 4
+rowOf Id = row (Bit Crd (2 ^ 4)) busy.Never 0 0
+rowOf Dac = row Always busy.Never 7 4
+rowOf Unknown = record { known = false; switch = Never; busy = busy.Never; first = 0; many = 0 }
+
+-- THE CHANNELS THAT HOLD THEIR REGISTERS AT 0 WHILE THEY ARE DISABLED, by number: SPI and GPIO. The SEU counter and ID aren't touched.
+abbrev pub dropping : List ℕ
+dropping = 0x01 ∷ 0x02 ∷ []
 
 -- ---- what they say of registers
 
@@ -52,18 +57,26 @@ isEnabled rs ch = isOn rs (rowOf ch .switch)
 abbrev pub isBusy : List ℕ → Channel → Bool
 isBusy rs ch = isAtWork rs (rowOf ch .busy)
 
--- ---- after a switch: each channel that is disabled drops what it had, and what it had open
+-- ---- after a switch: each of them that is disabled drops what it had, and what it had open
 
 unfoldable pub held : List ℕ → Channel → List ℕ
-held rs ch = cond (isEnabled rs ch) rs (cond (rowOf ch .drops) (zeroed (rowOf ch .first) (rowOf ch .many) rs) rs)
+held rs ch = cond (isEnabled rs ch) rs (zeroed (rowOf ch .first) (rowOf ch .many) rs)
+
+unfoldable pub heldAll : List ℕ → List ℕ → List ℕ
+heldAll [] rs = rs
+heldAll (c ∷ cs) rs = heldAll cs (held rs (channelOf c))
 
 abbrev pub settled : List ℕ → List ℕ
-settled rs = held (held rs Spi) Gpio
+settled rs = heldAll dropping rs
 
--- ---- in range: each channel is enabled, or what it drops is 0
+-- ---- in range: each of them is enabled, or its registers are 0
 
 unfoldable pub stillHeld : List ℕ → Channel → Bool
-stillHeld rs ch = isEnabled rs ch || cond (rowOf ch .drops) (areZero (rowOf ch .first) (rowOf ch .many) rs) true
+stillHeld rs ch = isEnabled rs ch || areZero (rowOf ch .first) (rowOf ch .many) rs
+
+unfoldable pub areHeld : List ℕ → List ℕ → Bool
+areHeld [] rs = true
+areHeld (c ∷ cs) rs = stillHeld rs (channelOf c) && areHeld cs rs
 
 abbrev pub allHeld : List ℕ → Bool
-allHeld rs = stillHeld rs Spi && stillHeld rs Gpio
+allHeld rs = areHeld dropping rs

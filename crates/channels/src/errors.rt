@@ -1,5 +1,7 @@
 // The first error of a request: document 01's six, in its order.
 ghost use mathlib.Core.Path.{_≡_};
+ghost use lib.ListN.{length};
+ghost use Rattle.registers.specs.Registers.{size};
 ghost use Rattle.channels.specs.Errors.{ofCommand, decoded};
 use crate::rows;
 use commands::channel;
@@ -14,7 +16,6 @@ use commands::request::NO_TRANSACTION;
 use commands::request::NOT_ENABLED;
 use commands::request::Request;
 use commands::request::TRN_WRONG;
-use registers::COUNT;
 
 // An error, or the LEN that a reply gives and what is to be done.
 pub enum Decoded {
@@ -36,8 +37,9 @@ fn of_command(command: Command, len: u8) -> Decoded
     }
 }
 
-pub(crate) fn decode(registers: [u32; COUNT], q: Request) -> Decoded
-    ensures { λ r. ⌜ r ≡ decoded registers q ⌝ }
+pub(crate) fn decode(registers: &[u8], q: Request) -> Decoded
+    requires { ⌜ length (now registers) ≡ size ⌝ }
+    ensures { λ r. ⌜ r ≡ decoded (now (registers .entry)) q ⌝ }
 {
     let which = channel::channel_of(q.ch);
     if q.trn == NO_TRANSACTION {

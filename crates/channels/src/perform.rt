@@ -1,15 +1,17 @@
 // What a request without an error comes to: its reply, and the registers that it leaves.
 ghost use mathlib.Core.Path.{_≡_};
+ghost use lib.ListN.{length};
+ghost use Rattle.registers.specs.Registers.{size};
 ghost use Rattle.channels.specs.Perform.{told, left};
 use crate::rows;
 use commands::command::Does;
 use commands::request::Reply;
 use commands::request::Request;
 use commands::request::granted;
-use registers::COUNT;
 
-pub(crate) fn tell(registers: [u32; COUNT], id: u32, given: u8, does: Does) -> Reply
-    ensures { λ r. ⌜ r ≡ told registers id given does ⌝ }
+pub(crate) fn tell(registers: &[u8], id: u32, given: u8, does: Does) -> Reply
+    requires { ⌜ length (now registers) ≡ size ⌝ }
+    ensures { λ r. ⌜ r ≡ told (now (registers .entry)) id given does ⌝ }
 {
     match does {
         Does::Write(_) => granted(given, 0),
@@ -21,14 +23,18 @@ pub(crate) fn tell(registers: [u32; COUNT], id: u32, given: u8, does: Does) -> R
     }
 }
 
-pub(crate) fn leave(registers: [u32; COUNT], q: Request, does: Does) -> [u32; COUNT]
-    ensures { λ r. ⌜ r ≡ left registers q does ⌝ }
+pub(crate) fn leave(registers: &mut [u8], q: Request, does: Does)
+    requires { ⌜ length (now registers) ≡ size ⌝ }
+    ensures { λ _. ⌜ now (registers .exit) ≡ left (now (registers .entry)) q does ⌝ }
 {
     match does {
         Does::Write(which) => registers::write(registers, which, q.value),
-        Does::Switch(which) => rows::settle(registers::write(registers, which, q.value)),
-        Does::Read(_) => registers,
-        Does::ReadId => registers,
+        Does::Switch(which) => {
+            registers::write(registers, which, q.value);
+            rows::settle(registers);
+        }
+        Does::Read(_) => {}
+        Does::ReadId => {}
         Does::Clear(which) => registers::store(registers, which, 0),
         Does::Start(which) => registers::store(registers, which, q.trn as u32),
     }

@@ -1,9 +1,12 @@
-// A row for each channel: what enables it, what makes it busy, its own registers. And what follows from it: what a disabled channel holds.
+// A row for each channel: what enables it, what makes it busy, its own bytes among the registers. And what follows from it: what a disabled
+// channel holds.
 ghost use mathlib.Core.Path.{_≡_};
+ghost use lib.ListN.{length};
+ghost use Rattle.registers.specs.Registers.{size};
 ghost use Rattle.channels.specs.Rows.{row, rowOf, isOn, isAtWork, isEnabled, isBusy, held, settled, stillHeld, allHeld};
 use commands::channel::Channel;
+use commands::channel::channel_of;
 use commands::command::Register;
-use registers::COUNT;
 use registers::read;
 
 // What enables a channel: a bit of a register of the controller.
@@ -19,19 +22,18 @@ pub enum Busy {
     While(Register),
 }
 
-// The channel's own registers are so many, from a place on; while it is disabled it drops them or not.
+// The channel's own bytes are so many, from a place on.
 pub struct Row {
     pub known: bool,
     pub switch: Switch,
     pub busy: Busy,
     pub first: usize,
     pub many: usize,
-    pub drops: bool,
 }
 
 // The row of a channel that is known.
-fn known(switch: Switch, busy: Busy, first: usize, many: usize, drops: bool) -> Row
-    ensures { λ r. ⌜ r ≡ row switch busy first many drops ⌝ }
+fn known(switch: Switch, busy: Busy, first: usize, many: usize) -> Row
+    ensures { λ r. ⌜ r ≡ row switch busy first many ⌝ }
 {
     Row {
         known: true,
@@ -39,7 +41,6 @@ fn known(switch: Switch, busy: Busy, first: usize, many: usize, drops: bool) -> 
         busy: busy,
         first: first,
         many: many,
-        drops: drops,
     }
 }
 
@@ -47,31 +48,35 @@ pub(crate) fn row_of(which: Channel) -> Row
     ensures { λ r. ⌜ r ≡ rowOf which ⌝ }
 {
     match which {
-        Channel::Controller => known(Switch::Always, Busy::Never, 0, 3, false),
+        Channel::Controller => known(Switch::Always, Busy::Never, 0, 3),
         Channel::Spi => known(
             Switch::Bit(Register::Crb, 0x02),
             Busy::While(Register::SpiGo),
-            3,
-            8,
-            true,
+            11,
+            22,
         ),
-        Channel::Gpio => known(Switch::Bit(Register::Crb, 0x04), Busy::Never, 11, 9, true),
-        Channel::Seu => known(Switch::Bit(Register::Crd, 0x08), Busy::Never, 20, 1, false),
-        Channel::Id => known(Switch::Bit(Register::Crd, 0x10), Busy::Never, 0, 0, false),
-        Channel::Dac => known(Switch::Always, Busy::Never, 21, 4, false),
+        Channel::Gpio => known(Switch::Bit(Register::Crb, 0x04), Busy::Never, 33, 33),
+        Channel::Seu => known(Switch::Bit(Register::Crd, 0x08), Busy::Never, 3, 4),
+        Channel::Id => known(Switch::Bit(Register::Crd, 0x10), Busy::Never, 0, 0),
+        Channel::Dac => known(Switch::Always, Busy::Never, 7, 4),
         Channel::Unknown => Row {
             known: false,
             switch: Switch::Never,
             busy: Busy::Never,
             first: 0,
             many: 0,
-            drops: false,
         },
     }
 }
 
-fn is_on(registers: [u32; COUNT], switch: Switch) -> bool
-    ensures { λ r. ⌜ r ≡ isOn registers switch ⌝ }
+// The channels that hold their registers at 0 while they are disabled, by number: SPI, GPIO.
+const DROPPING: [u8; DROPPERS] = [0x01, 0x02];
+
+const DROPPERS: usize = 2;
+
+fn is_on(registers: &[u8], switch: Switch) -> bool
+    requires { ⌜ length (now registers) ≡ size ⌝ }
+    ensures { λ r. ⌜ r ≡ isOn (now (registers .entry)) switch ⌝ }
 {
     match switch {
         Switch::Always => true,
@@ -80,8 +85,9 @@ fn is_on(registers: [u32; COUNT], switch: Switch) -> bool
     }
 }
 
-fn is_at_work(registers: [u32; COUNT], busy: Busy) -> bool
-    ensures { λ r. ⌜ r ≡ isAtWork registers busy ⌝ }
+fn is_at_work(registers: &[u8], busy: Busy) -> bool
+    requires { ⌜ length (now registers) ≡ size ⌝ }
+    ensures { λ r. ⌜ r ≡ isAtWork (now (registers .entry)) busy ⌝ }
 {
     match busy {
         Busy::Never => false,
@@ -89,58 +95,70 @@ fn is_at_work(registers: [u32; COUNT], busy: Busy) -> bool
     }
 }
 
-pub(crate) fn is_enabled(registers: [u32; COUNT], which: Channel) -> bool
-    ensures { λ r. ⌜ r ≡ isEnabled registers which ⌝ }
+pub(crate) fn is_enabled(registers: &[u8], which: Channel) -> bool
+    requires { ⌜ length (now registers) ≡ size ⌝ }
+    ensures { λ r. ⌜ r ≡ isEnabled (now (registers .entry)) which ⌝ }
 {
     let row = row_of(which);
     let switch = row.switch;
     is_on(registers, switch)
 }
 
-pub(crate) fn is_busy(registers: [u32; COUNT], which: Channel) -> bool
-    ensures { λ r. ⌜ r ≡ isBusy registers which ⌝ }
+pub(crate) fn is_busy(registers: &[u8], which: Channel) -> bool
+    requires { ⌜ length (now registers) ≡ size ⌝ }
+    ensures { λ r. ⌜ r ≡ isBusy (now (registers .entry)) which ⌝ }
 {
     let row = row_of(which);
     let busy = row.busy;
     is_at_work(registers, busy)
 }
 
-fn hold(registers: [u32; COUNT], which: Channel) -> [u32; COUNT]
-    ensures { λ r. ⌜ r ≡ held registers which ⌝ }
+fn hold(registers: &mut [u8], which: Channel)
+    requires { ⌜ length (now registers) ≡ size ⌝ }
+    ensures { λ _. ⌜ now (registers .exit) ≡ held (now (registers .entry)) which ⌝ }
 {
     if is_enabled(registers, which) {
-        return registers;
+        return;
     }
     let row = row_of(which);
-    if row.drops {
-        return registers::clear(registers, row.first, row.many);
-    }
-    registers
+    registers::clear(registers, row.first, row.many);
 }
 
 // A disabled channel drops what it had, and what it had open.
-pub(crate) fn settle(registers: [u32; COUNT]) -> [u32; COUNT]
-    ensures { λ r. ⌜ r ≡ settled registers ⌝ }
+pub(crate) fn settle(registers: &mut [u8])
+    requires { ⌜ length (now registers) ≡ size ⌝ }
+    ensures { λ _. ⌜ now (registers .exit) ≡ settled (now (registers .entry)) ⌝ }
 {
-    hold(hold(registers, Channel::Spi), Channel::Gpio)
+    let dropping = DROPPING;
+    let mut i = 0;
+    while i < DROPPERS {
+        hold(registers, channel_of(dropping[i]));
+        i += 1;
+    }
 }
 
 // A channel that is enabled may hold anything; its registers are looked at only where it is not.
-fn still_holds(registers: [u32; COUNT], which: Channel) -> bool
-    ensures { λ r. ⌜ r ≡ stillHeld registers which ⌝ }
+fn still_holds(registers: &[u8], which: Channel) -> bool
+    requires { ⌜ length (now registers) ≡ size ⌝ }
+    ensures { λ r. ⌜ r ≡ stillHeld (now (registers .entry)) which ⌝ }
 {
     if is_enabled(registers, which) {
         return true;
     }
     let row = row_of(which);
-    if row.drops {
-        return registers::are_zero(registers, row.first, row.many);
-    }
-    true
+    registers::are_zero(registers, row.first, row.many)
 }
 
-pub(crate) fn are_held(registers: [u32; COUNT]) -> bool
-    ensures { λ r. ⌜ r ≡ allHeld registers ⌝ }
+pub(crate) fn are_held(registers: &[u8]) -> bool
+    requires { ⌜ length (now registers) ≡ size ⌝ }
+    ensures { λ r. ⌜ r ≡ allHeld (now (registers .entry)) ⌝ }
 {
-    still_holds(registers, Channel::Spi) & still_holds(registers, Channel::Gpio)
+    let dropping = DROPPING;
+    let mut all = true;
+    let mut i = 0;
+    while i < DROPPERS {
+        all = all & still_holds(registers, channel_of(dropping[i]));
+        i += 1;
+    }
+    all
 }

@@ -9,8 +9,7 @@ use Rattle.commands.specs.declared.request.Reply.the-variants.{Sent, Later}
 use Rattle.numbers.specs.Numbers.{noFrame}
 use Rattle.parts.specs.Parts.{put}
 use Rattle.packets.specs.Packets.{requestOf}
-use Rattle.channels.specs.Perform.{answered}
-use Rattle.channels.specs.declared.Answered.{Answered}
+use Rattle.channels.specs.Perform.{replied, performed}
 use Rattle.chip.specs.State.{withRegisters}
 use Rattle.chip.specs.Answer.{sends, gives, response, Said, said, says}
 use Rattle.chip.specs.Request.{replies, finished, requested}
@@ -30,8 +29,8 @@ module _ (a : Adapter) (trn ch : ℕ) (t : Reply) (o : List ℕ) where
   later r e p = simp (e, p)
 
 module _ (a : Adapter) (s o : List ℕ) (x : Said) where
-  pub done : (q : Request) (y : Answered) → q ≡ requestOf s → y ≡ answered (a .registers) (a .id) q
-      → x ≡ says (finished (withRegisters a (y .registers)) (q .trn) (q .ch) (y .reply)) o
+  pub done : (q : Request) (t : Reply) (after : List ℕ) → q ≡ requestOf s → t ≡ replied (a .registers) (a .id) q → after ≡ performed (a .registers) q
+      → x ≡ says (finished (withRegisters a after) (q .trn) (q .ch) t) o
       → x ≡ says (requested a s) o
   unfolding requested
-  done q y e p g = simp (g, p, e)
+  done q t after e p l g = simp (g, p, l, e)

@@ -9,15 +9,15 @@ use Rattle.commands.specs.Channels.{channelOf}
 use Rattle.commands.specs.Command.{codeOf}
 use Rattle.commands.specs.declared.command.Register.the-variants.{Datain, Seu}
 use Rattle.registers.specs.Registers as registers
-use Rattle.registers.specs.Pins.{sampled, datainAfter, firingLines}
-use Rattle.registers.specs.Transfer.{completed, completedWord}
-use Rattle.channels.specs.Rows.{held}
+use Rattle.registers.specs.Pins.{interrupts, sampled, datainAfter, firingLines}
+use Rattle.registers.specs.Transfer.{completed, withData, dataAfter, completedWord}
+use Rattle.channels.specs.Rows.{held, heldAll}
 use Rattle.channels.specs.Errors.{decoded}
-use Rattle.channels.specs.Perform.{answered}
-use Rattle.parts.specs.Words.{word as fourBytes, wordsOf}
+use Rattle.channels.specs.Perform.{replied, performed}
 use Rattle.chip.specs.Event.{spi, Event, frame, completion, sample, upset}
 use Rattle.chip.specs.State.{poweredOn, powerOn, withRegisters}
-use Rattle.parts.specs.Parts.{put}
+use Rattle.parts.specs.Parts.{part, put}
+use Rattle.parts.specs.Digits.{word as fourBytes, number, digits}
 use Rattle.chip.specs.Answer.{Reaction, laid}
 use Rattle.packets.specs.Packets.{byteOf}
 use Rattle.chip.specs.Request.{replies, requested}
@@ -249,8 +249,9 @@ pub record Tables : Type 0 where
 
 pub tables : Tables
 unfolding
-    reaction onFrame addressed commanded carried numbered requested answered decoded replies onSpi onSample onUpset wordsOf put poweredOn word
-    channelOf codeOf registers.read registers.store registers.zeroed held completed completedWord sampled datainAfter firingLines
+    reaction onFrame addressed commanded carried numbered requested replied performed decoded replies onSpi onSample onUpset put poweredOn word
+    channelOf codeOf registers.read registers.store registers.zeroed held heldAll completed withData dataAfter completedWord
+    interrupts sampled datainAfter firingLines part number digits
 tables =
     record {
       listing = refl;

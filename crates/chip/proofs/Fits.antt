@@ -3,23 +3,19 @@ use Prim.Native.Nat.{ℕ, _^_, _≤_, _<_}
 use mathlib.Core.Bool.{Bool, true, _&&_}
 use mathlib.Core.List.{List}
 use mathlib.Core.Path.{_≡_, subst}
-use native.Mathlib.Nat.{mod-lt}
 use native.Mathlib.Omega.{arith}
 use borrow.Author.Tests.{le-leb, leb-true}
-use lib.Dec.{leb, lit≤, lit<}
+use lib.Dec.{leb, lit≤}
 use Rattle.bits.proofs.Tests.{and-left, and-right}
-use Rattle.parts.specs.Words.{wordsOf}
-use Rattle.parts.proofs.Laws.{AreBytes, bytes-drop}
-use Rattle.registers.specs.Registers.{count, within}
+use Rattle.registers.specs.Registers.{within}
 use Rattle.registers.proofs.Laws.{RegistersFit}
 use Rattle.channels.specs.Rows.{allHeld}
-use Rattle.channels.proofs.Laws.{Sound, each-held, all-held, RequestFits, power-on-sound, answered-sound, sampled-sound, completed-sound, upset-sound}
+use Rattle.channels.proofs.Laws.{Sound, power-on-sound, performed-sound, sampled-sound, completed-sound, upset-sound}
 use Rattle.link.specs.Link.{sendUp}
 use Rattle.link.specs.declared.Link.{Link}
-use Rattle.packets.specs.Packets.{requestOf}
 use Rattle.chip.specs.Event.{Event}
 use Rattle.chip.specs.State.{poweredOn, powerOn, inRange, withLink, withRegisters}
-use Rattle.chip.specs.Frame.{informationOf, counted}
+use Rattle.chip.specs.Frame.{counted}
 use Rattle.chip.specs.Chip.{reaction}
 use Rattle.chip.specs.declared.Adapter.{Adapter}
 use Rattle.chip.proofs.EventFits.{EventFits}
@@ -41,7 +37,7 @@ pub record InRange (a : Adapter) : Type 0 where
   pub receive : a .link .receive .0 ≤ 7
   pub port : a .link .port ≤ 1
   pub id : a .id ≤ 0xFFFFFF
-  pub masked : within count (a .registers) ≡ true
+  pub masked : within (a .registers) ≡ true
   pub held : allHeld (a .registers) ≡ true
 
 in-range : (a : Adapter) → InRange a → inRange a ≡ true
@@ -55,7 +51,7 @@ of-in-range a h =
     let r : Bool = leb (a .link .receive .0) 7 in
     let p : Bool = leb (a .link .port) 1 in
     let i : Bool = leb (a .id) 0xFFFFFF in
-    let w : Bool = within count (a .registers) in
+    let w : Bool = within (a .registers) in
     let h5 = and-left (s && r && p && i && w) (allHeld (a .registers)) h in
     let h4 = and-left (s && r && p && i) w h5 in
     let h3 = and-left (s && r && p) i h4 in
@@ -85,7 +81,7 @@ good a f h =
       send = r .send;
       receive = r .receive;
       port = r .port;
-      registers = record { fits = f .registers; masked = r .masked; held = each-held (a .registers) (r .held) };
+      registers = record { fits = f .registers; masked = r .masked; held = r .held };
       id = r .id;
     }
 
@@ -102,7 +98,7 @@ good-fits a g =
 pub good-ranged : (a : Adapter) → Good a → inRange a ≡ true
 good-ranged a g =
     in-range a
-    (record { send = g .send; receive = g .receive; port = g .port; id = g .id; masked = g .registers .masked; held = all-held (a .registers) (g .registers .held) })
+    (record { send = g .send; receive = g .receive; port = g .port; id = g .id; masked = g .registers .masked; held = g .registers .held })
 
 -- ---- power-on
 
@@ -127,31 +123,18 @@ counted-good a g = relinked a _ g (g .send) (omega arith) (g .port)
 raised-good : (a : Adapter) → Good a → Good (withLink a (sendUp (a .link)))
 raised-good a g = relinked a _ g (omega arith) (g .receive) (g .port)
 
--- the request's TRN and D fit where the body is bytes
-request-fits : (body : List ℕ) → AreBytes body → RequestFits (requestOf (informationOf body))
-request-fits body f =
-    record {
-      trn = bytes-drop 2 body f 0;
-      value = omega (arith, bytes-drop 2 body f 4, bytes-drop 2 body f 5, bytes-drop 2 body f 6, bytes-drop 2 body f 7);
-    }
-
 commanded-good : (a : Adapter) (port control : ℕ) (b : Adapter) → Commanded a port control b → Good a → port ≤ 1 → Good b
 commanded-good a port control b (connects _) g p = relinked a _ g (lit≤ tt) (lit≤ tt) p
 commanded-good a port control b (resets _) g p = powered-good port (a .id) p (g .id)
 commanded-good a port control b (tests _) g p = relinked a _ g (g .send) (g .receive) (g .port)
 
-moved-good : (a : Adapter) (e : Event) (b : Adapter) → Moved a e b → Good a → EventFits e → Good b
-moved-good a e b (requests port body) g f =
-    stored (counted a) _ (counted-good a g) (answered-sound (a .registers) _ (g .registers) (request-fits body (f .bytes)) (a .id))
-moved-good a e b (completes received h) g f = stored a _ g (completed-sound (a .registers) (g .registers) (wordsOf 4 received) h)
-moved-good a e b (samples levels kind h) g f = stored a _ g (sampled-sound (a .registers) (g .registers) levels kind h)
-moved-good a e b counts g f = stored a _ g (upset-sound (a .registers) (g .registers) _ (mod-lt _ (lit< tt)))
+moved-good : (a : Adapter) (e : Event) (b : Adapter) → Moved a e b → Good a → Good b
+moved-good a e b (requests port body) g =
+    stored (counted a) _ (counted-good a g) (performed-sound (a .registers) _ (g .registers))
+moved-good a e b (completes received h) g = stored a _ g (completed-sound (a .registers) (g .registers) received h)
+moved-good a e b (samples levels kind h) g = stored a _ g (sampled-sound (a .registers) (g .registers) levels kind h)
+moved-good a e b counts g = stored a _ g (upset-sound (a .registers) (g .registers) _)
 
 pub good-stays : (a : Adapter) (e : Event) → Good a → EventFits e → Good (reaction a e .adapter)
 good-stays a e g f =
-    state-cases a e Good g (λ port body b h c. commanded-good a port _ b c g (subst EventFits h f .port)) (λ b m. moved-good a e b m g f) raised-good
-
--- both numbers stay below 8
-pub numbers-below : (a : Adapter) (e : Event) → Good a → EventFits e
-    → (reaction a e .adapter .link .send .0 < 8) × (reaction a e .adapter .link .receive .0 < 8)
-numbers-below a e g f = let r = good-stays a e g f in (omega (arith, r .send), omega (arith, r .receive))
+    state-cases a e Good g (λ port body b h c. commanded-good a port _ b c g (subst EventFits h f .port)) (λ b m. moved-good a e b m g) raised-good

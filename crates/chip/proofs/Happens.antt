@@ -4,13 +4,11 @@ use mathlib.Core.Bool.{Bool, true, false}
 use mathlib.Core.List.{List}
 use mathlib.Core.Path.{_≡_, sym, _∙_}
 use Rattle.numbers.specs.Numbers.{notBusy, linesDisabled, noFrame}
-use Rattle.parts.specs.Words.{wordsOf}
 use Rattle.commands.specs.declared.channel.Channel.the-variants.{Spi, Gpio}
 use Rattle.commands.specs.declared.command.Register.the-variants.{SpiData0, SpiGo, Ints, Seu}
 use Rattle.commands.specs.Spi.{go}
-use Rattle.registers.specs.declared.gpio.Sampled.{Sampled}
 use Rattle.registers.specs.Registers.{read, store}
-use Rattle.registers.specs.Pins.{sampled}
+use Rattle.registers.specs.Pins.{interrupts, sampled}
 use Rattle.registers.specs.Transfer.{completed}
 use Rattle.channels.specs.Rows.{isEnabled, isBusy}
 use Rattle.commands.specs.Request.{interruptTransaction}
@@ -33,28 +31,27 @@ module _ (a : Adapter) (s o : List ℕ) (busy : Bool) (b : busy ≡ isBusy (a .r
   unfolding reaction onSpi
   idle r e g = simp (sym b ∙ e, g)
 
-  pub completes : (x : Said) (after w : List ℕ) (trn d : ℕ) → busy ≡ true → w ≡ wordsOf 4 s → after ≡ completed (a .registers) w
+  pub completes : (x : Said) (after : List ℕ) (trn d : ℕ) → busy ≡ true → after ≡ completed (a .registers) s
       → trn ≡ read (a .registers) SpiGo → d ≡ read after SpiData0
       → x ≡ says (replies (withRegisters a after) (trn % 0x100) spiChannel 0 (go .given) d) o → x ≡ says (reaction a (completion (spi s))) o
   unfolding reaction onSpi
-  completes x after w trn d e f c t v g = simp (sym b ∙ e, g, v, t, c, f)
+  completes x after trn d e c t v g = simp (sym b ∙ e, g, v, t, c)
 
 module _ (a : Adapter) (levels kind : ℕ) (o : List ℕ) (on : Bool) (e : on ≡ isEnabled (a .registers) Gpio) where
   pub disabled : (r : Response) → on ≡ false → r ≡ response (gives a linesDisabled) → said r o ≡ says (reaction a (sample levels kind)) o
   unfolding reaction onSample
   disabled r h g = simp (sym e ∙ h, g)
 
-  module _ (h : on ≡ true) (y : Sampled) (p : y ≡ sampled (a .registers) levels kind) where
-    pub interrupted : (x : Said) (d : ℕ) → y .interrupt ≡ true → d ≡ read (y .registers) Ints
-        → x ≡ says (replies (withRegisters a (y .registers)) interruptTransaction gpioChannel 0 interruptLength d) o
+  module _ (h : on ≡ true) (t : Bool) (p : t ≡ interrupts (a .registers) levels kind) (after : List ℕ) (l : after ≡ sampled (a .registers) levels kind) where
+    pub interrupted : (x : Said) (d : ℕ) → t ≡ true → d ≡ read after Ints
+        → x ≡ says (replies (withRegisters a after) interruptTransaction gpioChannel 0 interruptLength d) o
         → x ≡ says (reaction a (sample levels kind)) o
     unfolding reaction onSample
-    interrupted x d i v g = simp (sym e ∙ h, ← p, i, g, v)
+    interrupted x d i v g = simp (sym e ∙ h, ← l, sym p ∙ i, g, v)
 
-    pub taken : (r : Response) → y .interrupt ≡ false → r ≡ response (gives (withRegisters a (y .registers)) noFrame)
-        → said r o ≡ says (reaction a (sample levels kind)) o
+    pub taken : (r : Response) → t ≡ false → r ≡ response (gives (withRegisters a after) noFrame) → said r o ≡ says (reaction a (sample levels kind)) o
     unfolding reaction onSample
-    taken r i g = simp (sym e ∙ h, ← p, i, g)
+    taken r i g = simp (sym e ∙ h, ← l, sym p ∙ i, g)
 
 pub upsets : (a : Adapter) (r : Response) (was n : ℕ) (after : List ℕ) → was ≡ read (a .registers) Seu → n ≡ (was + 1) % 2 ^ 32
     → after ≡ store (a .registers) Seu n → r ≡ response (gives (withRegisters a after) noFrame) → r ≡ response (reaction a upset)

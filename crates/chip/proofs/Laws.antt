@@ -13,7 +13,7 @@ use Rattle.chip.specs.Event.{Event, frame}
 use Rattle.chip.specs.State.{poweredOn, withRegisters}
 use Rattle.chip.specs.Answer.{Reaction, sends, gives, response, Said, said, says}
 use Rattle.link.specs.Link.{acknowledgeControl}
-use Rattle.channels.specs.Perform.{answered}
+use Rattle.channels.specs.Perform.{replied as replyDue, performed}
 use Rattle.commands.specs.declared.request.Reply.{Reply}
 use Rattle.commands.specs.declared.request.Reply.the-variants.{Sent, Later}
 use Rattle.chip.specs.Request.{replies, finished, requested}
@@ -25,7 +25,7 @@ use Rattle.bits.proofs.Tests.{and-left, and-right, or-second}
 use Rattle.chip.proofs.Steps.{moved-id, Commanded, connects, resets, tests, moved-send, Shape, dropped, acknowledged, echoed, rejected}
 use Rattle.chip.proofs.Steps.{replied, quiet, shapes, state-cases}
 pub use Rattle.chip.proofs.Bodies.{number-given, OneFrame, one-frame, silent, sendable, frame-bytes}
-pub use Rattle.chip.proofs.Fits.{Fits, Good, good, good-fits, good-ranged, power-on-good, good-stays, numbers-below}
+pub use Rattle.chip.proofs.Fits.{Fits, Good, good, good-fits, good-ranged, power-on-good, good-stays}
 
 -- ---- the state in what an event leaves
 
@@ -98,14 +98,14 @@ pub record SameAnswer (r t : Reaction) : Type 0 where
   pub frames : r .frames ≡ t .frames
 
 abbrev pub judged : Adapter → List ℕ → Reaction
-judged a info = let q = requestOf info in finished a (q .trn) (q .ch) (answered (a .registers) (a .id) q .reply)
+judged a info = let q = requestOf info in finished a (q .trn) (q .ch) (replyDue (a .registers) (a .id) q)
 
 pub judging : (a : Adapter) (info : List ℕ) → SameAnswer (requested a info) (judged a info)
 unfolding requested replies
-judging a info = by (answered (a .registers) (a .id) (requestOf info) .reply)
+judging a info = by (replyDue (a .registers) (a .id) (requestOf info))
   where
     by : (p : Reply)
-        → SameAnswer (finished (withRegisters a (answered (a .registers) (a .id) (requestOf info) .registers)) (requestOf info .trn) (requestOf info .ch) p)
+        → SameAnswer (finished (withRegisters a (performed (a .registers) (requestOf info))) (requestOf info .trn) (requestOf info .ch) p)
         (finished a (requestOf info .trn) (requestOf info .ch) p)
     by (Sent err len d) = record { number = refl; port = refl; frames = refl }
     by Later = record { number = refl; port = refl; frames = refl }

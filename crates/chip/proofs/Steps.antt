@@ -15,14 +15,12 @@ use Rattle.commands.specs.declared.command.Register.the-variants.{SpiGo, Seu}
 use Rattle.commands.specs.declared.request.Reply.{Reply}
 use Rattle.commands.specs.declared.request.Reply.the-variants.{Sent, Later}
 use Rattle.registers.specs.Registers.{read, store}
-use Rattle.registers.specs.Pins.{sampled}
+use Rattle.registers.specs.Pins.{interrupts, sampled}
 use Rattle.registers.specs.Transfer.{completed}
 use Rattle.channels.specs.Rows.{isEnabled, isBusy}
-use Rattle.channels.specs.Perform.{answered}
-use Rattle.channels.specs.declared.Answered.{Answered}
-use Rattle.channels.proofs.Laws.{ReplyBytes, answered-bytes}
+use Rattle.channels.specs.Perform as perform
+use Rattle.channels.proofs.Laws.{ReplyBytes, replied-bytes}
 use Rattle.chip.specs.Event.{Event, frame, completion, sample, upset, spi}
-use Rattle.parts.specs.Words.{wordsOf}
 use Rattle.parts.proofs.Laws.{bytes-drop}
 use Rattle.chip.proofs.EventFits.{EventFits}
 use Rattle.numbers.specs.Numbers.{otherAddress, otherPort, otherControl, badInformation, noFrame, notBusy, linesDisabled}
@@ -44,16 +42,16 @@ pub data Commanded (a : Adapter) (port control : ℕ) : Adapter → Type 0 where
   resets : isReset control ≡ true → Commanded a port control (reset a port)
   tests : isTest control ≡ true → Commanded a port control (looped a port)
 
--- what a request answers, and the registers that it leaves
-abbrev pub answeredBy : Adapter → List ℕ → Answered
-answeredBy a body = answered (a .registers) (a .id) (requestOf (informationOf body))
+-- the registers that a request leaves
+abbrev pub leftBy : Adapter → List ℕ → List ℕ
+leftBy a body = perform.performed (a .registers) (requestOf (informationOf body))
 
 -- the registers anew, by a request, a completion, a pin sample or an upset
 pub data Moved (a : Adapter) : Event → Adapter → Type 0 where
-  requests : (port : ℕ) (body : List ℕ) → Moved a (frame port body) (withRegisters (counted a) (answeredBy a body .registers))
+  requests : (port : ℕ) (body : List ℕ) → Moved a (frame port body) (withRegisters (counted a) (leftBy a body))
   completes : (received : List ℕ) → isBusy (a .registers) Spi ≡ true
-      → Moved a (completion (spi received)) (withRegisters a (completed (a .registers) (wordsOf 4 received)))
-  samples : (levels kind : ℕ) → isEnabled (a .registers) Gpio ≡ true → Moved a (sample levels kind) (withRegisters a (sampled (a .registers) levels kind .registers))
+      → Moved a (completion (spi received)) (withRegisters a (completed (a .registers) received))
+  samples : (levels kind : ℕ) → isEnabled (a .registers) Gpio ≡ true → Moved a (sample levels kind) (withRegisters a (sampled (a .registers) levels kind))
   counts : Moved a upset (withRegisters a (store (a .registers) Seu ((read (a .registers) Seu + 1) % 2 ^ 32)))
 
 -- none of these moves the send number, the active port or the ID
@@ -108,7 +106,7 @@ module _ (a : Adapter) (port : ℕ) (body : List ℕ) where
 
   of-reply : (r : Reply) → ReplyBytes r
       → Shape a (frame port body)
-      (finished (withRegisters (counted a) (answeredBy a body .registers)) (requestOf (informationOf body) .trn) (requestOf (informationOf body) .ch) r)
+      (finished (withRegisters (counted a) (leftBy a body)) (requestOf (informationOf body) .trn) (requestOf (informationOf body) .ch) r)
   of-reply (Sent err len d) t =
       replied _ _ _ err len d (requests port body)
       (λ f. record { trn = bytes-drop 2 body (f .bytes) 0; ch = bytes-drop 2 body (f .bytes) 1; err = t .0; len = t .1 })
@@ -116,7 +114,7 @@ module _ (a : Adapter) (port : ℕ) (body : List ℕ) where
 
   of-request : Shape a (frame port body) (requested (counted a) (drop 2 body))
   unfolding requested
-  of-request = of-reply (answeredBy a body .reply) (answered-bytes (a .registers) (a .id) (requestOf (drop 2 body)))
+  of-request = of-reply (perform.replied (a .registers) (a .id) (requestOf (drop 2 body))) (replied-bytes (a .registers) (a .id) (requestOf (drop 2 body)))
 
   of-order : Shape a (frame port body) (numbered a port (controlOf body) (drop 2 body))
   unfolding numbered
@@ -155,7 +153,7 @@ shapes a (completion (spi received)) =
     (λ _. record { trn = mod-lt (read (a .registers) SpiGo) (lit< tt); ch = lit< tt; err = lit< tt; len = lit< tt }))
 shapes a (sample levels kind) =
     cond-cases (Shape a (sample levels kind)) (not (isEnabled (a .registers) Gpio)) (λ _. dropped linesDisabled (lit≤ tt) (lit≤ tt))
-    (λ h. cond-cases (Shape a (sample levels kind)) (sampled (a .registers) levels kind .interrupt)
+    (λ h. cond-cases (Shape a (sample levels kind)) (interrupts (a .registers) levels kind)
     (λ _. replied _ _ _ _ _ _ (samples levels kind (not-false (isEnabled (a .registers) Gpio) h))
     (λ _. record { trn = lit< tt; ch = lit< tt; err = lit< tt; len = lit< tt }))
     (λ _. quiet _ (samples levels kind (not-false (isEnabled (a .registers) Gpio) h))))

@@ -3,13 +3,12 @@ use Prim.Native.Nat.{ℕ, _+_, _%_, _^_}
 use mathlib.Core.Bool.{Bool, false, not, cond}
 use mathlib.Core.List.{List}
 use Rattle.numbers.specs.Numbers.{notBusy, linesDisabled, noFrame}
-use Rattle.parts.specs.Words.{wordsOf}
 use Rattle.commands.specs.declared.channel.Channel.the-variants.{Spi, Gpio}
 use Rattle.commands.specs.declared.command.Register.the-variants.{SpiData0, SpiGo, Ints, Seu}
 use Rattle.commands.specs.Spi.{go}
 use Rattle.registers.specs.Registers.{read, store}
 use Rattle.registers.specs.Transfer.{completed}
-use Rattle.registers.specs.Pins.{sampled}
+use Rattle.registers.specs.Pins.{interrupts, sampled}
 use Rattle.channels.specs.Rows.{isEnabled, isBusy}
 use Rattle.commands.specs.Request.{interruptTransaction}
 use Rattle.chip.specs.Event.{Completion, spi, Event, frame, completion, sample, upset}
@@ -25,7 +24,7 @@ use Rattle.chip.specs.declared.Adapter.{Adapter}
 unfoldable pub onSpi : Adapter → List ℕ → Reaction
 onSpi a received =
     cond (not (isBusy (a .registers) Spi)) (gives a notBusy)
-    (let after = completed (a .registers) (wordsOf 4 received) in
+    (let after = completed (a .registers) received in
     replies (withRegisters a after) (read (a .registers) SpiGo % 0x100) spiChannel 0 (go .given) (read after SpiData0))
 
 abbrev pub onCompletion : Adapter → Completion → Reaction
@@ -35,10 +34,10 @@ onCompletion a (spi received) = onSpi a received
 unfoldable pub onSample : Adapter → ℕ → ℕ → Reaction
 onSample a levels kind =
     cond (not (isEnabled (a .registers) Gpio)) (gives a linesDisabled)
-    (let x = sampled (a .registers) levels kind in
-    cond (x .interrupt)
-    (replies (withRegisters a (x .registers)) interruptTransaction gpioChannel 0 interruptLength (read (x .registers) Ints))
-    (gives (withRegisters a (x .registers)) noFrame))
+    (let after = sampled (a .registers) levels kind in
+    cond (interrupts (a .registers) levels kind)
+    (replies (withRegisters a after) interruptTransaction gpioChannel 0 interruptLength (read after Ints))
+    (gives (withRegisters a after) noFrame))
 
 -- An upset adds 1 to a 32-bit counter that wraps to 0, and gives 17.
 unfoldable pub onUpset : Adapter → Reaction

@@ -5,7 +5,7 @@ use Rattle.commands.specs.declared.request.Reply.{Reply}
 use Rattle.commands.specs.declared.request.Reply.the-variants.{Sent, Later}
 use Rattle.numbers.specs.Numbers.{noFrame}
 use Rattle.packets.specs.Packets.{requestOf, replyBody}
-use Rattle.channels.specs.Perform.{answered}
+use Rattle.channels.specs.Perform.{replied, performed}
 use Rattle.link.specs.Link.{replyControl, sendUp}
 use Rattle.chip.specs.State.{withLink, withRegisters}
 use Rattle.chip.specs.Answer.{Reaction, sends, gives}
@@ -24,5 +24,4 @@ finished a trn ch Later = gives a noFrame
 unfoldable pub requested : Adapter → List ℕ → Reaction
 requested a info =
     let q = requestOf info in
-    let x = answered (a .registers) (a .id) q in
-    finished (withRegisters a (x .registers)) (q .trn) (q .ch) (x .reply)
+    finished (withRegisters a (performed (a .registers) q)) (q .trn) (q .ch) (replied (a .registers) (a .id) q)

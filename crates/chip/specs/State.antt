@@ -5,7 +5,7 @@ use mathlib.Core.List.{List}
 use lib.Dec.{leb}
 use lib.ListN.{replicate}
 use Rattle.numbers.specs.Numbers.{idMost}
-use Rattle.registers.specs.Registers.{count, within}
+use Rattle.registers.specs.Registers.{size, within}
 use Rattle.channels.specs.Rows.{allHeld}
 use Rattle.link.specs.Link.{freshLink}
 use Rattle.link.specs.declared.Link.{Link}
@@ -13,7 +13,7 @@ use Rattle.chip.specs.declared.Adapter.{Adapter}
 
 -- Power-on with a port active: all registers, the SEU counter and the numbers 0, no loopback; the chip ID as given.
 unfoldable pub poweredOn : ℕ → ℕ → Adapter
-poweredOn port id = record { link = freshLink port; registers = replicate count 0; id = id }
+poweredOn port id = record { link = freshLink port; registers = replicate size 0; id = id }
 
 -- Power-on: port 0 active.
 abbrev pub powerOn : ℕ → Adapter
@@ -30,7 +30,7 @@ inRange a =
     -- ID over 24 bits
     && leb (a .id) idMost
     -- a set bit that reads 0
-    && within count (a .registers)
+    && within (a .registers)
     -- a disabled SPI or GPIO register not 0, a GO open with SPI disabled
     && allHeld (a .registers)
 

@@ -48,15 +48,13 @@ pub fn on_spi(a: Adapter, received: &[u8], output: &mut [u8]) -> Response
     requires { ⌜ outputLeast ≤ length (now output) ⌝ }
     ensures { λ r. ⌜ said r (now (output .exit)) ≡ says (reaction a (Event.completion (Completion.spi (now (received .entry))))) (now (output .entry)) ⌝ }
 {
-    let registers = a.registers;
-    if channels::is_busy(registers, Channel::Spi) {
-        let mut words = [0u32; 4];
-        parts::load_words(received, &mut words);
-        let after = spi::complete(registers, words);
-        let go = (registers::read(registers, Register::SpiGo) % 0x100) as u8;
-        let value = registers::read(after, Register::SpiData0);
+    let mut registers = a.registers;
+    if channels::is_busy(&registers, Channel::Spi) {
+        let go = (registers::read(&registers, Register::SpiGo) % 0x100) as u8;
+        spi::complete(&mut registers, received);
+        let value = registers::read(&registers, Register::SpiData0);
         let b = Adapter {
-            registers: after,
+            registers: registers,
             ..a
         };
         request::reply(b, go, SPI_CHANNEL, 0, GO.given, value, output)
@@ -70,16 +68,15 @@ pub fn on_sample(a: Adapter, levels: u32, kind: u8, output: &mut [u8]) -> Respon
     requires { ⌜ outputLeast ≤ length (now output) ⌝ }
     ensures { λ r. ⌜ said r (now (output .exit)) ≡ says (reaction a (Event.sample levels kind)) (now (output .entry)) ⌝ }
 {
-    let registers = a.registers;
-    if channels::is_enabled(registers, Channel::Gpio) {
-        let x = gpio::sample(registers, levels, kind);
-        let after = x.registers;
+    let mut registers = a.registers;
+    if channels::is_enabled(&registers, Channel::Gpio) {
+        let interrupt = gpio::sample(&mut registers, levels, kind);
         let b = Adapter {
-            registers: after,
+            registers: registers,
             ..a
         };
-        if x.interrupt {
-            let ints = registers::read(after, Register::Ints);
+        if interrupt {
+            let ints = registers::read(&registers, Register::Ints);
             request::reply(
                 b,
                 INTERRUPT,
@@ -101,11 +98,11 @@ pub fn on_sample(a: Adapter, levels: u32, kind: u8, output: &mut [u8]) -> Respon
 pub fn on_upset(a: Adapter) -> Response
     ensures { λ r. ⌜ r ≡ response (reaction a Event.upset) ⌝ }
 {
-    let registers = a.registers;
-    let count = std::num::wrapping_add_u32(registers::read(registers, Register::Seu), 1);
-    let after = registers::store(registers, Register::Seu, count);
+    let mut registers = a.registers;
+    let count = std::num::wrapping_add_u32(registers::read(&registers, Register::Seu), 1);
+    registers::store(&mut registers, Register::Seu, count);
     let b = Adapter {
-        registers: after,
+        registers: registers,
         ..a
     };
     answer::give(b, numbers::NO_FRAME)

@@ -6,11 +6,11 @@ mod request;
 pub mod state;
 
 use link::Link;
-use registers::COUNT;
+use registers::SIZE;
 
 pub struct Adapter {
     pub link: Link,
-    pub registers: [u32; COUNT],
+    pub registers: [u8; SIZE],
     pub id: u32,
 }
 

@@ -51,13 +51,11 @@ pub(crate) fn request(a: Adapter, info: &[u8], output: &mut [u8]) -> Response
     ensures { λ r. ⌜ said r (now (output .exit)) ≡ says (requested a (now (info .entry))) (now (output .entry)) ⌝ }
 {
     let q = packets::request_of(info);
-    let registers = a.registers;
-    let x = channels::answer(registers, a.id, q);
-    let after = x.registers;
-    let told = x.reply;
+    let mut registers = a.registers;
+    let told = channels::answer(&mut registers, a.id, q);
     finish(
         Adapter {
-            registers: after,
+            registers: registers,
             ..a
         },
         q.trn,

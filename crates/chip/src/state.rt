@@ -3,7 +3,7 @@ ghost use mathlib.Core.Path.{_≡_};
 ghost use Rattle.chip.specs.State.{poweredOn, powerOn, inRange};
 ghost use Rattle.chip.specs.Frame.{reset};
 use crate::Adapter;
-use registers::COUNT;
+use registers::SIZE;
 
 const LAST_NUMBER: u8 = 7;
 
@@ -16,7 +16,7 @@ fn powered_on(port: u8, id: u32) -> Adapter
     let link = link::fresh(port);
     Adapter {
         link: link,
-        registers: [0; COUNT],
+        registers: [0; SIZE],
         id: id,
     }
 }
@@ -40,5 +40,5 @@ pub fn in_range(a: Adapter) -> bool
     let registers = a.registers;
     let numbers = (a.link.send.0 <= LAST_NUMBER) & (a.link.receive.0 <= LAST_NUMBER);
     let values = numbers & (a.link.port <= LAST_PORT) & (a.id <= numbers::ID_MOST);
-    values & registers::are_within(registers) & channels::are_held(registers)
+    values & registers::are_within(&registers) & channels::are_held(&registers)
 }

@@ -18,8 +18,8 @@ use Rattle.journal.proofs.restore.Kinds as restore-kinds
 use Rattle.journal.proofs.restore.Reads as restore
 use Rattle.journal.proofs.lower.Kinds as lower-kinds
 use Rattle.journal.proofs.lower.Reads as lower
-use Rattle.journal.proofs.image.words_of.Kinds as words-of-kinds
-use Rattle.journal.proofs.image.words_of.Reads as words-of
+use Rattle.journal.proofs.image.write.Kinds as write-kinds
+use Rattle.journal.proofs.image.write.Reads as write
 use Rattle.journal.proofs.image.state_of.Kinds as state-of-kinds
 use Rattle.journal.proofs.image.state_of.Reads as state-of
 use Rattle.journal.proofs.image.is_spelled.Kinds as is-spelled-kinds
@@ -49,11 +49,11 @@ restore-one κs a x y s t p q = p ∙ sym q
 pub lower-one : One 1 lower-kinds.ps lower-kinds.r lower.Post (λ κs x s. now (s .0))
 lower-one κs a x y s t p q = p ∙ sym q
 
-pub words-of-one : One 0 words-of-kinds.ps words-of-kinds.r words-of.Post (λ κs x s. x)
-words-of-one κs a x y s t p q = p ∙ sym q
+pub write-one : One 1 write-kinds.ps write-kinds.r write.Post (λ κs x s. now (s .1 .0))
+write-one κs a x y s t p q = p .0 ∙ sym (q .0)
 
-pub state-of-one : One 0 state-of-kinds.ps state-of-kinds.r state-of.Post (λ κs x s. x)
+pub state-of-one : One 1 state-of-kinds.ps state-of-kinds.r state-of.Post (λ κs x s. x)
 state-of-one κs a x y s t p q = p ∙ sym q
 
-pub is-spelled-one : One 0 is-spelled-kinds.ps is-spelled-kinds.r is-spelled.Post (λ κs x s. x)
+pub is-spelled-one : One 1 is-spelled-kinds.ps is-spelled-kinds.r is-spelled.Post (λ κs x s. x)
 is-spelled-one κs a x y s t p q = p ∙ sym q

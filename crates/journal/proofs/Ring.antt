@@ -9,13 +9,12 @@ use native.Mathlib.Decide.{decLt}
 use native.Mathlib.Nat.{eq-or-lt-of-le, mod-lt, mod-eq-of-lt, mod-eq-sub-mod, mod-add-mod}
 use native.Mathlib.Omega.{arith}
 use lib.ListN.{length, take, drop, getD, set, length-set}
-use lib.Seq.{getD-set-same, getD-set-other}
+use lib.Seq.{take-take, getD-set-same, getD-set-other}
 use lib.Dec.{eqb, leb, ltb, lit<}
 use borrow.Author.Tests.{eq-eqb, ne-eqb, eqb-true, le-leb, leb-true, lt-ltb, ltb-true, not-true}
 use Rattle.bits.proofs.Tests.{both, cond-cases}
 use Rattle.parts.specs.Parts.{part, put}
-use Rattle.parts.specs.Words.{wordsOf}
-use Rattle.parts.proofs.Laws.{length-put, part-put-front, part-put-before, part-put-after, getD-put-before, part-set}
+use Rattle.parts.proofs.Laws.{length-put, length-part, part-put-front, part-put-before, part-put-after, getD-put-before, part-set}
 use Rattle.journal.specs.declared.Format.{Format}
 use Rattle.journal.specs.Layout.{header, formatOf, slotsOf, wrongLength, firstOf, keptOf, wellFormed, placeOf, past, emptied, firstAfter, keptUp, pushed, lowered}
 use Rattle.journal.proofs.Formats.{its-size, some-slots, same-length}
@@ -343,7 +342,7 @@ module _ (j : List ℕ) (f : Format) (h : wellFormed j ≡ true) (e : f ≡ form
       let p : at ≡ placeOf (slotsOf j) (firstOf j) k = rw its-slots at q in
       omega (arith, its-size j (size-in j h))
 
-  pub room-in : (at k n : ℕ) → at ≡ placeOf (f .slots) (firstOf j) k → 4 * n ≤ 256 → at + 4 * n ≤ length j
+  pub room-in : (at k n : ℕ) → at ≡ placeOf (f .slots) (firstOf j) k → n ≤ 256 → at + n ≤ length j
   room-in at k n q l = let m = slot-in at k q in omega arith
 
 -- what the code writes of a record more
@@ -353,12 +352,34 @@ pub pushed-by : (r j k : List ℕ) (f : Format) (at first kept : ℕ) → f ≡ 
 unfolding pushed
 pushed-by r j k f at first kept q e g h p = rw (p, e, g, h, q) refl
 
-pub newest-read : (j ws : List ℕ) (at : ℕ) (f : Format) → f ≡ formatOf (length j) → at ≡ placeOf (f .slots) (firstOf j) (keptOf j - 1)
-    → ws ≡ wordsOf 18 (take (at + 256 - at) (drop at j)) → ws ≡ wordsOf 18 (past j 0)
-unfolding past part
-newest-read j ws at f q e h =
-    let k : keptOf j - 1 - 0 ≡ keptOf j - 1 = omega arith in
-    let n : at + 256 - at ≡ 256 = omega arith in
-    h ∙ rw (n, k, e, q) refl
+-- where the newest stands
+pub newest-at : (j : List ℕ) (at : ℕ) (f : Format) → f ≡ formatOf (length j) → at ≡ placeOf (f .slots) (firstOf j) (keptOf j - 1)
+    → at ≡ placeOf (slotsOf j) (firstOf j) (keptOf j - 1)
+newest-at j at f q e = rw (e, q) refl
+
+module _ (j : List ℕ) (at : ℕ) (h : wellFormed j ≡ true) (e : at ≡ placeOf (slotsOf j) (firstOf j) (keptOf j - 1)) where
+  pub newest-in : (n : ℕ) → n ≤ 256 → at + n ≤ length j
+  newest-in n l = let m = slot-in j (formatOf (length j)) h refl at (keptOf j - 1) e in omega arith
+
+  pub newest-slot : take (at + 256 - at) (drop at j) ≡ past j 0
+  unfolding past part
+  newest-slot =
+      let k : keptOf j - 1 - 0 ≡ keptOf j - 1 = omega arith in
+      let m : at + 256 - at ≡ 256 = omega arith in
+      rw (m, k, ← e) refl
+
+  -- a slice of its slot
+  pub newest-front : (n : ℕ) → n ≤ 256 → take (at + n - at) (drop at j) ≡ take n (past j 0)
+  unfolding past part
+  newest-front n l =
+      let k : keptOf j - 1 - 0 ≡ keptOf j - 1 = omega arith in
+      let m : at + n - at ≡ n = omega arith in
+      rw (m, k, ← e) (sym (take-take n 256 (drop at j) l))
+
+-- the newest slot has all its bytes
+pub length-past : (j : List ℕ) → wellFormed j ≡ true → length (past j 0) ≡ 256
+unfolding past
+length-past j h =
+    length-part _ 256 j (slot-in j (formatOf (length j)) h refl (placeOf (slotsOf j) (firstOf j) (keptOf j - 1 - 0)) (keptOf j - 1 - 0) refl)
 
 pub ruleset journal-needs = (in-journal, some-in, first-in, kept-in, slot-in, room-in, lit<)

@@ -5,11 +5,11 @@ pub mod image;
 use chip::Adapter;
 ghost use mathlib.Core.Path.{_≡_};
 ghost use mathlib.Core.Bool.{true, false};
-ghost use Prim.Native.Nat.{_*_, _<_, _≤_};
-ghost use lib.ListN.{length};
+ghost use Prim.Native.Nat.{_-_, _<_, _≤_};
+ghost use lib.ListN.{length, take};
 ghost use Rattle.parts.specs.Parts.{put};
-ghost use Rattle.parts.specs.Words.{bytesOf, wordsOf};
-ghost use Rattle.journal.specs.Layout.{formatOf, wrongLength, keptOf, wellFormed, placeOf, firstAfter, keptUp, past, emptied, pushed, lowered};
+ghost use Rattle.journal.specs.Image.{imageBytes};
+ghost use Rattle.journal.specs.Layout.{formatOf, slotsOf, wrongLength, firstOf, keptOf, wellFormed, placeOf, firstAfter, keptUp, past, emptied, pushed, lowered};
 ghost use Rattle.journal.specs.Record.{restored, sound};
 
 // The one format known: its length, slots and version.
@@ -121,11 +121,11 @@ fn kept_after(slots: u8, kept: u8) -> u8
     if kept == slots { slots } else { kept + 1 }
 }
 
-// Keeps a record, given as words.
-pub fn push(j: &mut [u8], words: &[u32])
+// Keeps a record.
+pub fn push(j: &mut [u8], r: &[u8])
     requires { ⌜ wellFormed (now j) ≡ true ⌝ }
-    requires { ⌜ 4 * length (now words) ≤ 256 ⌝ }
-    ensures { λ _. ⌜ now (j .exit) ≡ pushed (bytesOf (now (words .entry))) (now (j .entry)) ⌝ }
+    requires { ⌜ length (now r) ≤ 256 ⌝ }
+    ensures { λ _. ⌜ now (j .exit) ≡ pushed (now (r .entry)) (now (j .entry)) ⌝ }
 {
     let f = format_of(j.len());
     let first = j[FIRST];
@@ -133,38 +133,21 @@ pub fn push(j: &mut [u8], words: &[u32])
     let at = place(f.slots, first, kept);
     let next = first_after(f.slots, first, kept);
     let k = kept_after(f.slots, kept);
-    parts::store_words(j, at, words);
+    parts::store(j, at, r);
     j[FIRST] = next;
     j[KEPT] = k;
 }
 
-// The words of the newest record.
-fn newest(j: &[u8]) -> [u32; 18]
+// Where the newest record stands.
+fn newest(j: &[u8]) -> usize
     requires { ⌜ wellFormed (now j) ≡ true ⌝ }
     requires { ⌜ 0 < keptOf (now j) ⌝ }
-    ensures { λ r. ⌜ r ≡ wordsOf 18 (past (now (j .entry)) 0) ⌝ }
+    ensures { λ r. ⌜ r ≡ placeOf (slotsOf (now (j .entry))) (firstOf (now (j .entry))) (keptOf (now (j .entry)) - 1) ⌝ }
 {
     let f = format_of(j.len());
     let first = j[FIRST];
     let kept = j[KEPT];
-    let at = place(f.slots, first, kept - 1);
-    let end = at + SLOT_BYTES;
-    let mut words = [0u32; 18];
-    parts::load_words(&j[at..end], &mut words);
-    words
-}
-
-// Whether the newest record is sound for the state a.
-pub fn is_sound(a: Adapter, j: &[u8]) -> bool
-    requires { ⌜ wellFormed (now j) ≡ true ⌝ }
-    requires { ⌜ 0 < keptOf (now j) ⌝ }
-    ensures { λ r. ⌜ r ≡ sound a (past (now (j .entry)) 0) ⌝ }
-{
-    let words = newest(j);
-    let b = image::state_of(words, a.id);
-    let spelled = image::is_spelled(words);
-    let ranged = chip::state::in_range(b);
-    spelled & ranged
+    place(f.slots, first, kept - 1)
 }
 
 // The state that the newest record makes of the state a.
@@ -173,18 +156,37 @@ pub fn restore(a: Adapter, j: &[u8]) -> Adapter
     requires { ⌜ 0 < keptOf (now j) ⌝ }
     ensures { λ r. ⌜ r ≡ restored a (past (now (j .entry)) 0) ⌝ }
 {
-    image::state_of(newest(j), a.id)
+    let at = newest(j);
+    let end = at + SLOT_BYTES;
+    image::state_of(&j[at..end], a.id)
+}
+
+// Whether the newest record is sound for the state a.
+pub fn is_sound(a: Adapter, j: &[u8]) -> bool
+    requires { ⌜ wellFormed (now j) ≡ true ⌝ }
+    requires { ⌜ 0 < keptOf (now j) ⌝ }
+    ensures { λ r. ⌜ r ≡ sound a (past (now (j .entry)) 0) ⌝ }
+{
+    let at = newest(j);
+    let end = at + SLOT_BYTES;
+    let spelled = image::is_spelled(&j[at..end]);
+    let ranged = chip::state::in_range(restore(a, j));
+    spelled & ranged
 }
 
 // Copies the image in the newest record over the front of s. This and `adapter::record_event` rest on a record being the image of the state before.
 pub fn copy_image(j: &[u8], s: &mut [u8])
     requires { ⌜ wellFormed (now j) ≡ true ⌝ }
     requires { ⌜ 0 < keptOf (now j) ⌝ }
-    requires { ⌜ 72 ≤ length (now s) ⌝ }
-    ensures { λ _. ⌜ now (s .exit) ≡ put 0 (bytesOf (wordsOf 18 (past (now (j .entry)) 0))) (now (s .entry)) ⌝ }
+    requires { ⌜ imageBytes ≤ length (now s) ⌝ }
+    ensures { λ _. ⌜ now (s .exit) ≡ put 0 (take imageBytes (past (now (j .entry)) 0)) (now (s .entry)) ⌝ }
 {
-    let words = newest(j);
-    parts::store_words(s, 0, &words);
+    let at = newest(j);
+    let end = at + image::BYTES;
+    // By way of bytes of its own, which are copied many at a time: the compiler cannot tell two lent slices apart.
+    let mut bytes = [0u8; image::BYTES];
+    parts::over(&mut bytes, &j[at..end]);
+    parts::store(s, 0, &bytes);
 }
 
 // Gives the newest record up.

@@ -8,7 +8,7 @@ use lib.ListN.{length, take, drop, getD, length-drop}
 use lib.Seq.{take-all}
 use lib.Dec.{eqb, leb}
 use borrow.Author.Tests.{le-leb, lt-leb, leb-true, eq-eqb, ne-eqb, eqb-true}
-use Rattle.parts.specs.Words.{word}
+use Rattle.parts.specs.Digits.{word}
 use Rattle.listing.specs.declared.Form.{Form}
 use Rattle.listing.specs.declared.Form.the-variants.{Frame, Completion, Sample, Upset, Back, Unreadable}
 use Rattle.listing.specs.Characters.{between, arePairs, pairBytes, frontPair}

@@ -6,7 +6,7 @@ use native.Mathlib.Omega.{arith}
 use lib.ListN.{getD}
 use lib.Pow.{shr-shr}
 use Rattle.commands.specs.declared.request.Request.{Request}
-use Rattle.parts.specs.Words.{word}
+use Rattle.parts.specs.Digits.{word}
 use Rattle.packets.specs.Packets.{requestOf, byteOf, replyBody}
 
 pub request-with : (info : List ℕ) (d : ℕ) → d ≡ word (getD info 6 0) (getD info 7 0) (getD info 4 0) (getD info 5 0)

@@ -3,7 +3,7 @@ use Prim.Native.Nat.{ℕ, _*_, _/_, _%_, _^_}
 use mathlib.Core.List.{List, [], _∷_}
 use lib.ListN.{getD}
 use Rattle.commands.specs.declared.request.Request.{Request}
-use Rattle.parts.specs.Words.{word}
+use Rattle.parts.specs.Digits.{word}
 
 -- the chip's address
 abbrev pub address : ℕ

@@ -10,7 +10,7 @@ use Rattle.commands.specs.declared.command.Does.{Does}
 use Rattle.commands.specs.declared.command.Does.the-variants.{Write, Switch, Read, ReadId, Clear, Start}
 use Rattle.commands.specs.declared.request.Request.{Request}
 use Rattle.channels.specs.Errors.{errorOf, firstError, decoded}
-use Rattle.channels.specs.Perform.{told, replyTo, left, leftBy, answered}
+use Rattle.channels.specs.Perform.{told, replyTo, left, leftBy, replied, performed}
 use Rattle.channels.specs.declared.errors.Decoded.{Decoded}
 use Rattle.channels.proofs.Laws.{decoded-cases}
 use Rattle.numbers.specs.Numbers.{noFrame}
@@ -56,7 +56,7 @@ module _ (a : Adapter) (q : Request) where
       (λ given does _. record { error = λ h. absurd (h refl); none = λ _. granted given does })
 
 requested-ruled : (a : Adapter) (info : List ℕ) → Ruled a (requestOf info) (firstError (a .registers) (requestOf info)) (requested a info)
-unfolding requested answered
+unfolding requested replied performed
 requested-ruled a info = ruled a (requestOf info)
 
 -- ---- the frame

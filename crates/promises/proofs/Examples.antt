@@ -10,11 +10,12 @@ use Rattle.bits.specs.Bits.{word}
 use Rattle.commands.specs.Channels.{channelOf}
 use Rattle.commands.specs.Command.{codeOf}
 use Rattle.registers.specs.Registers.{read, store, zeroed}
-use Rattle.registers.specs.Pins.{sampled, datainAfter, firingLines}
-use Rattle.channels.specs.Rows.{held}
+use Rattle.registers.specs.Pins.{interrupts, sampled, datainAfter, firingLines}
+use Rattle.channels.specs.Rows.{held, heldAll}
 use Rattle.channels.specs.Errors.{decoded}
-use Rattle.channels.specs.Perform.{answered}
-use Rattle.parts.specs.Parts.{put}
+use Rattle.channels.specs.Perform.{replied, performed}
+use Rattle.parts.specs.Parts.{part, put}
+use Rattle.parts.specs.Digits.{number, digits}
 use Rattle.wire.specs.Bits.{low, wire}
 use Rattle.wire.specs.Frame.{stuff}
 use Rattle.chip.specs.Event.{spi, frame, completion, sample, upset}
@@ -71,14 +72,14 @@ typed (empty ∷ ks) h = (tt, typed ks h)
 
 listing-text : textLines 0x00000A (atStart 64) listing ≡ listingOutput
 unfolding
-    reaction onFrame addressed commanded carried numbered requested answered decoded replies poweredOn isResetFrame put channelOf codeOf
-    read store zeroed held
+    reaction onFrame addressed commanded carried numbered requested replied performed decoded replies poweredOn isResetFrame put channelOf codeOf
+    read store zeroed held heldAll part number digits
 listing-text = refl
 
 everything-text : textLines 0x00000A (atStart 64) everything ≡ everythingOutput
 unfolding
-    reaction onFrame addressed commanded carried numbered requested answered decoded replies onSample onUpset poweredOn isResetFrame put
-    channelOf codeOf read store zeroed held sampled datainAfter firingLines word
+    reaction onFrame addressed commanded carried numbered requested replied performed decoded replies onSample onUpset poweredOn isResetFrame put
+    channelOf codeOf read store zeroed held heldAll interrupts sampled datainAfter firingLines word part number digits
 everything-text = refl
 
 -- the file's lines say the calls
@@ -110,8 +111,8 @@ eight-text =
 -- THE TABLE HOLDS.
 pub table : Table
 unfolding
-    reaction onFrame addressed commanded carried numbered requested answered decoded replies poweredOn isResetFrame put channelOf codeOf
-    read store zeroed held stuff wire low literal below
+    reaction onFrame addressed commanded carried numbered requested replied performed decoded replies poweredOn isResetFrame put channelOf codeOf
+    read store zeroed held heldAll part number digits stuff wire low literal below
 table =
     record {
       eight-lines = give listing listingOutput refl listing-text;

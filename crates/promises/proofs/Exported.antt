@@ -32,7 +32,7 @@ use Rattle.adapter.specs.Calls as Calls
 use Rattle.adapter.specs.Calls.{called, done, judgedBack, keptIn}
 use Rattle.adapter.proofs.Laws.{called-refused, called-done}
 use Rattle.adapter.proofs.Cases.{passing, body-short}
-use Rattle.sca.specs.Adapter.{stateBytes, stateIn, packAnswer, packKept, created, emptied, kept, happened, steppedBack}
+use Rattle.sca.specs.Adapter.{stateSize, stateBytes, stateIn, packAnswer, packKept, created, emptied, kept, happened, steppedBack}
 use Rattle.sca.proofs.States.{state-back, state-bytes}
 use Rattle.promises.specs.Runs.{Call, event, back, empty, Given, AllOfTheirTypes, Run, left, bare, refuses, Demand3}
 use Rattle.promises.specs.Ours.{Handed, shown, givesOurs, leavesOurs, ours}
@@ -208,10 +208,10 @@ front : Run → ℕ → Run
 front r n =
     record { id = r .id; id-fits = r .id-fits; bytes = r .bytes; size = r .size; calls = take n (r .calls); typed = front-typed n (r .calls) (r .typed) }
 
-module _ (new : List ℕ) (size : length new ≡ 76) (r : Run) where
+module _ (new : List ℕ) (size : length new ≡ stateSize) (r : Run) where
   start-same : exported new .start (r .id) (r .bytes) ≡ spell (ours .start (r .id) (r .bytes))
   unfolding created emptied
-  start-same = rw (eq-eqb (length new) 76 size, created-new (r .id) (r .id-fits)) refl
+  start-same = rw (eq-eqb (length new) stateSize size, created-new (r .id) (r .id-fits)) refl
 
   left-same : left (exported new) r ≡ spell (left ours r)
   unfolding front
@@ -230,8 +230,8 @@ module _ (new : List ℕ) (size : length new ≡ 76) (r : Run) where
   unmoved : (k : Call) → leavesOurs (left ours r) k ≡ left ours r → leavesExported (left (exported new) r) k ≡ left (exported new) r
   unmoved k e = leaves-left k ∙ ap spell e ∙ sym left-same
 
--- DEMAND 3 HOLDS of the exports, whatever 76 bytes were handed to `sca_create`.
-pub demand3-exported : (new : List ℕ) → length new ≡ 76 → Demand3 (exported new)
+-- DEMAND 3 HOLDS of the exports, whatever bytes of a state's length were handed to `sca_create`.
+pub demand3-exported : (new : List ℕ) → length new ≡ stateSize → Demand3 (exported new)
 demand3-exported new size =
     record {
       undamaged = λ r k. rw (gives-left new size r k) (demand3 .undamaged r k);

@@ -22,7 +22,7 @@ use Rattle.receiver.specs.Receive.{readFrom, receivedAs, received}
 use Rattle.journal.specs.Layout.{wrongLength}
 use Rattle.adapter.specs.Calls as Calls
 use Rattle.adapter.specs.Calls.{Outcome, Stepped}
-use Rattle.sca.specs.Adapter.{stateBytes, stateIn, isState, packAnswer, left, happened, backed, steppedBack, created, emptied}
+use Rattle.sca.specs.Adapter.{stateSize, stateBytes, stateIn, isState, packAnswer, left, happened, backed, steppedBack, created, emptied}
 use Rattle.sca.specs.Link.{receiverBytes, receiverOf, transmitResult, transmitOutput, newResult, newReceiver, receiveResult, receiveReceiver, receiveOutput}
 use Rattle.sca.proofs.States.{state-again}
 use Rattle.sca.proofs.Spelling.{spelled-again}
@@ -72,9 +72,9 @@ module _ (s journal : List ℕ) (bytes : AreBytes s) where
 -- sca_create
 pub create-keeps : (s : List ℕ) (id : ℕ) → isRefusal (resultNumber (created s id .result)) ≡ true → created s id .bytes ≡ s
 unfolding created Calls.created
-create-keeps s id h = by (eqb (length s) 76) refl (ltb 0xFFFFFF id) refl
+create-keeps s id h = by (eqb (length s) stateSize) refl (ltb 0xFFFFFF id) refl
   where
-    by : (t : Bool) → eqb (length s) 76 ≡ t → (l : Bool) → ltb 0xFFFFFF id ≡ l → created s id .bytes ≡ s
+    by : (t : Bool) → eqb (length s) stateSize ≡ t → (l : Bool) → ltb 0xFFFFFF id ≡ l → created s id .bytes ≡ s
     by true q true k = rw (q, k) refl
     by true q false k = absurd (false≢true (rw (q, k) at h))
     by false q l k = rw q refl

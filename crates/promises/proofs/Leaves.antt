@@ -23,7 +23,7 @@ use Rattle.chip.specs.Event.{Event, frame, completion, sample, upset}
 use Rattle.chip.proofs.EventFits.{EventFits}
 use Rattle.chip.specs.Chip.{reaction, acceptedReset}
 use Rattle.chip.specs.State.{inRange}
-use Rattle.chip.proofs.Fits.{of-in-range}
+use Rattle.chip.proofs.Fits.{Fits, of-in-range}
 use Rattle.chip.proofs.Laws.{dropped-keeps, accepted-reset, OneFrame, one-frame, sendable}
 use Rattle.chip.proofs.Bodies.{one, none, Every, Framable}
 use Rattle.journal.specs.Layout.{slotsOf, pushed}
@@ -159,10 +159,10 @@ reset-answered a (completion c) h = absurd (true≢false (sym h))
 reset-answered a (sample levels kind) h = absurd (true≢false (sym h))
 reset-answered a upset h = absurd (true≢false (sym h))
 
-kept-number : (a : Adapter) (e : Event) (j : List ℕ) → Well j → acceptedReset e ≡ false
+kept-number : (a : Adapter) (e : Event) (j : List ℕ) → Well j → Fits a → acceptedReset e ≡ false
     → keptIn (recorded a e j) ≡ record { number = number.noFrame; kept = min (slotsOf j) (keptIn j .kept + 1) }
 unfolding keptIn
-kept-number a e j w other = rw (well-of (recorded-well a e j w), well-of w, recorded-kept a e j w, other) refl
+kept-number a e j w f other = rw (well-of (recorded-well a e j w f), well-of w, recorded-kept a e j w f, other) refl
 
 over-ten : (n : ℕ) → 11 ≤ n → isRefusal n ≡ false
 over-ten n h = split (leb 1 n) (λ t. rw (t, lt-leb n 10 h) refl) (λ t. rw t refl)
@@ -209,9 +209,9 @@ module _ (a : Adapter) (j : List ℕ) (e : Event) (output : List ℕ) where
     pub entry : called a j e output .journal ≡ pushed (before a e) j
     pub kept : keptIn (called a j e output .journal) ≡ record { number = number.noFrame; kept = min (slotsOf j) (keptIn j .kept + 1) }
 
-  pub event-11-to-16 : 11 ≤ called a j e output .answer .number → called a j e output .answer .number ≤ 16 → Dropped
+  pub event-11-to-16 : Fits a → 11 ≤ called a j e output .answer .number → called a j e output .answer .number ≤ 16 → Dropped
   unfolding done
-  event-11-to-16 l u =
+  event-11-to-16 f l u =
       let d : Happened = happened (over-ten (called a j e output .answer .number) l) in
       let n : called a j e output .answer .number ≡ reaction a e .number = d .answer in
       let least : 11 ≤ reaction a e .number = omega arith in
@@ -223,7 +223,7 @@ module _ (a : Adapter) (j : List ℕ) (e : Event) (output : List ℕ) where
         state = ap (λ (x : Outcome). x .answer .adapter) (d .call) ∙ dropped-keeps a e least most;
         bytes = event-other (λ z. omega arith);
         entry = ap (λ (x : Outcome). x .journal) (d .call) ∙ rw other refl;
-        kept = ap (λ (x : Outcome). keptIn (x .journal)) (d .call) ∙ kept-number a e j w other;
+        kept = ap (λ (x : Outcome). keptIn (x .journal)) (d .call) ∙ kept-number a e j w f other;
       }
 
   -- 17: OUTPUT UNCHANGED.

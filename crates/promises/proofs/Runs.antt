@@ -146,7 +146,7 @@ module _ (id : ℕ) (small : id ≤ number.idMost) where
 
     more : keptOf after ≡ min (slotsOf j) (keptOf j + 1)
     unfolding after
-    more = recorded-kept (stateAfter id (s .events)) e j (i .well) ∙ rw other refl
+    more = recorded-kept (stateAfter id (s .events)) e j (i .well) (after-fits (s .events) (i .fit)) ∙ rw other refl
 
     kept-records : Past after (e ∷ s .events)
     unfolding after Past
@@ -154,20 +154,20 @@ module _ (id : ℕ) (small : id ≤ number.idMost) where
         let f₀ = after-fits (s .events) (i .fit) in
         let h₀ = after-ranged (s .events) (i .fit) in
         record {
-          restores = newest-restores (stateAfter id (s .events)) e j (i .well) other f₀ h₀ f;
-          is-sound = newest-sound (stateAfter id (s .events)) e j (i .well) other f₀ h₀ f;
+          restores = newest-restores (stateAfter id (s .events)) e j (i .well) f₀ other h₀ f;
+          is-sound = newest-sound (stateAfter id (s .events)) e j (i .well) f₀ other h₀ f;
         }
     kept-records (suc k) l =
         let l′ : suc k < min (slotsOf j) (keptOf j + 1) = subst (λ (n : ℕ). suc k < n) more l in
-        rw (older-stay (stateAfter id (s .events)) e j (i .well) other k l′) (i .records k (omega arith))
+        rw (older-stay (stateAfter id (s .events)) e j (i .well) (after-fits (s .events) (i .fit)) other k l′) (i .records k (omega arith))
 
     kept-inv : Inv (record { events = e ∷ s .events; number = min (s .most) (s .number + 1); most = s .most }) after
     unfolding after AllFit
     kept-inv =
         record {
           fit = (f, i .fit);
-          well = recorded-well (stateAfter id (s .events)) e j (i .well);
-          slots = recorded-slots (stateAfter id (s .events)) e j (i .well) ∙ i .slots;
+          well = recorded-well (stateAfter id (s .events)) e j (i .well) (after-fits (s .events) (i .fit));
+          slots = recorded-slots (stateAfter id (s .events)) e j (i .well) (after-fits (s .events) (i .fit)) ∙ i .slots;
           number = more ∙ ap₂ (λ (m n : ℕ). min m (n + 1)) (i .slots) (i .number);
           enough = omega (arith, i .enough);
           records = kept-records;

@@ -1,28 +1,31 @@
--- Sentences of document 01 that no one definition says by itself, each as a law over every state, or over any 25 registers. Assumes nothing.
-use Prim.Native.Nat.{ℕ, _/_, _%_, _^_, _<_}
-use mathlib.Core.Bool.{Bool, true, false, not, cond, true≢false}
+-- Sentences of document 01 that no one definition says by itself, each as a law over every state, or over all registers, whatever they hold. Assumes nothing.
+use Prim.Native.Nat.{ℕ, _%_, _<_}
+use mathlib.Core.Bool.{true, false, not, true≢false}
+use mathlib.Core.Logic.{inl, inr}
 use mathlib.Core.Path.{_≡_, refl, sym, ap, _∙_}
 use mathlib.Core.List.{List, _∷_}
 use native.Mathlib.Nat.{mod-eq-of-lt}
 use native.Mathlib.Omega.{arith}
-use borrow.Author.Tests.{eq-eqb, ne-eqb, ltb-true}
+use borrow.Author.Tests.{eq-eqb, ne-eqb}
 use lib.Bits.{bitAnd, and-mask}
-use lib.Dec.{eqb, leb, ltb}
+use lib.Dec.{eqb, lit≤}
 use lib.ListN.{length}
 use Rattle.bits.specs.Bits.{bitOf}
-use Rattle.bits.proofs.Tests.{and-right}
 use Rattle.commands.specs.declared.request.Reply.the-variants.{Later}
+use Rattle.commands.specs.declared.request.Request.{Request}
 use Rattle.commands.specs.Channels.{channelOf}
 use Rattle.commands.specs.Command.{codeOf}
 use Rattle.commands.specs.declared.channel.Channel.the-variants.{Controller, Spi}
 use Rattle.commands.specs.declared.command.Register.{Register}
 use Rattle.commands.specs.declared.command.Register.the-variants.{SpiGo, Seu}
-use Rattle.registers.specs.Registers.{count, rowOf, read, store, written}
-use Rattle.registers.proofs.Laws.{read-stored}
+use Rattle.parts.specs.Parts.{part}
+use Rattle.parts.specs.Digits.{number}
+use Rattle.registers.specs.Registers.{size, read, store, written}
+use Rattle.registers.proofs.Laws.{read-same, length-store}
 use Rattle.channels.specs.Rows.{isEnabled, isBusy, settled}
-use Rattle.channels.proofs.Laws.{Own, disabled-holds, settled-held, settled-enabled, settled-zero}
+use Rattle.channels.proofs.Laws.{Own, disabled-holds, settled-held, settled-enabled, settled-zero, own-elsewhere}
 use Rattle.channels.specs.Errors.{decoded}
-use Rattle.channels.specs.Perform.{answered}
+use Rattle.channels.specs.Perform.{replied, performed}
 use Rattle.numbers.specs.Numbers.{notBusy, noFrame}
 use Rattle.chip.specs.declared.Adapter.{Adapter}
 use Rattle.chip.specs.Event.{spi, frame, completion, upset}
@@ -72,16 +75,16 @@ wraps a e = simp e
 -- ---- "GO gives no reply yet (17) and makes SPI busy."
 
 -- a GO, in a request with any TRN that is answered and any data, to an SPI that is enabled and not busy
-pub go-makes-busy : (rs : List ℕ) (id trn d : ℕ) → length rs ≡ count → 0 < trn → trn < 0xFF → isEnabled rs Spi ≡ true → isBusy rs Spi ≡ false
-    → let x = answered rs id (record { trn = trn; ch = 0x01; len = 2; cmd = 0x72; value = d }) in (x .reply ≡ Later) × (isBusy (x .registers) Spi ≡ true)
-unfolding answered decoded channelOf codeOf
+pub go-makes-busy : (rs : List ℕ) (id trn d : ℕ) → length rs ≡ size → 0 < trn → trn < 0xFF → isEnabled rs Spi ≡ true → isBusy rs Spi ≡ false
+    → let go : Request = record { trn = trn; ch = 0x01; len = 2; cmd = 0x72; value = d } in (replied rs id go ≡ Later) × (isBusy (performed rs go) Spi ≡ true)
+unfolding replied performed decoded channelOf codeOf
 go-makes-busy rs id trn d n l u on idle =
     simp (ne-eqb trn 0x00 (λ e. omega arith), ne-eqb trn 0xFF (λ e. omega arith), on, idle) (refl, ap not (ne-eqb _ 0 (λ e. kept e)))
   where
     kept : read (store rs SpiGo trn) SpiGo ≡ 0 → ⊥
     kept e =
         let m : trn % 256 ≡ trn = mod-eq-of-lt (omega arith) in
-        let z : bitAnd trn 255 ≡ 0 = sym (read-stored rs SpiGo SpiGo trn n) ∙ e in
+        let z : bitAnd trn 255 ≡ 0 = sym (read-same rs SpiGo trn n) ∙ e in
         omega (arith, and-mask trn 8)
 
 -- ---- "Disabling, or RESET, while busy drops the GO for good; CONNECT does not."
@@ -92,29 +95,23 @@ idle a received e = simp (eq-eqb _ 0 e)
 
 -- A write of the controller leaves `settled` registers. One that disables SPI leaves no GO (`off` are the registers as it writes them), and no later
 -- one brings it back, though it may enable SPI again: a completion is 15.
-pub disabling-drops : (off : List ℕ) → length off ≡ count → isEnabled off Spi ≡ false → read (settled off) SpiGo ≡ 0
-disabling-drops off n e = disabled-holds (settled off) (settled-held off n) Spi refl (settled-enabled off Spi ∙ e) SpiGo refl
+pub disabling-drops : (off : List ℕ) → length off ≡ size → isEnabled off Spi ≡ false → read (settled off) SpiGo ≡ 0
+unfolding channelOf
+disabling-drops off n e = disabled-holds (settled off) (settled-held off n) 0x01 (inl refl) (settled-enabled off n Spi ∙ e) SpiGo refl
 
-pub dropped-for-good : (a : Adapter) (rs received : List ℕ) (r : Register) (d : ℕ) → length rs ≡ count → Own Controller r → read rs SpiGo ≡ 0
+pub dropped-for-good : (a : Adapter) (rs received : List ℕ) (r : Register) (d : ℕ) → length rs ≡ size → Own Controller r → read rs SpiGo ≡ 0
     → let b = withRegisters a (settled (written rs r d)) in
     (read (b .registers) SpiGo ≡ 0) × (reaction b (completion (spi received)) ≡ gives b notBusy)
 dropped-for-good a rs received r d n o z = (still, idle _ received still)
   where
-    apart : (p : ℕ) → p < 3 → 10 ≡ p → ⊥
-    apart p l e = omega arith
-
     elsewhere : read (written rs r d) SpiGo ≡ 0
-    elsewhere =
-        read-stored rs r SpiGo _ n
-        ∙ ap (λ (t : Bool). cond t (bitAnd (d / 2 ^ (rowOf r .low)) (rowOf r .mask)) (read rs SpiGo))
-        (ne-eqb 10 (rowOf r .place) (apart _ (ltb-true _ 3 (and-right (leb 0 (rowOf r .place)) (ltb (rowOf r .place) 3) o))))
-        ∙ z
+    elsewhere = own-elsewhere Spi Controller rs r SpiGo _ n refl o (inr (lit≤ tt)) ∙ z
 
     still : read (settled (written rs r d)) SpiGo ≡ 0
-    still = settled-zero (written rs r d) SpiGo elsewhere
+    still = settled-zero (written rs r d) (length-store rs r _ n) Spi SpiGo refl elsewhere
 
 pub reset-drops : (a : Adapter) (port : ℕ) (received : List ℕ) → reaction (reset a port) (completion (spi received)) ≡ gives (reset a port) notBusy
-unfolding poweredOn read
+unfolding poweredOn read part number
 reset-drops a port received = idle (reset a port) received refl
 
 -- the registers as they were, an open GO too

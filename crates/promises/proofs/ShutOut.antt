@@ -9,6 +9,8 @@ use lib.ListN.{length, getD, replicate, length-replicate}
 use lib.Dec.{lit<, lit≤}
 use Rattle.numbers.specs.Numbers as number
 use Rattle.commands.specs.declared.command.Register.the-variants.{Seu}
+use Rattle.parts.specs.Parts.{part, put}
+use Rattle.parts.specs.Digits.{number, digits}
 use Rattle.registers.specs.Registers.{read, store}
 use Rattle.chip.specs.declared.Adapter.{Adapter}
 use Rattle.chip.specs.Event.{Event, frame, upset}
@@ -84,7 +86,7 @@ module _ (c : Calls) (d : Demand3 c) where
   state-at-start = d .state at-start
 
   state-after-upset : upsets (c .state (c .leaves (start-of c) upset-call)) ≡ 1
-  unfolding after-upset ran reaction onUpset poweredOn read store
+  unfolding after-upset ran reaction onUpset poweredOn read store part put number digits
   state-after-upset = ap upsets (d .state after-upset)
 
   -- answers to the first event
@@ -114,7 +116,7 @@ module _ (c : Calls) (d : Demand3 c) where
 
   -- leave the state as it came
   pub state-stays : ((p : c .Pair) (e : Event) (o : List ℕ) → c .state (c .leaves p (event e o)) ≡ c .state p) → ⊥
-  unfolding poweredOn read
+  unfolding poweredOn read part number
   state-stays h =
       let z : upsets (c .state (start-of c)) ≡ 0 = ap upsets state-at-start in
       let s : upsets (c .state (c .leaves (start-of c) upset-call)) ≡ upsets (c .state (start-of c)) = ap upsets (h (start-of c) upset output) in
@@ -132,7 +134,7 @@ module _ (c : Calls) (d : Demand3 c) where
 
   -- step back and leave the state
   pub back-stays : ((p : c .Pair) → c .state (c .leaves p back) ≡ c .state p) → ⊥
-  unfolding after-back ran poweredOn read
+  unfolding after-back ran poweredOn read part number
   back-stays h =
       let z : upsets (c .state (c .leaves (c .leaves (start-of c) upset-call) back)) ≡ 0 =
       ap upsets (d .state after-back)

@@ -1,6 +1,10 @@
 -- Any two outcomes that a public function's contract allows coincide.
-use mathlib.Core.Path.{sym, _∙_}
-use Rattle.bits.proofs.Outcome.{OneOutcome}
+use mathlib.Core.Bool.{Bool}
+use mathlib.Core.List.{List}
+use mathlib.Core.Path.{sym, ap₂, _∙_}
+use Prim.Native.Nat.{ℕ}
+use denote.Ref.{now}
+use Rattle.parts.proofs.Outcome.{One}
 use Rattle.registers.proofs.read.Kinds as read-kinds
 use Rattle.registers.proofs.read.Reads as read
 use Rattle.registers.proofs.store.Kinds as store-kinds
@@ -20,29 +24,29 @@ use Rattle.registers.proofs.gpio.sample.Reads as gpio-sample
 use Rattle.registers.proofs.spi.complete.Kinds as spi-complete-kinds
 use Rattle.registers.proofs.spi.complete.Reads as spi-complete
 
-pub read-one : OneOutcome 0 read-kinds.ps read-kinds.r read.Post
+pub read-one : One 1 read-kinds.ps read-kinds.r read.Post (λ κs x s. x)
 read-one κs a x y s t e f = e ∙ sym f
 
-pub store-one : OneOutcome 0 store-kinds.ps store-kinds.r store.Post
+pub store-one : One 1 store-kinds.ps store-kinds.r store.Post (λ κs x s. now (s .0))
 store-one κs a x y s t e f = e ∙ sym f
 
-pub show-one : OneOutcome 0 show-kinds.ps show-kinds.r show.Post
+pub show-one : One 1 show-kinds.ps show-kinds.r show.Post (λ κs x s. x)
 show-one κs a x y s t e f = e ∙ sym f
 
-pub write-one : OneOutcome 0 write-kinds.ps write-kinds.r write.Post
+pub write-one : One 1 write-kinds.ps write-kinds.r write.Post (λ κs x s. now (s .0))
 write-one κs a x y s t e f = e ∙ sym f
 
-pub clear-one : OneOutcome 0 clear-kinds.ps clear-kinds.r clear.Post
+pub clear-one : One 1 clear-kinds.ps clear-kinds.r clear.Post (λ κs x s. now (s .0))
 clear-one κs a x y s t e f = e ∙ sym f
 
-pub are-zero-one : OneOutcome 0 are-zero-kinds.ps are-zero-kinds.r are-zero.Post
+pub are-zero-one : One 1 are-zero-kinds.ps are-zero-kinds.r are-zero.Post (λ κs x s. x)
 are-zero-one κs a x y s t e f = e ∙ sym f
 
-pub are-within-one : OneOutcome 0 are-within-kinds.ps are-within-kinds.r are-within.Post
+pub are-within-one : One 1 are-within-kinds.ps are-within-kinds.r are-within.Post (λ κs x s. x)
 are-within-one κs a x y s t e f = e ∙ sym f
 
-pub gpio-sample-one : OneOutcome 0 gpio-sample-kinds.ps gpio-sample-kinds.r gpio-sample.Post
-gpio-sample-one κs a x y s t e f = e ∙ sym f
+pub gpio-sample-one : One {B = Bool × List ℕ} 1 gpio-sample-kinds.ps gpio-sample-kinds.r gpio-sample.Post (λ κs x s. (x, now (s .0)))
+gpio-sample-one κs a x y s t e f = ap₂ (λ (b : Bool) (l : List ℕ). (b, l)) (e .0 ∙ sym (f .0)) (e .1 ∙ sym (f .1))
 
-pub spi-complete-one : OneOutcome 0 spi-complete-kinds.ps spi-complete-kinds.r spi-complete.Post
+pub spi-complete-one : One 2 spi-complete-kinds.ps spi-complete-kinds.r spi-complete.Post (λ κs x s. now (s .0))
 spi-complete-one κs a x y s t e f = e ∙ sym f

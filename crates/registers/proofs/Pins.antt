@@ -11,10 +11,9 @@ use Rattle.bits.specs.Bits.{bitOf, word}
 use Rattle.bits.proofs.Bits.{bit-and, bit-or, bit-not, bit-set, bit-clear, is-word}
 use Rattle.bits.proofs.Masks.{bit-none, chosen-by}
 use Rattle.bits.proofs.Taut.{taut3, taut4}
-use Rattle.registers.specs.declared.gpio.Sampled.{Sampled}
 use Rattle.commands.specs.declared.command.Register.the-variants.{Datain, Direction, Intsel, Inttrig, Ints, Clksel, Edgesel, Intenable}
 use Rattle.registers.specs.Registers.{read, store}
-use Rattle.registers.specs.Pins.{takes, datainAfter, fires, firingLines, sampled}
+use Rattle.registers.specs.Pins.{takes, datainAfter, fires, firingLines, interrupts, sampled}
 
 -- `!a` at 32 bits
 abbrev inv : ℕ → ℕ
@@ -81,19 +80,25 @@ pub firing : (rs : List ℕ) (after w s t r : ℕ) → w ≡ read rs Datain → 
 unfolding firingLines
 firing rs after w s t r hw hs ht e = simp (e, hw, hs, ht)
 
+-- what `sample` says, and what it leaves
 module _ (rs : List ℕ) (levels kind after fired on : ℕ) (taken : List ℕ) (a : after ≡ datainAfter rs levels kind) (f : fired ≡ firingLines rs after)
     (d : taken ≡ store rs Datain after) (n : on ≡ read rs Intenable) where
-  abbrev given : List ℕ → Bool → Sampled
-  given after interrupt = record { registers = after; interrupt = interrupt }
+  pub interrupting : (bitAnd on 1 ≡ 0 → ⊥) → (fired ≡ 0 → ⊥) → true ≡ interrupts rs levels kind
+  unfolding interrupts
+  interrupting e h = simp (← a, ← f, ← n, bit-set on 0 e, ne-eqb fired 0 h)
 
-  pub interrupts : (told : List ℕ) → (bitAnd on 1 ≡ 0 → ⊥) → (fired ≡ 0 → ⊥) → told ≡ store taken Ints fired → given told true ≡ sampled rs levels kind
-  unfolding sampled
-  interrupts told e h t = simp (← a, ← f, ← d, ← n, bit-set on 0 e, ne-eqb fired 0 h, t)
+  pub none-fired : (bitAnd on 1 ≡ 0 → ⊥) → fired ≡ 0 → false ≡ interrupts rs levels kind
+  unfolding interrupts
+  none-fired e h = simp (← a, ← f, ← n, bit-set on 0 e, eq-eqb fired 0 h)
 
-  pub none-fired : (bitAnd on 1 ≡ 0 → ⊥) → fired ≡ 0 → given taken false ≡ sampled rs levels kind
-  unfolding sampled
-  none-fired e h = simp (← a, ← f, ← d, ← n, bit-set on 0 e, eq-eqb fired 0 h)
+  pub disabled : bitAnd on 1 ≡ 0 → false ≡ interrupts rs levels kind
+  unfolding interrupts
+  disabled e = simp (← n, bit-clear on 0 e)
 
-  pub disabled : bitAnd on 1 ≡ 0 → given taken false ≡ sampled rs levels kind
+  pub fired-left : (told : List ℕ) → true ≡ interrupts rs levels kind → told ≡ store taken Ints fired → told ≡ sampled rs levels kind
   unfolding sampled
-  disabled e = simp (← a, ← d, ← n, bit-clear on 0 e)
+  fired-left told i t = simp (← a, ← f, ← d, ← i, t)
+
+  pub taken-left : false ≡ interrupts rs levels kind → taken ≡ sampled rs levels kind
+  unfolding sampled
+  taken-left i = simp (← a, ← d, ← i)

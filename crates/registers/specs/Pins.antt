@@ -6,7 +6,6 @@ use lib.Dec.{eqb}
 use Rattle.bits.specs.Bits.{bitOf, word}
 use Rattle.commands.specs.declared.command.Register.the-variants.{Datain, Direction, Intsel, Inttrig, Ints, Clksel, Edgesel, Intenable}
 use Rattle.registers.specs.Registers.{read, store}
-use Rattle.registers.specs.declared.gpio.Sampled.{Sampled}
 
 -- A line with DIRECTION 0 takes its level if CLKSEL is 0 and the kind is 0, or CLKSEL is 1 and the kind is 1 with EDGESEL 0 or 2 with EDGESEL 1.
 abbrev pub takes : Bool → Bool → Bool → ℕ → Bool
@@ -30,11 +29,12 @@ unfoldable pub firingLines : List ℕ → ℕ → ℕ
 firingLines rs after =
     word 32 (λ i. fires (bitOf (read rs Datain) i) (bitOf after i) (bitOf (read rs Intsel) i) (bitOf (read rs Inttrig) i))
 
--- If INTENABLE is 1 and a line fires, INTS becomes the firing lines and an interrupt goes out.
-unfoldable pub sampled : List ℕ → ℕ → ℕ → Sampled
+-- If INTENABLE is 1 and a line fires, an interrupt goes out, and INTS becomes the firing lines.
+unfoldable pub interrupts : List ℕ → ℕ → ℕ → Bool
+interrupts rs levels kind = bitOf (read rs Intenable) 0 && not (eqb (firingLines rs (datainAfter rs levels kind)) 0)
+
+unfoldable pub sampled : List ℕ → ℕ → ℕ → List ℕ
 sampled rs levels kind =
     let after = datainAfter rs levels kind in
-    let fired = firingLines rs after in
     let taken = store rs Datain after in
-    let interrupt = bitOf (read rs Intenable) 0 && not (eqb fired 0) in
-    record { registers = cond interrupt (store taken Ints fired) taken; interrupt = interrupt }
+    cond (interrupts rs levels kind) (store taken Ints (firingLines rs after)) taken

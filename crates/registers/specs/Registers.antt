@@ -1,10 +1,15 @@
--- The registers of all channels: a row for each, with its place, the bits that it keeps, and the bit of D where its lowest one stands.
-use Prim.Native.Nat.{ℕ, zero, suc, _+_, _*_, _/_, _%_, _^_}
-use mathlib.Core.Bool.{Bool, true, _&&_}
-use mathlib.Core.List.{List, [], _∷_, map}
+-- The registers of all channels, as bytes: a row for each, with its place, its width, the bits that it keeps, and the bit of D where its lowest
+-- one stands.
+use Prim.Native.Nat.{ℕ, _*_, _/_, _%_, _^_}
+use mathlib.Core.Bool.{Bool, _&&_}
+use mathlib.Core.List.{List}
 use lib.Bits.{bitAnd}
 use lib.Dec.{eqb}
-use lib.ListN.{getD, set}
+use lib.ListN.{replicate}
+use Rattle.parts.specs.Parts.{part, put, allZero}
+use Rattle.parts.specs.Digits.{number, digits, bytesIn}
+use Rattle.parts.specs.declared.Width.{Width}
+use Rattle.parts.specs.declared.Width.the-variants.{Byte, Half, Word}
 use Rattle.commands.specs.declared.command.Register.{Register}
 use Rattle.commands.specs.declared.command.Register.the-variants.{Crb, Crc, Crd, SpiControl, SpiFreq, SpiSs, SpiData0, SpiData1, SpiData2, SpiData3}
 use Rattle.commands.specs.declared.command.Register.the-variants.{SpiGo, Dataout, Datain, Direction, Intsel, Inttrig, Ints, Clksel, Edgesel}
@@ -13,61 +18,54 @@ use Rattle.registers.specs.declared.Row.{Row}
 
 -- ---- the rows
 
-abbrev pub count : ℕ
-count = 25
+-- the bytes of all of them
+abbrev pub size : ℕ
+size = 66
 
-abbrev pub row : ℕ → ℕ → ℕ → Row
-row place mask low = record { place = place; mask = mask; low = low }
+abbrev pub row : ℕ → Width → ℕ → ℕ → Row
+row place width mask low = record { place = place; width = width; mask = mask; low = low }
 
 abbrev pub rowOf : Register → Row
 -- the controller, in D[31:24]: CRB bit 0 and CRD bits 7 to 5 read 0
-rowOf Crb = row 0 0xFE 24
-rowOf Crc = row 1 0xFF 24
-rowOf Crd = row 2 0x1F 24
--- SPI: CONTROL and FREQ in D[15:0], SS in D[7:0], the words of DATA; and the TRN of an open GO, 0 where none is open
-rowOf SpiControl = row 3 0xFFFF 0
-rowOf SpiFreq = row 4 0xFFFF 0
-rowOf SpiSs = row 5 0xFF 0
-rowOf SpiData0 = row 6 0xFFFFFFFF 0
-rowOf SpiData1 = row 7 0xFFFFFFFF 0
-rowOf SpiData2 = row 8 0xFFFFFFFF 0
-rowOf SpiData3 = row 9 0xFFFFFFFF 0
-rowOf SpiGo = row 10 0xFF 0
--- GPIO: 32 lines; INTENABLE in D[0]
-rowOf Dataout = row 11 0xFFFFFFFF 0
-rowOf Datain = row 12 0xFFFFFFFF 0
-rowOf Direction = row 13 0xFFFFFFFF 0
-rowOf Intsel = row 14 0xFFFFFFFF 0
-rowOf Inttrig = row 15 0xFFFFFFFF 0
-rowOf Ints = row 16 0xFFFFFFFF 0
-rowOf Clksel = row 17 0xFFFFFFFF 0
-rowOf Edgesel = row 18 0xFFFFFFFF 0
-rowOf Intenable = row 19 0x1 0
+rowOf Crb = row 0 Byte 0xFE 24
+rowOf Crc = row 1 Byte 0xFF 24
+rowOf Crd = row 2 Byte 0x1F 24
 -- the SEU counter
-rowOf Seu = row 20 0xFFFFFFFF 0
+rowOf Seu = row 3 Word 0xFFFFFFFF 0
 -- DAC, in D[7:0]
-rowOf DacA = row 21 0xFF 0
-rowOf DacB = row 22 0xFF 0
-rowOf DacC = row 23 0xFF 0
-rowOf DacD = row 24 0xFF 0
-
--- all of them, in their places
-abbrev pub registers : List Register
-registers =
-    Crb ∷ Crc ∷ Crd ∷ SpiControl ∷ SpiFreq ∷ SpiSs ∷ SpiData0 ∷ SpiData1 ∷ SpiData2 ∷ SpiData3 ∷ SpiGo
-    ∷ Dataout ∷ Datain ∷ Direction ∷ Intsel ∷ Inttrig ∷ Ints ∷ Clksel ∷ Edgesel ∷ Intenable ∷ Seu ∷ DacA ∷ DacB ∷ DacC ∷ DacD ∷ []
-
-abbrev pub masks : List ℕ
-masks = map (λ r. rowOf r .mask) registers
+rowOf DacA = row 7 Byte 0xFF 0
+rowOf DacB = row 8 Byte 0xFF 0
+rowOf DacC = row 9 Byte 0xFF 0
+rowOf DacD = row 10 Byte 0xFF 0
+-- SPI: CONTROL and FREQ in D[15:0], SS in D[7:0], the words of DATA; and the TRN of an open GO, 0 where none is open
+rowOf SpiControl = row 11 Half 0xFFFF 0
+rowOf SpiFreq = row 13 Half 0xFFFF 0
+rowOf SpiSs = row 15 Byte 0xFF 0
+rowOf SpiData0 = row 16 Word 0xFFFFFFFF 0
+rowOf SpiData1 = row 20 Word 0xFFFFFFFF 0
+rowOf SpiData2 = row 24 Word 0xFFFFFFFF 0
+rowOf SpiData3 = row 28 Word 0xFFFFFFFF 0
+rowOf SpiGo = row 32 Byte 0xFF 0
+-- GPIO: 32 lines; INTENABLE in D[0]
+rowOf Dataout = row 33 Word 0xFFFFFFFF 0
+rowOf Datain = row 37 Word 0xFFFFFFFF 0
+rowOf Direction = row 41 Word 0xFFFFFFFF 0
+rowOf Intsel = row 45 Word 0xFFFFFFFF 0
+rowOf Inttrig = row 49 Word 0xFFFFFFFF 0
+rowOf Ints = row 53 Word 0xFFFFFFFF 0
+rowOf Clksel = row 57 Word 0xFFFFFFFF 0
+rowOf Edgesel = row 61 Word 0xFFFFFFFF 0
+rowOf Intenable = row 65 Byte 0x1 0
 
 -- ---- one register
 
+-- its bytes, low byte first
 unfoldable pub read : List ℕ → Register → ℕ
-read rs r = getD rs (rowOf r .place) 0
+read rs r = number (part (rowOf r .place) (bytesIn (rowOf r .width)) rs)
 
--- a value stored, without the bits that the register does not keep; every other register stays
+-- a value stored, without the bits that the register does not keep; every other byte stays
 unfoldable pub store : List ℕ → Register → ℕ → List ℕ
-store rs r v = set rs (rowOf r .place) (bitAnd v (rowOf r .mask))
+store rs r v = put (rowOf r .place) (digits (bytesIn (rowOf r .width)) (bitAnd v (rowOf r .mask))) rs
 
 -- a register in D, which has 32 bits; and from D
 abbrev pub shown : List ℕ → Register → ℕ
@@ -76,17 +74,19 @@ shown rs r = read rs r * 2 ^ (rowOf r .low) % 2 ^ 32
 abbrev pub written : List ℕ → Register → ℕ → List ℕ
 written rs r d = store rs r (d / 2 ^ (rowOf r .low))
 
--- ---- some of them: n registers, from a place on
+-- ---- some bytes: so many, from a place on
 
 unfoldable pub zeroed : ℕ → ℕ → List ℕ → List ℕ
-zeroed first zero rs = rs
-zeroed first (suc n) rs = set (zeroed first n rs) (first + n) 0
+zeroed first many rs = put first (replicate many 0) rs
 
 unfoldable pub areZero : ℕ → ℕ → List ℕ → Bool
-areZero first zero rs = true
-areZero first (suc n) rs = areZero first n rs && eqb (getD rs (first + n) 0) 0
+areZero first many rs = allZero (part first many rs)
 
--- none of the first n has a bit set that reads 0
-unfoldable pub within : ℕ → List ℕ → Bool
-within zero rs = true
-within (suc n) rs = within n rs && eqb (bitAnd (getD rs n 0) (getD masks n 0)) (getD rs n 0)
+-- ---- no bit is set that reads 0
+
+abbrev pub isWithin : List ℕ → Register → Bool
+isWithin rs r = eqb (bitAnd (read rs r) (rowOf r .mask)) (read rs r)
+
+-- the three that do not keep every bit of their bytes
+abbrev pub within : List ℕ → Bool
+within rs = isWithin rs Crb && isWithin rs Crd && isWithin rs Intenable

@@ -1,8 +1,9 @@
 // Channel 0x02, the 32 parallel lines: what a pin sample makes of them. A bit for each line in every register but INTENABLE.
 ghost use mathlib.Core.Path.{_≡_};
 ghost use Rattle.bits.specs.Bits.{bitOf, word};
-ghost use Rattle.registers.specs.Pins.{takes, datainAfter, fires, firingLines, sampled};
-use crate::COUNT;
+ghost use lib.ListN.{length};
+ghost use Rattle.registers.specs.Registers.{size};
+ghost use Rattle.registers.specs.Pins.{takes, datainAfter, fires, firingLines, interrupts, sampled};
 use commands::command::Register;
 
 // The lines that take their level at an edge kind.
@@ -17,8 +18,9 @@ fn taken_lines(direction: u32, clksel: u32, edgesel: u32, kind: u8) -> u32
     }
 }
 
-fn datain_after(registers: [u32; COUNT], levels: u32, kind: u8) -> u32
-    ensures { λ r. ⌜ r ≡ datainAfter registers levels kind ⌝ }
+fn datain_after(registers: &[u8], levels: u32, kind: u8) -> u32
+    requires { ⌜ length (now registers) ≡ size ⌝ }
+    ensures { λ r. ⌜ r ≡ datainAfter (now (registers .entry)) levels kind ⌝ }
 {
     let direction = crate::read(registers, Register::Direction);
     let clksel = crate::read(registers, Register::Clksel);
@@ -36,8 +38,9 @@ fn fired(was: u32, is: u32, intsel: u32, inttrig: u32) -> u32
 }
 
 // Those that went from DATAIN to `after`.
-fn firing_lines(registers: [u32; COUNT], after: u32) -> u32
-    ensures { λ r. ⌜ r ≡ firingLines registers after ⌝ }
+fn firing_lines(registers: &[u8], after: u32) -> u32
+    requires { ⌜ length (now registers) ≡ size ⌝ }
+    ensures { λ r. ⌜ r ≡ firingLines (now (registers .entry)) after ⌝ }
 {
     let was = crate::read(registers, Register::Datain);
     let intsel = crate::read(registers, Register::Intsel);
@@ -45,29 +48,20 @@ fn firing_lines(registers: [u32; COUNT], after: u32) -> u32
     fired(was, after, intsel, inttrig)
 }
 
-// What a pin sample leaves of the registers, and whether an interrupt goes out: its data are INTS.
-pub struct Sampled {
-    pub registers: [u32; COUNT],
-    pub interrupt: bool,
-}
-
-pub fn sample(registers: [u32; COUNT], levels: u32, kind: u8) -> Sampled
-    ensures { λ r. ⌜ r ≡ sampled registers levels kind ⌝ }
+// A pin sample. Tells whether an interrupt goes out: its data are INTS.
+pub fn sample(registers: &mut [u8], levels: u32, kind: u8) -> bool
+    requires { ⌜ length (now registers) ≡ size ⌝ }
+    ensures { λ r. ⌜ (r ≡ interrupts (now (registers .entry)) levels kind) × (now (registers .exit) ≡ sampled (now (registers .entry)) levels kind) ⌝ }
 {
     let after = datain_after(registers, levels, kind);
     let firing = firing_lines(registers, after);
-    let taken = crate::store(registers, Register::Datain, after);
-    if crate::read(registers, Register::Intenable) & 1 != 0 {
+    let on = crate::read(registers, Register::Intenable);
+    crate::store(registers, Register::Datain, after);
+    if on & 1 != 0 {
         if firing != 0 {
-            let told = crate::store(taken, Register::Ints, firing);
-            return Sampled {
-                registers: told,
-                interrupt: true,
-            };
+            crate::store(registers, Register::Ints, firing);
+            return true;
         }
     }
-    Sampled {
-        registers: taken,
-        interrupt: false,
-    }
+    false
 }

@@ -1,27 +1,33 @@
-// The registers of all channels: a row for each, with its place, the bits that it keeps, and where it stands in D. One way to read them and one
-// to store into them, and what a pin sample and an SPI transfer leave of them. Nothing here of LEN, of enable bits, of errors.
+// The registers of all channels, in lent bytes: a row for each, with its place, its width, the bits that it keeps, and where it stands in D.
+// One way to read them and one to store into them, and what a pin sample and an SPI transfer leave of them. Nothing here of LEN, of enable
+// bits, of errors.
 pub mod gpio;
 pub mod spi;
 
 ghost use mathlib.Core.Path.{_≡_};
 ghost use Prim.Native.Nat.{_+_, _≤_};
-ghost use Rattle.registers.specs.Registers.{row, rowOf, read, store, shown, written, zeroed, areZero, within, count};
+ghost use lib.ListN.{length};
+ghost use Rattle.registers.specs.Registers.{row, rowOf, read, store, shown, written, zeroed, areZero, isWithin, within, size};
 use commands::command::Register;
+use parts::Width;
 
-pub const COUNT: usize = 25;
+// The bytes of all of them.
+pub const SIZE: usize = 66;
 
-// A register's place, the bits that it keeps, and the bit of D where its lowest one stands.
+// A register's place and width, the bits that it keeps, and the bit of D where its lowest one stands.
 pub struct Row {
     pub place: usize,
+    pub width: Width,
     pub mask: u32,
     pub low: u32,
 }
 
-fn at(place: usize, mask: u32, low: u32) -> Row
-    ensures { λ r. ⌜ r ≡ row place mask low ⌝ }
+fn at(place: usize, width: Width, mask: u32, low: u32) -> Row
+    ensures { λ r. ⌜ r ≡ row place width mask low ⌝ }
 {
     Row {
         place: place,
+        width: width,
         mask: mask,
         low: low,
     }
@@ -31,118 +37,86 @@ fn row_of(which: Register) -> Row
     ensures { λ r. ⌜ r ≡ rowOf which ⌝ }
 {
     match which {
-        Register::Crb => at(0, 0xfe, 24),
-        Register::Crc => at(1, 0xff, 24),
-        Register::Crd => at(2, 0x1f, 24),
-        Register::SpiControl => at(3, 0xffff, 0),
-        Register::SpiFreq => at(4, 0xffff, 0),
-        Register::SpiSs => at(5, 0xff, 0),
-        Register::SpiData0 => at(6, 0xffffffff, 0),
-        Register::SpiData1 => at(7, 0xffffffff, 0),
-        Register::SpiData2 => at(8, 0xffffffff, 0),
-        Register::SpiData3 => at(9, 0xffffffff, 0),
-        Register::SpiGo => at(10, 0xff, 0),
-        Register::Dataout => at(11, 0xffffffff, 0),
-        Register::Datain => at(12, 0xffffffff, 0),
-        Register::Direction => at(13, 0xffffffff, 0),
-        Register::Intsel => at(14, 0xffffffff, 0),
-        Register::Inttrig => at(15, 0xffffffff, 0),
-        Register::Ints => at(16, 0xffffffff, 0),
-        Register::Clksel => at(17, 0xffffffff, 0),
-        Register::Edgesel => at(18, 0xffffffff, 0),
-        Register::Intenable => at(19, 0x1, 0),
-        Register::Seu => at(20, 0xffffffff, 0),
-        Register::DacA => at(21, 0xff, 0),
-        Register::DacB => at(22, 0xff, 0),
-        Register::DacC => at(23, 0xff, 0),
-        Register::DacD => at(24, 0xff, 0),
+        Register::Crb => at(0, Width::Byte, 0xfe, 24),
+        Register::Crc => at(1, Width::Byte, 0xff, 24),
+        Register::Crd => at(2, Width::Byte, 0x1f, 24),
+        Register::Seu => at(3, Width::Word, 0xffffffff, 0),
+        Register::DacA => at(7, Width::Byte, 0xff, 0),
+        Register::DacB => at(8, Width::Byte, 0xff, 0),
+        Register::DacC => at(9, Width::Byte, 0xff, 0),
+        Register::DacD => at(10, Width::Byte, 0xff, 0),
+        Register::SpiControl => at(11, Width::Half, 0xffff, 0),
+        Register::SpiFreq => at(13, Width::Half, 0xffff, 0),
+        Register::SpiSs => at(15, Width::Byte, 0xff, 0),
+        Register::SpiData0 => at(16, Width::Word, 0xffffffff, 0),
+        Register::SpiData1 => at(20, Width::Word, 0xffffffff, 0),
+        Register::SpiData2 => at(24, Width::Word, 0xffffffff, 0),
+        Register::SpiData3 => at(28, Width::Word, 0xffffffff, 0),
+        Register::SpiGo => at(32, Width::Byte, 0xff, 0),
+        Register::Dataout => at(33, Width::Word, 0xffffffff, 0),
+        Register::Datain => at(37, Width::Word, 0xffffffff, 0),
+        Register::Direction => at(41, Width::Word, 0xffffffff, 0),
+        Register::Intsel => at(45, Width::Word, 0xffffffff, 0),
+        Register::Inttrig => at(49, Width::Word, 0xffffffff, 0),
+        Register::Ints => at(53, Width::Word, 0xffffffff, 0),
+        Register::Clksel => at(57, Width::Word, 0xffffffff, 0),
+        Register::Edgesel => at(61, Width::Word, 0xffffffff, 0),
+        Register::Intenable => at(65, Width::Byte, 0x1, 0),
     }
 }
 
-// What each place keeps: the rows' masks in their order, for a look at all of them; `are_within` is proved against the rows.
-const MASKS: [u32; COUNT] = [
-    0xfe,
-    0xff,
-    0x1f,
-    0xffff,
-    0xffff,
-    0xff,
-    0xffffffff,
-    0xffffffff,
-    0xffffffff,
-    0xffffffff,
-    0xff,
-    0xffffffff,
-    0xffffffff,
-    0xffffffff,
-    0xffffffff,
-    0xffffffff,
-    0xffffffff,
-    0xffffffff,
-    0xffffffff,
-    0x1,
-    0xffffffff,
-    0xff,
-    0xff,
-    0xff,
-    0xff,
-];
-
-pub fn read(registers: [u32; COUNT], which: Register) -> u32
-    ensures { λ r. ⌜ r ≡ read registers which ⌝ }
+pub fn read(registers: &[u8], which: Register) -> u32
+    requires { ⌜ length (now registers) ≡ size ⌝ }
+    ensures { λ r. ⌜ r ≡ read (now (registers .entry)) which ⌝ }
 {
     let row = row_of(which);
-    let place = row.place;
-    registers[place]
+    let width = row.width;
+    parts::number_at(registers, row.place, width)
 }
 
-pub fn store(registers: [u32; COUNT], which: Register, value: u32) -> [u32; COUNT]
-    ensures { λ r. ⌜ r ≡ store registers which value ⌝ }
+pub fn store(registers: &mut [u8], which: Register, value: u32)
+    requires { ⌜ length (now registers) ≡ size ⌝ }
+    ensures { λ _. ⌜ now (registers .exit) ≡ store (now (registers .entry)) which value ⌝ }
 {
     let row = row_of(which);
-    let place = row.place;
-    let mut after = registers;
-    after[place] = value & row.mask;
-    after
+    let width = row.width;
+    parts::store_number(registers, row.place, width, value & row.mask);
 }
 
 // A register as it stands in D.
-pub fn show(registers: [u32; COUNT], which: Register) -> u32
-    ensures { λ r. ⌜ r ≡ shown registers which ⌝ }
+pub fn show(registers: &[u8], which: Register) -> u32
+    requires { ⌜ length (now registers) ≡ size ⌝ }
+    ensures { λ r. ⌜ r ≡ shown (now (registers .entry)) which ⌝ }
 {
     let row = row_of(which);
     read(registers, which) << row.low
 }
 
-// A register with what stands for it in D.
-pub fn write(registers: [u32; COUNT], which: Register, value: u32) -> [u32; COUNT]
-    ensures { λ r. ⌜ r ≡ written registers which value ⌝ }
+// A register takes what stands for it in D.
+pub fn write(registers: &mut [u8], which: Register, value: u32)
+    requires { ⌜ length (now registers) ≡ size ⌝ }
+    ensures { λ _. ⌜ now (registers .exit) ≡ written (now (registers .entry)) which value ⌝ }
 {
     let row = row_of(which);
-    let place = row.place;
-    let mut after = registers;
-    after[place] = (value >> row.low) & row.mask;
-    after
+    store(registers, which, value >> row.low);
 }
 
-// Some registers, from a place on, at 0.
-pub fn clear(registers: [u32; COUNT], first: usize, many: usize) -> [u32; COUNT]
-    requires { ⌜ first + many ≤ count ⌝ }
-    ensures { λ r. ⌜ r ≡ zeroed first many registers ⌝ }
+// Some bytes, from a place on, at 0.
+pub fn clear(registers: &mut [u8], first: usize, many: usize)
+    requires { ⌜ first + many ≤ length (now registers) ⌝ }
+    ensures { λ _. ⌜ now (registers .exit) ≡ zeroed first many (now (registers .entry)) ⌝ }
 {
-    let mut after = registers;
     let mut i = 0;
     while i < many {
-        after[first + i] = 0;
+        registers[first + i] = 0;
         i += 1;
     }
-    after
 }
 
-// Whether some registers, from a place on, are 0.
-pub fn are_zero(registers: [u32; COUNT], first: usize, many: usize) -> bool
-    requires { ⌜ first + many ≤ count ⌝ }
-    ensures { λ r. ⌜ r ≡ areZero first many registers ⌝ }
+// Whether some bytes, from a place on, are 0.
+pub fn are_zero(registers: &[u8], first: usize, many: usize) -> bool
+    requires { ⌜ first + many ≤ length (now registers) ⌝ }
+    ensures { λ r. ⌜ r ≡ areZero first many (now (registers .entry)) ⌝ }
 {
     let mut all = true;
     let mut i = 0;
@@ -153,16 +127,22 @@ pub fn are_zero(registers: [u32; COUNT], first: usize, many: usize) -> bool
     all
 }
 
-// Whether no register has a bit set that reads 0.
-pub fn are_within(registers: [u32; COUNT]) -> bool
-    ensures { λ r. ⌜ r ≡ within count registers ⌝ }
+fn is_within(registers: &[u8], which: Register) -> bool
+    requires { ⌜ length (now registers) ≡ size ⌝ }
+    ensures { λ r. ⌜ r ≡ isWithin (now (registers .entry)) which ⌝ }
 {
-    let masks = MASKS;
-    let mut all = true;
-    let mut i = 0;
-    while i < COUNT {
-        all = all & (registers[i] & masks[i] == registers[i]);
-        i += 1;
-    }
-    all
+    let row = row_of(which);
+    let value = read(registers, which);
+    value & row.mask == value
+}
+
+// Whether no register has a bit set that reads 0.
+pub fn are_within(registers: &[u8]) -> bool
+    requires { ⌜ length (now registers) ≡ size ⌝ }
+    ensures { λ r. ⌜ r ≡ within (now (registers .entry)) ⌝ }
+{
+    let crb = is_within(registers, Register::Crb);
+    let crd = is_within(registers, Register::Crd);
+    let intenable = is_within(registers, Register::Intenable);
+    crb & crd & intenable
 }

@@ -4,9 +4,12 @@ ghost use mathlib.Core.Bool.{cond};
 ghost use Rattle.bits.specs.Bits.{bitOf, word};
 ghost use lib.Dec.{ltb};
 ghost use Prim.Native.Nat.{_+_};
-ghost use Rattle.registers.specs.Transfer.{transferLength, completed};
-use crate::COUNT;
+ghost use lib.ListN.{length};
+ghost use Rattle.registers.specs.Registers.{size};
+ghost use Rattle.registers.specs.Transfer.{transferLength, dataAfter, withData, completed};
 use commands::command::Register;
+use parts::Width;
+use parts::number_at;
 
 fn transfer_length(control: u32) -> u8
     ensures { λ r. ⌜ r ≡ transferLength control ⌝ }
@@ -37,37 +40,41 @@ fn merged(was: u32, received: u32, length: u8, from: u8) -> u32
     (was & !mask) | (received & mask)
 }
 
-pub fn complete(registers: [u32; COUNT], received: [u32; 4]) -> [u32; COUNT]
-    ensures { λ r. ⌜ r ≡ completed registers received ⌝ }
+// DATA after a transfer, word by word.
+fn data_after(registers: &[u8], received: &[u8]) -> [u32; 4]
+    requires { ⌜ length (now registers) ≡ size ⌝ }
+    requires { ⌜ length (now received) ≡ 16 ⌝ }
+    ensures { λ r. ⌜ r ≡ dataAfter (now (registers .entry)) (now (received .entry)) ⌝ }
 {
     let length = transfer_length(crate::read(registers, Register::SpiControl));
-    let w0 = merged(
-        crate::read(registers, Register::SpiData0),
-        received[0],
-        length,
-        0,
-    );
-    let w1 = merged(
-        crate::read(registers, Register::SpiData1),
-        received[1],
-        length,
-        32,
-    );
-    let w2 = merged(
-        crate::read(registers, Register::SpiData2),
-        received[2],
-        length,
-        64,
-    );
-    let w3 = merged(
-        crate::read(registers, Register::SpiData3),
-        received[3],
-        length,
-        96,
-    );
-    let one = crate::store(registers, Register::SpiData0, w0);
-    let two = crate::store(one, Register::SpiData1, w1);
-    let three = crate::store(two, Register::SpiData2, w2);
-    let four = crate::store(three, Register::SpiData3, w3);
-    crate::store(four, Register::SpiGo, 0)
+    let was0 = crate::read(registers, Register::SpiData0);
+    let was1 = crate::read(registers, Register::SpiData1);
+    let was2 = crate::read(registers, Register::SpiData2);
+    let was3 = crate::read(registers, Register::SpiData3);
+    let w0 = merged(was0, number_at(received, 0, Width::Word), length, 0);
+    let w1 = merged(was1, number_at(received, 4, Width::Word), length, 32);
+    let w2 = merged(was2, number_at(received, 8, Width::Word), length, 64);
+    let w3 = merged(was3, number_at(received, 12, Width::Word), length, 96);
+    [w0, w1, w2, w3]
+}
+
+fn store_data(registers: &mut [u8], words: [u32; 4])
+    requires { ⌜ length (now registers) ≡ size ⌝ }
+    ensures { λ _. ⌜ now (registers .exit) ≡ withData (now (registers .entry)) words ⌝ }
+{
+    crate::store(registers, Register::SpiData0, words[0]);
+    crate::store(registers, Register::SpiData1, words[1]);
+    crate::store(registers, Register::SpiData2, words[2]);
+    crate::store(registers, Register::SpiData3, words[3]);
+}
+
+// The end of a transfer of 16 received bytes.
+pub fn complete(registers: &mut [u8], received: &[u8])
+    requires { ⌜ length (now registers) ≡ size ⌝ }
+    requires { ⌜ length (now received) ≡ 16 ⌝ }
+    ensures { λ _. ⌜ now (registers .exit) ≡ completed (now (registers .entry)) (now (received .entry)) ⌝ }
+{
+    let after = data_after(registers, received);
+    store_data(registers, after);
+    crate::store(registers, Register::SpiGo, 0);
 }

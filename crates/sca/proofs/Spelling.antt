@@ -1,23 +1,18 @@
 -- Laws of a receiver as bytes.
 use mathlib.Core.Path.{_≡_, refl, sym, ap, _∙_}
-use mathlib.Core.List.{List, [], _∷_, _++_, append-nil}
-use Prim.Native.Nat.{ℕ, _+_, _≤_, _<_}
+use mathlib.Core.List.{List, [], _∷_}
+use Prim.Native.Nat.{ℕ, _+_, _<_}
 use native.Mathlib.Omega.{arith}
-use lib.ListN.{length, take, drop, getD, set, length-drop, drop-of-length-le}
+use lib.ListN.{length, take, drop, getD, set, length-drop}
 use lib.Seq.{take-all, getD-drop}
 use borrow.Author.Tests.{eq-eqb, ne-eqb}
 use Rattle.numbers.specs.Numbers as number
 use Rattle.parts.specs.Parts.{part, put}
-use Rattle.parts.proofs.Laws.{put-put, copied-more}
+use Rattle.parts.proofs.Laws.{put-all, put-put, copied-more}
 use Rattle.receiver.specs.Receive.{received, outputAfter}
 use Rattle.receiver.specs.declared.Receiver.{Receiver}
 use Rattle.receiver.specs.declared.Received.{Received}
 use Rattle.sca.specs.Link.{receiverBytes, receiverOf, packReceived, receiveResult, receiveReceiver, receiveOutput}
-
--- a list written over from its front to its end is what was written
-pub put-all : (s d : List ℕ) → length s ≡ length d → put 0 s d ≡ s
-unfolding put
-put-all s d e = let h : length d ≤ 0 + length s = omega arith in ap (λ (l : List ℕ). s ++ l) (drop-of-length-le d h) ∙ append-nil s
 
 -- the head, then the content
 pub spelled : (r : Receiver) (d d₁ d₂ : List ℕ) → length (r .bytes) ≡ 20 → length d ≡ 24

@@ -1,29 +1,33 @@
 -- The adapter's calls on bytes: how a state is spelled, how a result is packed, and what each call leaves.
 use mathlib.Core.Bool.{Bool, cond, _&&_}
-use mathlib.Core.List.{List, [], _∷_, _++_}
+use mathlib.Core.List.{List, _++_}
 use Prim.Native.Nat.{ℕ, _+_, _*_}
 use lib.Dec.{eqb}
-use lib.ListN.{length, drop}
+use lib.ListN.{length}
 use Rattle.numbers.specs.Numbers as number
-use Rattle.parts.specs.Words.{bytesOf, frontWord, wordsOf}
+use Rattle.parts.specs.Parts.{part}
+use Rattle.parts.specs.Digits.{number as numberOf, digits}
 use Rattle.chip.specs.Event.{Event}
 use Rattle.chip.specs.declared.Adapter.{Adapter}
-use Rattle.journal.specs.Image.{imageWords, stateOf, spelled}
+use Rattle.journal.specs.Image.{imageBytes, image, stateOf, spelled}
 use Rattle.adapter.specs.Calls as Calls
 use Rattle.chip.specs.declared.Response.{Response}
 use Rattle.adapter.specs.declared.KeptNumber.{KeptNumber}
 
--- ---- a state as bytes: the 18 words of its image, then the chip's ID
+-- ---- a state as bytes: its image, then the chip's ID
+
+abbrev pub stateSize : ℕ
+stateSize = imageBytes + 4
 
 abbrev pub stateBytes : Adapter → List ℕ
-stateBytes a = bytesOf (imageWords a) ++ bytesOf (a .id ∷ [])
+stateBytes a = image a ++ digits 4 (a .id)
 
 abbrev pub stateIn : List ℕ → Adapter
-stateIn s = stateOf (frontWord (drop 72 s)) (wordsOf 18 s)
+stateIn s = stateOf (numberOf (part imageBytes 4 s)) s
 
--- 76 bytes in which no bit is set that no field has
+-- as many bytes, in which no bit is set that no field has
 unfoldable pub isState : List ℕ → Bool
-isState s = eqb (length s) 76 && spelled (wordsOf 18 s)
+isState s = eqb (length s) stateSize && spelled s
 
 -- ---- results
 
@@ -48,7 +52,7 @@ gave result bytes = record { result = result; bytes = bytes }
 unfoldable pub created : List ℕ → ℕ → Gave
 created s id =
     let c = Calls.created id in
-    cond (eqb (length s) 76)
+    cond (eqb (length s) stateSize)
     (gave (c .number) (cond (eqb (c .number) number.noFrame) (stateBytes (c .adapter)) s))
     (gave number.badState s)
 

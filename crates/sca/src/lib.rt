@@ -96,7 +96,7 @@ fn pack_kept(k: KeptNumber) -> u64
 
 // An answer, with the state it leaves.
 fn finish(bytes: &mut [u8], a: Response) -> u64
-    requires { ⌜ length (now bytes) ≡ 76 ⌝ }
+    requires { ⌜ length (now bytes) ≡ events.stateSize ⌝ }
     ensures { λ r. ⌜ r ≡ events.packAnswer a ⌝ }
     ensures { λ _. ⌜ now (bytes .exit) ≡ events.stateBytes (a .adapter) ⌝ }
 {

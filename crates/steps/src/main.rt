@@ -78,6 +78,12 @@ fn completion(a: Adapter, journal: &mut [u8; 17408], byte: u8) -> Adapter {
     answer.adapter
 }
 
+// The SEU counter of a state.
+fn upsets_in(a: Adapter) -> u32 {
+    let registers = a.registers;
+    registers::read(&registers, Register::Seu)
+}
+
 fn upsets(a: Adapter, journal: &mut [u8; 17408], count: u8) -> Adapter {
     let mut b = a;
     let mut number: u8 = 0;
@@ -90,8 +96,7 @@ fn upsets(a: Adapter, journal: &mut [u8; 17408], count: u8) -> Adapter {
         number = answer.number;
         i += 1;
     }
-    let registers = b.registers;
-    show_seu(number, journal, registers::read(registers, Register::Seu));
+    show_seu(number, journal, upsets_in(b));
     b
 }
 
@@ -106,8 +111,7 @@ fn steps_back(a: Adapter, journal: &mut [u8; 17408], count: u8) -> Adapter {
         number = answer.number;
         i += 1;
     }
-    let registers = b.registers;
-    show_seu(number, journal, registers::read(registers, Register::Seu));
+    show_seu(number, journal, upsets_in(b));
     b
 }
 

@@ -1,6 +1,6 @@
 -- `answer` meets its contract. Assumes nothing.
 use borrow.Author.Needs.{needs}
-use Rattle.channels.proofs.Cases.{wrong-answer, right-answer}
+use Rattle.channels.proofs.Cases.{wrong-reply, wrong-left, right-reply, right-left}
 use Rattle.channels.proofs.answer.Statement.{statement}
 use Rattle.channels.proofs.answer.Tie as tie
 
@@ -14,5 +14,7 @@ answer-spec =
     (λ c. search needs)
     (λ c κs. search needs)
     (λ c κs. search needs)
-    (λ c. search wrong-answer)
-    (λ c. search right-answer))
+    (λ c. search needs)
+    (λ c. (search wrong-reply, search wrong-left))
+    (λ c. search needs)
+    (λ c. (search right-reply, search right-left)))

@@ -1,12 +1,20 @@
--- `journal::restore` meets its contract. Assumes nothing.
+-- `restore` meets its contract. Assumes nothing.
 use borrow.Author.Needs.{needs}
-use Rattle.journal.specs.Record.{restored}
+use native.Mathlib.Omega.{arith}
+use lib.Dec.{lit≤}
+use Rattle.journal.proofs.Ring.{newest-in}
+use Rattle.journal.proofs.Record.{restores}
 use Rattle.journal.proofs.restore.Statement.{statement}
 use Rattle.journal.proofs.restore.Tie as tie
 
-returns : tie.Need-returns
-unfolding restored
-returns c = simp (c .state-of .ensures, c .before .newest .ensures)
-
 pub restore-spec : {M : Type 1} → statement M
-restore-spec = tie.close (tie.spec (λ c κs. search needs) (λ c κs. search needs) returns)
+restore-spec =
+    tie.close
+    (tie.spec
+    (λ c κs. search needs)
+    (λ c. let l = newest-in _ _ (c .before .before .pre .0) (c .newest .ensures) 256 (lit≤ tt) in omega arith)
+    (λ c. search needs)
+    (λ c. search needs)
+    (λ c. newest-in _ _ (c .before .before .pre .0) (c .newest .ensures) 256 (lit≤ tt))
+    (λ c κs. search needs)
+    (λ c. search restores))

@@ -17,16 +17,10 @@ returns-3 c =
     output-refused _ _ _ _ (sym (c .before .before .before .before .before .in-range .ensures .0) ∙ c .before .before .before .before .if1 .taken) (c .before .before .before .if2 .left) (c .before .before .if3 .left) (c .before .if4 .taken)
     (c .bare3 .ensures)
 
-read-requires : tie.Need-read-requires
-read-requires c κs = (c .before .before .before .before .before .in-range .ensures .1 (c .before .before .before .before .if1 .taken), search needs)
-
 returns-4 : tie.Need-returns-4
 returns-4 c =
     let r = c .before .before .read .ensures in
     answered _ _ _ _ (sym (c .before .before .before .before .before .before .before .before .in-range .ensures .0) ∙ c .before .before .before .before .before .before .before .if1 .taken) (c .before .before .before .before .before .before .if2 .left) (c .before .before .before .before .before .if3 .left) (c .before .before .before .before .if4 .left) (r .0) (r .1)
-
-returns-5 : tie.Need-returns-5
-returns-5 c = state-refused _ _ _ _ (sym (c .before .before .in-range .ensures .0) ∙ c .before .if1 .left) (c .bare4 .ensures)
 
 pub receive-spec : {M : Type 1} → statement M
 receive-spec =
@@ -40,8 +34,8 @@ receive-spec =
     returns-2
     (λ c κs. search needs)
     returns-3
-    read-requires
+    (λ c κs. (c .before .before .before .before .before .in-range .ensures .1 (c .before .before .before .before .if1 .taken), search needs))
     (λ c. search needs)
     returns-4
     (λ c κs. search needs)
-    returns-5)
+    (λ c. state-refused _ _ _ _ (sym (c .before .before .in-range .ensures .0) ∙ c .before .if1 .left) (c .bare4 .ensures)))

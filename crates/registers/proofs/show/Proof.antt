@@ -10,5 +10,5 @@ show-spec =
     (tie.spec
     (λ c κs. search needs)
     (λ c κs. search needs)
-    (λ c. search low-below)
-    (λ c. search has-shown))
+    (λ c. search (low-below, has-shown))
+    (λ c. search (low-below, has-shown)))

@@ -5,16 +5,10 @@ use Rattle.sca.proofs.Spelling.{read-bytes, read-refused}
 use Rattle.sca.proofs.sca_receive.Statement.{statement}
 use Rattle.sca.proofs.sca_receive.Tie as tie
 
-pack-received-requires : tie.Need-pack-received-requires
-pack-received-requires c κs = rw (c .before .before .before .before .before .before .receive .ensures .0) (received-small _ _ _ _)
-
 returns : tie.Need-returns
 returns c =
     let r = c .before .before .before .before .before .before .before .receive .ensures in
     read-bytes _ _ _ _ (c .before .before .before .before .before .before .before .before .before .before .before .if1 .taken) (c .before .before .before .before .before .before .before .before .before .spelled-by .ensures) (r .0) (r .1) (c .before .before .before .spell .ensures) (c .pack-received .ensures)
-
-returns-2 : tie.Need-returns-2
-returns-2 c = read-refused _ _ _ _ (c .before .if1 .left) (c .wide .ensures .0)
 
 pub sca-receive-spec : {M : Type 1} → statement M
 sca-receive-spec =
@@ -23,9 +17,9 @@ sca-receive-spec =
     (λ c κs. search needs)
     (λ c κs. search needs)
     (λ c κs. search needs)
-    pack-received-requires
+    (λ c κs. rw (c .before .before .before .before .before .before .receive .ensures .0) (received-small _ _ _ _))
     (λ c. search needs)
     (λ c. search needs)
     returns
     (λ c κs. search needs)
-    returns-2)
+    (λ c. read-refused _ _ _ _ (c .before .if1 .left) (c .wide .ensures .0)))

@@ -10,9 +10,6 @@ returns : tie.Need-returns
 returns c =
     rw (eq-eqb _ 24 (c .before .before .before .before .before .before .if1 .taken)) (c .wide .ensures .0, c .before .before .before .spell .ensures ∙ ap receiverBytes (c .before .before .before .before .before .new .ensures))
 
-returns-2 : tie.Need-returns-2
-returns-2 c = rw (ne-eqb _ 24 (c .before .if1 .left)) (c .wide2 .ensures .0, refl)
-
 pub sca-receiver-new-spec : {M : Type 1} → statement M
 sca-receiver-new-spec =
     tie.close
@@ -23,4 +20,4 @@ sca-receiver-new-spec =
     (λ c. search needs)
     returns
     (λ c κs. search needs)
-    returns-2)
+    (λ c. rw (ne-eqb _ 24 (c .before .if1 .left)) (c .wide2 .ensures .0, refl)))

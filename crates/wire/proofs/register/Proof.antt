@@ -18,21 +18,6 @@ Inv-loop s c₀ i₀ c i = (i ≤ length s) × (register preset (wire s) ≡ reg
 abbrev μ-loop : tie.MeasureT-loop
 μ-loop s c₀ i₀ c i = length s - i
 
-loop-holds : tie.Need-loop-holds Inv-loop μ-loop
-loop-holds c = (omega arith, refl)
-
-shared-slice-read-register-byte : tie.Need-shared-slice-read-register-byte Inv-loop μ-loop
-shared-slice-read-register-byte c = search needs
-
-register-byte-requires : tie.Need-register-byte-requires Inv-loop μ-loop
-register-byte-requires c κs = search needs
-
-add-i : tie.Need-add-i Inv-loop μ-loop
-add-i c = search needs
-
-loop-less : tie.Need-loop-less Inv-loop μ-loop
-loop-less c = search needs
-
 loop-again : tie.Need-loop-again Inv-loop μ-loop
 loop-again c =
     let l = c .before .before .before .loop in
@@ -51,10 +36,10 @@ register-spec =
     (tie.spec
     Inv-loop
     μ-loop
-    loop-holds
-    shared-slice-read-register-byte
-    register-byte-requires
-    add-i
-    loop-less
+    (λ c. (omega arith, refl))
+    (λ c. search needs)
+    (λ c κs. search needs)
+    (λ c. search needs)
+    (λ c. search needs)
     loop-again
     returns)

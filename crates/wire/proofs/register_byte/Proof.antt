@@ -7,18 +7,6 @@ use borrow.Author.Needs.{needs}
 use Rattle.wire.proofs.register_byte.Statement.{statement}
 use Rattle.wire.proofs.register_byte.Tie as tie
 
-cast-register-four : tie.Need-cast-register-four
-cast-register-four c = search needs
-
-register-four-requires : tie.Need-register-four-requires
-register-four-requires c κs = search needs
-
-cast-register-four-2 : tie.Need-cast-register-four-2
-cast-register-four-2 c = search needs
-
-register-four-requires-2 : tie.Need-register-four-requires-2
-register-four-requires-2 c κs = search needs
-
 returns : tie.Need-returns
 returns c =
     let a = c .before .before .args in
@@ -28,8 +16,8 @@ pub register-byte-spec : {M : Type 1} → statement M
 register-byte-spec =
     tie.close
     (tie.spec
-    cast-register-four
-    register-four-requires
-    cast-register-four-2
-    register-four-requires-2
+    (λ c. search needs)
+    (λ c κs. search needs)
+    (λ c. search needs)
+    (λ c κs. search needs)
     returns)

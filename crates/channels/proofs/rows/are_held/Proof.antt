@@ -1,13 +1,49 @@
--- `rows::are_held` meets its contract. Assumes nothing.
+-- `rows::are_held` meets its contract. The invariant: those that are left decide. Assumes nothing.
+use Prim.Native.Nat.{ℕ, suc, _+_, _-_, _≤_, _<_}
+use mathlib.Core.Bool.{Bool, _&&_}
+use mathlib.Core.List.{List}
+use mathlib.Core.Path.{_≡_, refl, sym, ap, _∙_}
+use native.Mathlib.Omega.{arith}
 use borrow.Author.Needs.{needs}
-use Rattle.channels.proofs.Cases.{all-hold}
+use lib.ListN.{length, getD, drop}
+use lib.Seq.{drop-cons}
+use Rattle.bits.proofs.Tests.{and-true, and-assoc}
+use Rattle.commands.specs.declared.channel.Channel.{Channel}
+use Rattle.commands.specs.Channels.{channelOf}
+use Rattle.channels.specs.Rows.{dropping, stillHeld, areHeld, allHeld}
 use Rattle.channels.proofs.rows.are_held.Statement.{statement}
 use Rattle.channels.proofs.rows.are_held.Tie as tie
+
+abbrev Inv-loop : tie.InvT-loop
+Inv-loop registers numbers all₀ i₀ all i = (i ≤ length dropping) × ((all && areHeld (drop i dropping) registers) ≡ allHeld registers)
+
+abbrev μ-loop : tie.MeasureT-loop
+μ-loop registers numbers all₀ i₀ all i = length dropping - i
+
+one-more : (cs rs : List ℕ) (all one due : Bool) (i : ℕ) (ch : Channel) → i < length cs → ch ≡ channelOf (getD cs i 0) → one ≡ stillHeld rs ch
+    → (all && areHeld (drop i cs) rs) ≡ due → (all && one && areHeld (drop (i + 1) cs) rs) ≡ due
+unfolding areHeld
+one-more cs rs all one due i ch l c e h =
+    let f : i + 1 ≡ suc i = omega arith in
+    rw (f, e, c) (sym (and-assoc all _ _) ∙ sym (ap (λ (s : List ℕ). all && areHeld s rs) (drop-cons cs i 0 l)) ∙ h)
+
+ended : (rs : List ℕ) (all due : Bool) (i : ℕ) → length dropping ≤ i → i ≤ length dropping → (all && areHeld (drop i dropping) rs) ≡ due → all ≡ due
+unfolding areHeld
+ended rs all due i l m h =
+    let f : i ≡ length dropping = omega arith in
+    sym (and-true all) ∙ (rw f at h)
 
 pub are-held-spec : {M : Type 1} → statement M
 are-held-spec =
     tie.close
     (tie.spec
+    Inv-loop
+    μ-loop
+    (λ c. (search needs, refl))
+    (λ c. search needs)
     (λ c κs. search needs)
     (λ c κs. search needs)
-    (λ c. search all-hold))
+    (λ c. search needs)
+    (λ c. search needs)
+    (λ c. (search needs, one-more dropping _ (c .before .before .before .loop .all) _ _ _ _ (c .before .before .loop-test .taken) (c .before .channel-of .ensures) (c .still-holds .ensures) (c .before .before .before .loop .inv .1)))
+    (λ c. search (ended, needs)))

@@ -1,6 +1,6 @@
 -- `rows::hold` meets its contract. Assumes nothing.
 use borrow.Author.Needs.{needs}
-use Rattle.channels.proofs.Cases.{keeps, inside, drops, spares}
+use Rattle.channels.proofs.Cases.{keeps, inside, drops}
 use Rattle.channels.proofs.rows.hold.Statement.{statement}
 use Rattle.channels.proofs.rows.hold.Tie as tie
 
@@ -9,8 +9,9 @@ hold-spec =
     tie.close
     (tie.spec
     (λ c κs. search needs)
-    (λ c. search keeps)
+    (λ c. search needs)
+    (λ c. search (keeps, inside, drops))
     (λ c κs. search needs)
-    (λ c κs. search inside)
-    (λ c. search drops)
-    (λ c. search spares))
+    (λ c κs. search (keeps, inside, drops))
+    (λ c. search needs)
+    (λ c. search (keeps, inside, drops)))

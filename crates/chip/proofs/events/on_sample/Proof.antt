@@ -8,13 +8,16 @@ pub on-sample-spec : {M : Type 1} → statement M
 on-sample-spec =
     tie.close
     (tie.spec
+    (λ c. search needs)
     (λ c κs. search needs)
+    (λ c. search needs)
     (λ c κs. search needs)
+    (λ c. search needs)
     (λ c κs. search needs)
     (λ c κs. search needs)
     (λ c κs. search needs)
     (λ c κs. search needs)
     (λ c. search needs)
-    (λ c. search interrupted)
-    (λ c. search taken)
-    (λ c. search disabled))
+    (λ c. search (interrupted, taken, disabled))
+    (λ c. search (interrupted, taken, disabled))
+    (λ c. search (interrupted, taken, disabled)))

@@ -9,6 +9,8 @@ unfolding inRange
 in-range-spec =
     tie.close
     (tie.spec
+    (λ c. search needs)
     (λ c κs. search needs)
+    (λ c. search needs)
     (λ c κs. search needs)
-    (λ c. simp (c .are-held .ensures, c .before .are-within .ensures)))
+    (λ c. simp (c .are-held .ensures, c .before .before .are-within .ensures)))

@@ -22,9 +22,6 @@ loop-holds c = (search needs, refl, refl)
 loop-again : tie.Need-loop-again Inv-loop μ-loop
 loop-again c = (simp length-set (omega arith), simp length-set (omega arith), pair-more _ _ _ _ (omega arith) (c .pair-at .ensures) (c .before .before .loop .inv .2))
 
-returns : tie.Need-returns Inv-loop μ-loop
-returns c = pair-all _ _ (c .before .loop .i) _ (omega arith) (omega arith) (c .before .loop .inv .2)
-
 pub load-pairs-spec : {M : Type 1} → statement M
 load-pairs-spec =
     tie.close
@@ -39,4 +36,4 @@ load-pairs-spec =
     (λ c. simp length-set (omega arith))
     loop-again
     (λ c. search needs)
-    returns)
+    (λ c. pair-all _ _ (c .before .loop .i) _ (omega arith) (omega arith) (c .before .loop .inv .2)))

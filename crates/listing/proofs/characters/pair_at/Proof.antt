@@ -7,17 +7,11 @@ use Rattle.listing.proofs.Hex.{is-small}
 use Rattle.listing.proofs.characters.pair_at.Statement.{statement}
 use Rattle.listing.proofs.characters.pair_at.Tie as tie
 
-mul-result : tie.Need-mul-result
-mul-result c = let h = is-small _ _ (c .before .before .hex-value .ensures) in omega arith
-
 add-result : tie.Need-add-result
 add-result c =
     let h = is-small _ _ (c .before .before .hex-value .ensures) in
     let l = is-small _ _ (c .hex-value2 .ensures) in
     omega arith
-
-returns : tie.Need-returns
-returns c = simp (getD-drop, add-zero, c .hex-value2 .ensures, c .before .before .hex-value .ensures)
 
 pub pair-at-spec : {M : Type 1} → statement M
 pair-at-spec =
@@ -28,6 +22,6 @@ pair-at-spec =
     (λ c. search needs)
     (λ c. search needs)
     (λ c κs. search needs)
-    mul-result
+    (λ c. let h = is-small _ _ (c .before .before .hex-value .ensures) in omega arith)
     add-result
-    returns)
+    (λ c. simp (getD-drop, add-zero, c .hex-value2 .ensures, c .before .before .hex-value .ensures)))

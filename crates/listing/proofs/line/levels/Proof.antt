@@ -5,9 +5,6 @@ use Rattle.listing.proofs.Reading.{levels-are}
 use Rattle.listing.proofs.line.levels.Statement.{statement}
 use Rattle.listing.proofs.line.levels.Tie as tie
 
-returns : tie.Need-returns
-returns c = c .word-of .ensures ∙ search (levels-are)
-
 pub levels-spec : {M : Type 1} → statement M
 levels-spec =
     tie.close
@@ -22,4 +19,4 @@ levels-spec =
     (λ c. search needs)
     (λ c. search needs)
     (λ c κs. search needs)
-    returns)
+    (λ c. c .word-of .ensures ∙ search (levels-are)))

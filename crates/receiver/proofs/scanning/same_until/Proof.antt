@@ -30,9 +30,6 @@ returns-2 c =
     let v = c .before .loop .inv in
     record { least = v .0; most = v .1; bytes = v .2; none = λ h. apart (sym h ∙ c .before .before .if1 .taken) }
 
-returns-3 : tie.Need-returns-3 Inv-loop μ-loop
-returns-3 c = record { least = search needs; most = search needs; bytes = λ k p q. absurd (omega arith); none = λ h. refl }
-
 pub same-until-spec : {M : Type 1} → statement M
 same-until-spec =
     tie.close
@@ -46,4 +43,4 @@ same-until-spec =
     (λ c. search needs)
     loop-again
     returns-2
-    returns-3)
+    (λ c. record { least = search needs; most = search needs; bytes = λ k p q. absurd (omega arith); none = λ h. refl }))

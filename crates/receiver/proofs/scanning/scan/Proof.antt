@@ -34,24 +34,6 @@ Inv-bytes s from c₀ bytes₀ used₀ hit₀ skip₀ i₀ c bytes used hit skip
 abbrev μ-bytes : tie.MeasureT-bytes
 μ-bytes s from c₀ bytes₀ used₀ hit₀ skip₀ i₀ c bytes used hit skip i = length s - i
 
-bytes-holds : tie.Need-bytes-holds Inv-loop μ-loop Inv-bytes μ-bytes
-bytes-holds c = (c .before .pre .0, refl, c .before .pre .1 .0, omega arith, omega arith, refl)
-
-shared-slice-read-byte : tie.Need-shared-slice-read-byte Inv-loop μ-loop Inv-bytes μ-bytes
-shared-slice-read-byte c = search needs
-
-array-read-first : tie.Need-array-read-first Inv-loop μ-loop Inv-bytes μ-bytes
-array-read-first c = search needs
-
-cast-w : tie.Need-cast-w Inv-loop μ-loop Inv-bytes μ-bytes
-cast-w c = search needs
-
-shr-w : tie.Need-shr-w Inv-loop μ-loop Inv-bytes μ-bytes
-shr-w c = search needs
-
-sub-left : tie.Need-sub-left Inv-loop μ-loop Inv-bytes μ-bytes
-sub-left c = search needs
-
 loop-holds : tie.Need-loop-holds Inv-loop μ-loop Inv-bytes μ-bytes
 loop-holds c =
     let o = c .before .before .bytes in (
@@ -62,30 +44,6 @@ loop-holds c =
       omega arith,
       λ n r. let e : n ≡ n + (8 - o .skip - (8 - o .skip)) = omega arith in ap (λ x. runs (stateOf (o .c) (o .bytes)) x _) e,
     )
-
-sub-left-2 : tie.Need-sub-left-2 Inv-loop μ-loop Inv-bytes μ-bytes
-sub-left-2 c = search needs
-
-add-used : tie.Need-add-used Inv-loop μ-loop Inv-bytes μ-bytes
-add-used c = let l = c .before .loop in omega (arith, l .inv .4, l .inv .3, l .inv .2, c .before .before .before .before .bytes .inv .4)
-
-add-choose : tie.Need-add-choose Inv-loop μ-loop Inv-bytes μ-bytes
-add-choose c = search needs
-
-choose-requires : tie.Need-choose-requires Inv-loop μ-loop Inv-bytes μ-bytes
-choose-requires c κs = search needs
-
-add-hit : tie.Need-add-hit Inv-loop μ-loop Inv-bytes μ-bytes
-add-hit c = search needs
-
-sub-t32 : tie.Need-sub-t32 Inv-loop μ-loop Inv-bytes μ-bytes
-sub-t32 c = search needs
-
-mul-t33 : tie.Need-mul-t33 Inv-loop μ-loop Inv-bytes μ-bytes
-mul-t33 c = search needs
-
-loop-less : tie.Need-loop-less Inv-loop μ-loop Inv-bytes μ-bytes
-loop-less c = search needs
 
 loop-again : tie.Need-loop-again Inv-loop μ-loop Inv-bytes μ-bytes
 loop-again c =
@@ -107,32 +65,11 @@ step-requires c κs =
     let g = c .before .before .before .loop .inv .0 in
     (g .mode, g .ones, g .lead, g .count, omega arith)
 
-cast-at : tie.Need-cast-at Inv-loop μ-loop Inv-bytes μ-bytes
-cast-at c = search needs
-
-sub-choose : tie.Need-sub-choose Inv-loop μ-loop Inv-bytes μ-bytes
-sub-choose c = c .before .step .ensures .grows
-
-choose-requires-2 : tie.Need-choose-requires-2 Inv-loop μ-loop Inv-bytes μ-bytes
-choose-requires-2 c κs = search needs
-
-array-read-bytes : tie.Need-array-read-bytes Inv-loop μ-loop Inv-bytes μ-bytes
-array-read-bytes c = search needs
-
-shl-bytes : tie.Need-shl-bytes Inv-loop μ-loop Inv-bytes μ-bytes
-shl-bytes c = search needs
-
 add-bytes : tie.Need-add-bytes Inv-loop μ-loop Inv-bytes μ-bytes
 add-bytes c =
     let l = c .before .before .before .before .before .before .loop in
     let k = c .choose2 .ensures in
     record { fits = byte-fits (l .bytes) (l .c .count) (c .choose2 .result) (small (c .before .before .step .result .count - l .c .count) (l .w % 2) (c .choose2 .result) (omega arith) (k .0) (k .1)) (l .inv .0 .rest) }
-
-array-write-bytes : tie.Need-array-write-bytes Inv-loop μ-loop Inv-bytes μ-bytes
-array-write-bytes c = search needs
-
-loop-less-2 : tie.Need-loop-less-2 Inv-loop μ-loop Inv-bytes μ-bytes
-loop-less-2 c = search needs
 
 loop-again-2 : tie.Need-loop-again-2 Inv-loop μ-loop Inv-bytes μ-bytes
 loop-again-2 c =
@@ -151,29 +88,8 @@ loop-again-2 c =
       λ n r. l .inv .5 n r ∙ gone-on (stateOf (l .c) (l .bytes)) _ n _ (l .left) (l .w) r (l .inv .3) p e (state-after (l .c) (l .bytes) (l .w % 2) (s .result) _ (omega arith) n6 (l .inv .0) (s .ensures) k),
     )
 
-array-read-is-idle : tie.Need-array-read-is-idle Inv-loop μ-loop Inv-bytes μ-bytes
-array-read-is-idle c = search needs
-
-is-idle-requires : tie.Need-is-idle-requires Inv-loop μ-loop Inv-bytes μ-bytes
-is-idle-requires c κs = search needs
-
-add-next : tie.Need-add-next Inv-loop μ-loop Inv-bytes μ-bytes
-add-next c = search needs
-
-same-until-requires : tie.Need-same-until-requires Inv-loop μ-loop Inv-bytes μ-bytes
-same-until-requires c κs = search needs
-
-sub-used : tie.Need-sub-used Inv-loop μ-loop Inv-bytes μ-bytes
-sub-used c = omega (arith, c .same-until .ensures .least)
-
-mul-used : tie.Need-mul-used Inv-loop μ-loop Inv-bytes μ-bytes
-mul-used c = omega (arith, c .same-until .ensures .most, c .before .before .before .before .before .before .before .before .pre .1 .1)
-
 add-used-2 : tie.Need-add-used-2 Inv-loop μ-loop Inv-bytes μ-bytes
 add-used-2 c = let l = c .before .before .before .loop in omega (arith, c .same-until .ensures .most, c .before .before .before .before .before .before .before .before .pre .1 .1, l .inv .4, l .inv .2, c .before .before .before .before .before .before .bytes .inv .4, c .before .before .before .before .before .before .bytes .inv .3)
-
-bytes-less : tie.Need-bytes-less Inv-loop μ-loop Inv-bytes μ-bytes
-bytes-less c = omega (arith, c .same-until .ensures .least, c .before .before .before .before .before .bytes-test .taken)
 
 bytes-again : tie.Need-bytes-again Inv-loop μ-loop Inv-bytes μ-bytes
 bytes-again c =
@@ -228,40 +144,40 @@ scan-spec =
     μ-loop
     Inv-bytes
     μ-bytes
-    bytes-holds
-    shared-slice-read-byte
-    array-read-first
-    cast-w
-    shr-w
-    sub-left
+    (λ c. (c .before .pre .0, refl, c .before .pre .1 .0, omega arith, omega arith, refl))
+    (λ c. search needs)
+    (λ c. search needs)
+    (λ c. search needs)
+    (λ c. search needs)
+    (λ c. search needs)
     loop-holds
-    sub-left-2
-    add-used
-    add-choose
-    choose-requires
-    add-hit
-    sub-t32
-    mul-t33
-    loop-less
+    (λ c. search needs)
+    (λ c. let l = c .before .loop in omega (arith, l .inv .4, l .inv .3, l .inv .2, c .before .before .before .before .bytes .inv .4))
+    (λ c. search needs)
+    (λ c κs. search needs)
+    (λ c. search needs)
+    (λ c. search needs)
+    (λ c. search needs)
+    (λ c. search needs)
     loop-again
     step-requires
-    cast-at
-    sub-choose
-    choose-requires-2
-    array-read-bytes
-    shl-bytes
+    (λ c. search needs)
+    (λ c. c .before .step .ensures .grows)
+    (λ c κs. search needs)
+    (λ c. search needs)
+    (λ c. search needs)
     add-bytes
-    array-write-bytes
-    loop-less-2
+    (λ c. search needs)
+    (λ c. search needs)
     loop-again-2
-    array-read-is-idle
-    is-idle-requires
-    add-next
-    same-until-requires
-    sub-used
-    mul-used
+    (λ c. search needs)
+    (λ c κs. search needs)
+    (λ c. search needs)
+    (λ c κs. search needs)
+    (λ c. omega (arith, c .same-until .ensures .least))
+    (λ c. omega (arith, c .same-until .ensures .most, c .before .before .before .before .before .before .before .before .pre .1 .1))
     add-used-2
-    bytes-less
+    (λ c. omega (arith, c .same-until .ensures .least, c .before .before .before .before .before .bytes-test .taken))
     bytes-again
     returns
     returns-2)

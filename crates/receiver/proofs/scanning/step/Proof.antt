@@ -5,24 +5,6 @@ use borrow.Author.Needs.{needs}
 use Rattle.receiver.proofs.scanning.step.Statement.{statement}
 use Rattle.receiver.proofs.scanning.step.Tie as tie
 
-under-requires : tie.Need-under-requires
-under-requires c κs = search needs
-
-under-requires-2 : tie.Need-under-requires-2
-under-requires-2 c κs = search needs
-
-under-requires-3 : tie.Need-under-requires-3
-under-requires-3 c κs = search needs
-
-add-up : tie.Need-add-up
-add-up c = omega (arith, c .under3 .ensures .2, c .before .before .before .pre .1)
-
-choose-requires : tie.Need-choose-requires
-choose-requires c κs = search needs
-
-choose-requires-2 : tie.Need-choose-requires-2
-choose-requires-2 c κs = search needs
-
 add-t12 : tie.Need-add-t12
 add-t12 c = omega (arith, c .before .before .before .under2 .ensures .2, c .before .before .before .before .under .ensures .2, c .before .before .before .before .before .pre .0, c .before .before .before .before .before .pre .3)
 
@@ -53,11 +35,11 @@ pub step-spec : {M : Type 1} → statement M
 step-spec =
     tie.close
     (tie.spec
-    under-requires
-    under-requires-2
-    under-requires-3
-    add-up
-    choose-requires
-    choose-requires-2
+    (λ c κs. search needs)
+    (λ c κs. search needs)
+    (λ c κs. search needs)
+    (λ c. omega (arith, c .under3 .ensures .2, c .before .before .before .pre .1))
+    (λ c κs. search needs)
+    (λ c κs. search needs)
     add-t12
     returns)

@@ -19,20 +19,11 @@ returns-2 c =
     bare-flag _ _ (flag-broken (s .args .t1) (s .args .bits) (s .pre .0) (s .pre .1) (s .pre .2) (c .before .before .before .if1 .left) (c .before .before .if2 .taken))
     (c .before .at-opening2 .ensures) (c .bare2 .ensures)
 
-slice-aggregate-register : tie.Need-slice-aggregate-register
-slice-aggregate-register c = let p = c .before .before .before .before .pre in sym (length-front _ _ (p .2) (omega (arith, p .1)))
-
 returns-3 : tie.Need-returns-3
 returns-3 c =
     let s = c .before .before .before .before .before .before .before .before in
     bare-flag _ _ (flag-wrong (s .args .t1) (s .args .bits) (s .pre .0) (s .pre .1) (s .pre .2) (c .before .before .before .before .before .before .if1 .left) (c .before .before .before .before .before .if2 .left) (λ z. c .before .before .if3 .taken (c .before .before .before .register .ensures ∙ z)))
     (c .before .at-opening3 .ensures) (c .bare3 .ensures)
-
-slice-aggregate-store : tie.Need-slice-aggregate-store
-slice-aggregate-store c = let p = c .before .before .before .before .before .before .before .before .pre in sym (length-front _ _ (p .2) (omega (arith, p .1)))
-
-store-requires : tie.Need-store-requires
-store-requires c κs = simp length-take (omega (arith, c .before .before .before .before .before .before .before .before .pre .4))
 
 returns-4 : tie.Need-returns-4
 returns-4 c =
@@ -53,15 +44,15 @@ at-flag-spec =
     returns-2
     (λ c. search needs)
     (λ c. search needs)
-    slice-aggregate-register
+    (λ c. let p = c .before .before .before .before .pre in sym (length-front _ _ (p .2) (omega (arith, p .1))))
     (λ c κs. search needs)
     (λ c κs. search needs)
     (λ c κs. search needs)
     returns-3
     (λ c. search needs)
     (λ c. search needs)
-    slice-aggregate-store
-    store-requires
+    (λ c. let p = c .before .before .before .before .before .before .before .before .pre in sym (length-front _ _ (p .2) (omega (arith, p .1))))
+    (λ c κs. simp length-take (omega (arith, c .before .before .before .before .before .before .before .before .pre .4)))
     (λ c κs. search needs)
     (λ c. search needs)
     returns-4)

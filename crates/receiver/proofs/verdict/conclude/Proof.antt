@@ -11,9 +11,6 @@ returns c =
     let s = c .before .before .before .before .before in
     conclude-out (s .args .stop) (s .pre .0) _ (c .before .if1 .taken) refl (c .bare .ensures)
 
-sub-bits : tie.Need-sub-bits
-sub-bits c = omega (arith, c .before .before .before .before .before .before .before .pre .1 .0 (c .before .before .if2 .taken))
-
 at-flag-requires : tie.Need-at-flag-requires
 at-flag-requires c κs =
     let s = c .before .before .before .before .before .before .before .before in
@@ -38,7 +35,7 @@ conclude-spec =
     (λ c κs. search needs)
     returns
     (λ c. search needs)
-    sub-bits
+    (λ c. omega (arith, c .before .before .before .before .before .before .before .pre .1 .0 (c .before .before .if2 .taken)))
     at-flag-requires
     (λ c. search needs)
     returns-2

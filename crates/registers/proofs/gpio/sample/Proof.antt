@@ -1,6 +1,6 @@
 -- `gpio::sample` meets its contract. Assumes nothing.
 use borrow.Author.Needs.{needs}
-use Rattle.registers.proofs.Pins.{interrupts, none-fired, disabled}
+use Rattle.registers.proofs.Pins.{interrupting, none-fired, disabled, fired-left, taken-left}
 use Rattle.registers.proofs.gpio.sample.Statement.{statement}
 use Rattle.registers.proofs.gpio.sample.Tie as tie
 
@@ -13,6 +13,9 @@ sample-spec =
     (λ c κs. search needs)
     (λ c κs. search needs)
     (λ c κs. search needs)
-    (λ c. search interrupts)
-    (λ c. search none-fired)
-    (λ c. search disabled))
+    (λ c. search needs)
+    (λ c. (search interrupting, search (fired-left, interrupting)))
+    (λ c. search needs)
+    (λ c. (search none-fired, search (taken-left, none-fired)))
+    (λ c. search needs)
+    (λ c. (search disabled, search (taken-left, disabled))))

@@ -7,23 +7,11 @@ use borrow.Author.Needs.{needs}
 use Rattle.transmitter.proofs.framing.stuff_byte.Statement.{statement}
 use Rattle.transmitter.proofs.framing.stuff_byte.Tie as tie
 
-cast-stuff-four : tie.Need-cast-stuff-four
-cast-stuff-four c = search needs
-
-stuff-four-requires : tie.Need-stuff-four-requires
-stuff-four-requires c κs = search needs
-
-cast-stuff-four-2 : tie.Need-cast-stuff-four-2
-cast-stuff-four-2 c = search needs
-
 stuff-four-requires-2 : tie.Need-stuff-four-requires-2
 stuff-four-requires-2 c κs =
     let w = c .before .before .before .stuff-four .ensures in
     let p = c .before .before .before .before .before .before .pre in
     (omega (arith, w .raw .size, p .0), omega (arith, rw length-low at (w .most), p .1), w .raw .held, w .short, omega arith)
-
-same-length : tie.Need-same-length
-same-length c = search needs
 
 returns : tie.Need-returns
 returns c =
@@ -34,9 +22,9 @@ pub stuff-byte-spec : {M : Type 1} → statement M
 stuff-byte-spec =
     tie.close
     (tie.spec
-    cast-stuff-four
-    stuff-four-requires
-    cast-stuff-four-2
+    (λ c. search needs)
+    (λ c κs. search needs)
+    (λ c. search needs)
     stuff-four-requires-2
-    same-length
+    (λ c. search needs)
     returns)

@@ -22,22 +22,10 @@ Inv-loop out₀ s p₀ i₀ out p i =
 abbrev μ-loop : tie.MeasureT-loop
 μ-loop out₀ s p₀ i₀ out p i = length s - i
 
-loop-holds : tie.Need-loop-holds Inv-loop μ-loop
-loop-holds c = (omega arith, c .before .before .pre .4, c .before .before .pre .2, refl, c .before .before .pre .3, λ r n h k w. w)
-
-shared-slice-read-stuff-byte : tie.Need-shared-slice-read-stuff-byte Inv-loop μ-loop
-shared-slice-read-stuff-byte c = search needs
-
 stuff-byte-requires : tie.Need-stuff-byte-requires Inv-loop μ-loop
 stuff-byte-requires c κs =
     let l = c .before .before .before .loop in
     (omega (arith, c .before .before .before .before .before .before .pre .0, l .inv .3), omega (arith, l .inv .2, c .before .before .loop-test .taken, c .before .before .before .before .before .before .pre .1), l .inv .4, l .inv .1)
-
-add-i : tie.Need-add-i Inv-loop μ-loop
-add-i c = search needs
-
-loop-less : tie.Need-loop-less Inv-loop μ-loop
-loop-less c = search needs
 
 loop-again : tie.Need-loop-again Inv-loop μ-loop
 loop-again c =
@@ -52,9 +40,6 @@ loop-again c =
       λ r n h k v. l .inv .5 r n h k (rw (wire-cons (now (c .before .before .before .before .before .before .before .before .before .args .s)) (l .i) t) (written-then w v)),
     )
 
-same-length : tie.Need-same-length Inv-loop μ-loop
-same-length c = search needs
-
 returns : tie.Need-returns Inv-loop μ-loop
 returns c =
     let l = c .before .loop in
@@ -67,11 +52,11 @@ stuff-bytes-spec =
     (tie.spec
     Inv-loop
     μ-loop
-    loop-holds
-    shared-slice-read-stuff-byte
+    (λ c. (omega arith, c .before .before .pre .4, c .before .before .pre .2, refl, c .before .before .pre .3, λ r n h k w. w))
+    (λ c. search needs)
     stuff-byte-requires
-    add-i
-    loop-less
+    (λ c. search needs)
+    (λ c. search needs)
     loop-again
-    same-length
+    (λ c. search needs)
     returns)

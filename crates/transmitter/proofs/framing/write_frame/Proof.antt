@@ -11,23 +11,11 @@ use borrow.Author.Needs.{needs}
 use Rattle.transmitter.proofs.framing.write_frame.Statement.{statement}
 use Rattle.transmitter.proofs.framing.write_frame.Tie as tie
 
-register-requires : tie.Need-register-requires
-register-requires c κs = search needs
-
-sub-check : tie.Need-sub-check
-sub-check c = search needs
-
-put-requires : tie.Need-put-requires
-put-requires c κs = search needs
-
 stuff-bytes-requires : tie.Need-stuff-bytes-requires
 stuff-bytes-requires c κs =
     let a = c .before .before .before .put .ensures in
     let p = c .before .before .before .before .before .before .before .before .pre in
     (omega (arith, a .0 .size, p .1), p .0, omega (arith, rw length-low at (a .0 .count), a .1), a .0 .held, omega (arith, a .1))
-
-cast-stuff-byte : tie.Need-cast-stuff-byte
-cast-stuff-byte c = search needs
 
 stuff-byte-requires : tie.Need-stuff-byte-requires
 stuff-byte-requires c κs =
@@ -35,9 +23,6 @@ stuff-byte-requires c κs =
     let a = c .before .before .before .before .before .before .before .put .ensures in
     let p = c .before .before .before .before .before .before .before .before .before .before .before .before .pre in
     (omega (arith, w .raw .size, a .0 .size, p .1), omega (arith, rw length-low at (a .0 .count), a .1, rw length-wire at (w .most), p .0), w .raw .held, omega (arith, w .short))
-
-cast-stuff-byte-2 : tie.Need-cast-stuff-byte-2
-cast-stuff-byte-2 c = search needs
 
 stuff-byte-requires-2 : tie.Need-stuff-byte-requires-2
 stuff-byte-requires-2 c κs =
@@ -66,9 +51,6 @@ fill-requires c κs =
     let p = c .before .before .before .before .before .before .before .before .before .before .before .before .before .before .before .before .before .before .before .before .before .before .before .before .pre in
     (omega (arith, d .size, u .raw .size, v .raw .size, w .raw .size, a .0 .size, p .1), omega (arith, rw length-low at (a .0 .count), a .1, rw length-wire at (w .most), rw length-low at (v .most), rw length-low at (u .most), rw length-low at (d .count), p .0), d .held)
 
-same-length : tie.Need-same-length
-same-length c = search needs
-
 returns : tie.Need-returns
 returns c =
     let f = c .before .before .fill .ensures in
@@ -85,15 +67,15 @@ pub write-frame-spec : {M : Type 1} → statement M
 write-frame-spec =
     tie.close
     (tie.spec
-    register-requires
-    sub-check
-    put-requires
+    (λ c κs. search needs)
+    (λ c. search needs)
+    (λ c κs. search needs)
     stuff-bytes-requires
-    cast-stuff-byte
+    (λ c. search needs)
     stuff-byte-requires
-    cast-stuff-byte-2
+    (λ c. search needs)
     stuff-byte-requires-2
     put-requires-2
     fill-requires
-    same-length
+    (λ c. search needs)
     returns)
