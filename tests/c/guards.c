@@ -169,7 +169,8 @@ static void lengths_of_outputs(void) {
     for (size_t length = 0; length <= 25; length++) {
         lend_all();
         lend(&output, length);
-        good &= (number_of(which, &good) == SCA_SHORT_OUTPUT) == (length < SCA_OUTPUT_LEAST);
+        unsigned number = number_of(which, &good);
+        good &= (number == SCA_SHORT_OUTPUT) == (length < SCA_OUTPUT_LEAST);
     }
     check(good, "outputs of 0 to 25 bytes");
 }
@@ -183,7 +184,8 @@ static void lengths_of_journals(void) {
         EACH_CALL(STEP_BACK) {
             lend_all();
             memcpy(lend(&journal, length), some_journal, length < SCA_JOURNAL_BYTES ? length : SCA_JOURNAL_BYTES);
-            good &= (number_of(which, &good) == SCA_BAD_JOURNAL) == !right;
+            unsigned number = number_of(which, &good);
+            good &= (number == SCA_BAD_JOURNAL) == !right;
         }
         for (at_end = 0; at_end <= 1; at_end++) {
             lend(&journal, length);
@@ -227,7 +229,8 @@ static void bits_of_states(void) {
             lend_all();
             state.at[bit / 8] ^= (uint8_t)(1 << bit % 8);
             ranged = in_range(state.at);
-            good &= (number_of(which, &good) == SCA_BAD_STATE) == !ranged;
+            unsigned number = number_of(which, &good);
+            good &= (number == SCA_BAD_STATE) == !ranged;
         }
     }
     check(good, "states with any one bit flipped");
@@ -265,7 +268,8 @@ static void lengths_of_states(void) {
         EACH_CALL(STEP_BACK) {
             lend_all();
             memset(lend(&state, length), 0, length);
-            good &= (number_of(which, &good) == SCA_BAD_STATE) == (length != SCA_STATE_BYTES);
+            unsigned number = number_of(which, &good);
+            good &= (number == SCA_BAD_STATE) == (length != SCA_STATE_BYTES);
         }
         for (at_end = 0; at_end <= 1; at_end++)
             for (uint32_t id = SCA_ID_MOST; id <= SCA_ID_MOST + 1; id++) {
@@ -326,7 +330,8 @@ static void order(void) {
             if (wrong & 4) lend(&output, SCA_OUTPUT_LEAST - 1);
             if (wrong & 8) port = at_end ? 256 : 2;
             if (wrong & 16) lend(&body, SCA_BODY_MOST + 1);
-            good &= number_of(FRAME, &good) == first;
+            unsigned number = number_of(FRAME, &good);
+            good &= number == first;
         }
     check(good, "of several reasons the first in order");
 }

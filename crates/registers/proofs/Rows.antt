@@ -123,11 +123,11 @@ module _ (r : Register) (x : Row) (e : x ≡ rowOf r) where
     unfolding store
     has-stored v ss h = simp (h, e)
 
-    pub has-shown : (v : ℕ) → v ≡ read rs r → v * 2 ^ (x .low) % 2 ^ 32 ≡ shown rs r
-    has-shown v h = simp (h, e)
+    pub has-shown : (v : ℕ) → v ≡ number (part (x .place) (bytesIn (x .width)) rs) → v * 2 ^ (x .low) % 2 ^ 32 ≡ shown rs r
+    has-shown v h = simp (has-read v h, e)
 
-    pub has-written : (v : ℕ) (ss : List ℕ) → ss ≡ store rs r (v / 2 ^ (x .low)) → ss ≡ written rs r v
-    has-written v ss h = simp (h, e)
+    pub has-written : (v : ℕ) (ss : List ℕ) → ss ≡ put (x .place) (digits (bytesIn (x .width)) (bitAnd (v / 2 ^ (x .low)) (x .mask))) rs → ss ≡ written rs r v
+    has-written v ss h = simp (has-stored (v / 2 ^ (x .low)) ss h, e)
 
     pub has-within : (v : ℕ) → v ≡ read rs r → eqb (bitAnd v (x .mask)) v ≡ isWithin rs r
     has-within v h = simp (h, e)

@@ -89,7 +89,8 @@ pub fn show(registers: &[u8], which: Register) -> u32
     ensures { λ r. ⌜ r ≡ shown (now (registers .entry)) which ⌝ }
 {
     let row = row_of(which);
-    read(registers, which) << row.low
+    let width = row.width;
+    parts::number_at(registers, row.place, width) << row.low
 }
 
 // A register takes what stands for it in D.
@@ -98,7 +99,8 @@ pub fn write(registers: &mut [u8], which: Register, value: u32)
     ensures { λ _. ⌜ now (registers .exit) ≡ written (now (registers .entry)) which value ⌝ }
 {
     let row = row_of(which);
-    store(registers, which, value >> row.low);
+    let width = row.width;
+    parts::store_number(registers, row.place, width, (value >> row.low) & row.mask);
 }
 
 // Some bytes, from a place on, at 0.

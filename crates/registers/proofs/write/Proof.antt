@@ -1,6 +1,6 @@
 -- `write` meets its contract. Assumes nothing.
 use borrow.Author.Needs.{needs}
-use Rattle.registers.proofs.Rows.{low-below, has-written}
+use Rattle.registers.proofs.Rows.{inside, low-below, has-written}
 use Rattle.registers.proofs.write.Statement.{statement}
 use Rattle.registers.proofs.write.Tie as tie
 
@@ -9,7 +9,7 @@ write-spec =
     tie.close
     (tie.spec
     (λ c κs. search needs)
-    (λ c. search (low-below, has-written))
-    (λ c κs. search needs)
+    (λ c. search low-below)
+    (λ c κs. search (inside, needs))
     (λ c. search needs)
-    (λ c. search (low-below, has-written)))
+    (λ c. search has-written))
