@@ -4,9 +4,8 @@ use mathlib.Core.Bool.{Bool, false, not, cond, _||_}
 use mathlib.Core.List.{List}
 use lib.ListN.{length}
 use lib.Dec.{eqb, ltb}
-use Rattle.chip.specs.declared.Adapter.{Adapter}
 use Rattle.chip.specs.Event.{Completion, spi, Event, frame, completion, sample, upset}
-use Rattle.chip.specs.State.{inRange}
+use Rattle.state.specs.Bytes.{isState}
 use Rattle.journal.specs.Layout.{wellFormed, keptOf, past}
 use Rattle.journal.specs.Record.{sound}
 use Rattle.adapter.specs.declared.Verdict.{Verdict}
@@ -41,14 +40,14 @@ inOrder state journal output argument body =
     (cond body (Refused badBody) Passed))))
 
 -- of an event that is handed a state, a journal and an output
-unfoldable pub verdict : Adapter → List ℕ → Event → List ℕ → Verdict
-verdict a journal e output =
-    inOrder (not (inRange a)) (not (wellFormed journal)) (ltb (length output) outputLeast) (wrongArgument e) (wrongBody e)
+unfoldable pub verdict : List ℕ → List ℕ → Event → List ℕ → Verdict
+verdict s journal e output =
+    inOrder (not (isState s)) (not (wellFormed journal)) (ltb (length output) outputLeast) (wrongArgument e) (wrongBody e)
 
 -- Of a step back that is handed a state and a journal. A damaged record is a wrong journal; there is no record where the kept number is 0.
-unfoldable pub backVerdict : Adapter → List ℕ → Verdict
-backVerdict a journal =
-    cond (not (inRange a)) (Refused badState)
+unfoldable pub backVerdict : List ℕ → List ℕ → Verdict
+backVerdict s journal =
+    cond (not (isState s)) (Refused badState)
     (cond (not (wellFormed journal)) (Refused badJournal)
     (cond (eqb (keptOf journal) 0) (Refused noneKept)
-    (cond (not (sound a (past journal 0))) (Refused badJournal) Passed)))
+    (cond (not (sound s (past journal 0))) (Refused badJournal) Passed)))

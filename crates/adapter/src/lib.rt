@@ -1,7 +1,6 @@
-// The adapter as its users call it: every refusal in document 01's order, every event kept in the journal, steps back.
-use chip::Adapter;
+// The adapter as its users call it, on the bytes that they lend: every refusal in document 01's order, every event kept in the journal, steps
+// back.
 use chip::Response;
-use journal::image::BYTES;
 use numbers::BAD_ARGUMENT;
 use numbers::BAD_BODY;
 use numbers::BAD_ID;
@@ -15,21 +14,24 @@ use numbers::NONE_KEPT;
 use numbers::OUTPUT_LEAST;
 use numbers::SHORT_OUTPUT;
 use numbers::TRANSFER_BYTES;
+use state::RECORD;
 ghost use mathlib.Core.Path.{_≡_};
 ghost use mathlib.Core.Bool.{true, not};
+ghost use Prim.Native.Nat.{_≤_};
 ghost use lib.Dec.{ltb};
+ghost use lib.ListN.{length, take};
 ghost use Rattle.chip.specs.Event.{Completion, Event};
-ghost use Rattle.chip.specs.State.{inRange};
+ghost use Rattle.state.specs.Bytes.{recordBytes, stateSize, stateBytes, isState};
 ghost use Rattle.numbers.specs.Numbers.{outputLeast};
 ghost use Rattle.journal.specs.Layout.{wellFormed};
-ghost use Rattle.journal.specs.Image.{image};
 ghost use Rattle.adapter.specs.Refusals.{inOrder, backVerdict};
-ghost use Rattle.adapter.specs.Calls.{created, cleared, madeEmpty, keptIn, outcome, plain, joined, called, stepped, steppedBack};
+ghost use Rattle.adapter.specs.Calls.{made, created, madeEmpty, keptIn, outcome, plain, shown, joined, called, stepped, steppedBack};
 
-// A new adapter; with number 7 it is one that every call refuses.
-pub struct Created {
+// An event's answer: document 01's number, and with number 0 the port and the length of the frame in the output.
+pub struct Answer {
     pub number: u8,
-    pub adapter: Adapter,
+    pub port: u8,
+    pub length: u8,
 }
 
 // How many events can be taken back.
@@ -44,27 +46,23 @@ pub enum Verdict {
     Passed,
 }
 
-// A new adapter for a chip of this ID.
-pub fn create(id: u32) -> Created
-    ensures { λ r. ⌜ r ≡ created id ⌝ }
+// A new adapter for a chip of this ID, in a state's bytes.
+pub fn create(state: &mut [u8], id: u32) -> u8
+    ensures { λ r. ⌜ made r (now (state .exit)) ≡ created (now (state .entry)) id ⌝ }
 {
+    if state.len() != state::BYTES {
+        return BAD_STATE;
+    }
     if ID_MOST < id {
-        let none = chip::state::power_on(0xFFFFFFFF);
-        return Created {
-            number: BAD_ID,
-            adapter: none,
-        };
+        return BAD_ID;
     }
-    let adapter = chip::state::power_on(id);
-    Created {
-        number: NO_FRAME,
-        adapter: adapter,
-    }
+    state::spell(state::powered_on(0, id), state);
+    NO_FRAME
 }
 
 // Makes a journal empty, whatever it held.
 pub fn empty(journal: &mut [u8]) -> u8
-    ensures { λ r. ⌜ cleared r (now (journal .exit)) ≡ madeEmpty (now (journal .entry)) ⌝ }
+    ensures { λ r. ⌜ made r (now (journal .exit)) ≡ madeEmpty (now (journal .entry)) ⌝ }
 {
     if journal::is_wrong_length(journal) {
         return BAD_JOURNAL;
@@ -110,118 +108,146 @@ fn in_order(state: bool, journal: bool, output: bool, argument: bool, body: bool
     Verdict::Passed
 }
 
-// Keeps an event that happens to the state a, by the image of a; an accepted RESET empties the journal.
-fn record_event(journal: &mut [u8], a: Adapter, resets: bool)
+// Keeps an event that happens to a state, by the state's bytes; an accepted RESET empties the journal.
+fn record_event(journal: &mut [u8], state: &[u8], resets: bool)
     requires { ⌜ wellFormed (now journal) ≡ true ⌝ }
-    ensures { λ _. ⌜ now (journal .exit) ≡ joined resets (image a) (now (journal .entry)) ⌝ }
+    requires { ⌜ length (now state) ≡ stateSize ⌝ }
+    ensures { λ _. ⌜ now (journal .exit) ≡ joined resets (take recordBytes (now (state .entry))) (now (journal .entry)) ⌝ }
 {
     if resets {
         journal::empty(journal);
     } else {
-        let mut image = [0u8; BYTES];
-        journal::image::write(a, &mut image);
-        journal::push(journal, &image);
+        journal::push(journal, &state[0..RECORD]);
     }
 }
 
 // The first refusal of an event that is handed this state, journal and room for output.
-fn judge(a: Adapter, journal: &[u8], room: usize, argument: bool, body: bool) -> Verdict
-    ensures { λ r. ⌜ r ≡ inOrder (not (inRange a)) (not (wellFormed (now (journal .entry)))) (ltb room outputLeast) argument body ⌝ }
+fn judge(state: &[u8], journal: &[u8], room: usize, argument: bool, body: bool) -> Verdict
+    ensures { λ r. ⌜ r ≡ inOrder (not (isState (now (state .entry)))) (not (wellFormed (now (journal .entry)))) (ltb room outputLeast) argument body ⌝ }
 {
-    let ranged = chip::state::in_range(a);
+    let sound = state::is_state(state);
     let formed = journal::is_well_formed(journal);
-    in_order(!ranged, !formed, room < OUTPUT_LEAST, argument, body)
+    in_order(!sound, !formed, room < OUTPUT_LEAST, argument, body)
 }
 
-fn refused(a: Adapter, number: u8) -> Response
-    ensures { λ r. ⌜ r ≡ plain a number ⌝ }
+// A number with no frame.
+pub fn alone(number: u8) -> Answer
+    ensures { λ r. ⌜ r ≡ plain number ⌝ }
 {
-    Response {
-        adapter: a,
+    Answer {
         number: number,
         port: 0,
         length: 0,
     }
 }
 
+// An event that is done: its record in the journal, the state that it leaves, and the chip's answer.
+fn keep(state: &mut [u8], journal: &mut [u8], r: Response, resets: bool) -> Answer
+    requires { ⌜ length (now state) ≡ stateSize ⌝ }
+    requires { ⌜ wellFormed (now journal) ≡ true ⌝ }
+    ensures { λ x. ⌜ (x ≡ shown r) × (now (state .exit) ≡ stateBytes (r .adapter)) × (now (journal .exit) ≡ joined resets (take recordBytes (now (state .entry))) (now (journal .entry))) ⌝ }
+{
+    record_event(journal, state, resets);
+    let after = r.adapter;
+    state::spell(after, state);
+    Answer {
+        number: r.number,
+        port: r.port,
+        length: r.length,
+    }
+}
+
 // A frame body on a port.
-pub fn frame(a: Adapter, journal: &mut [u8], port: u32, body: &[u8], output: &mut [u8]) -> Response
-    ensures { λ r. ⌜ outcome r (now (journal .exit)) (now (output .exit)) ≡ called a (now (journal .entry)) (Event.frame port (now (body .entry))) (now (output .entry)) ⌝ }
+pub fn frame(
+    state: &mut [u8],
+    journal: &mut [u8],
+    port: u32,
+    body: &[u8],
+    output: &mut [u8],
+) -> Answer
+    ensures { λ r. ⌜ outcome r (now (state .exit)) (now (journal .exit)) (now (output .exit)) ≡ called (now (state .entry)) (now (journal .entry)) (Event.frame port (now (body .entry))) (now (output .entry)) ⌝ }
 {
     let count = body.len();
     let verdict = judge(
-        a,
+        state,
         journal,
         output.len(),
         1 < port,
         (count < BODY_LEAST) | (BODY_MOST < count),
     );
     match verdict {
-        Verdict::Refused(number) => refused(a, number),
+        Verdict::Refused(number) => alone(number),
         Verdict::Passed => {
-            let r = chip::events::on_frame(a, port as u8, body, output);
-            record_event(journal, a, chip::events::is_reset(body));
-            r
+            let r = chip::events::on_frame(state::load(state), port as u8, body, output);
+            keep(state, journal, r, chip::events::is_reset(body))
         }
     }
 }
 
 // An upset.
-pub fn upset(a: Adapter, journal: &mut [u8], output: &mut [u8]) -> Response
-    ensures { λ r. ⌜ outcome r (now (journal .exit)) (now (output .exit)) ≡ called a (now (journal .entry)) Event.upset (now (output .entry)) ⌝ }
+pub fn upset(state: &mut [u8], journal: &mut [u8], output: &mut [u8]) -> Answer
+    ensures { λ r. ⌜ outcome r (now (state .exit)) (now (journal .exit)) (now (output .exit)) ≡ called (now (state .entry)) (now (journal .entry)) Event.upset (now (output .entry)) ⌝ }
 {
-    let verdict = judge(a, journal, output.len(), false, false);
+    let verdict = judge(state, journal, output.len(), false, false);
     match verdict {
-        Verdict::Refused(number) => refused(a, number),
+        Verdict::Refused(number) => alone(number),
         Verdict::Passed => {
-            let r = chip::events::on_upset(a);
-            record_event(journal, a, false);
-            r
+            let r = chip::events::on_upset(state::load(state));
+            keep(state, journal, r, false)
         }
     }
 }
 
 // An SPI completion.
-pub fn completion(a: Adapter, journal: &mut [u8], received: &[u8], output: &mut [u8]) -> Response
-    ensures { λ r. ⌜ outcome r (now (journal .exit)) (now (output .exit)) ≡ called a (now (journal .entry)) (Event.completion (Completion.spi (now (received .entry)))) (now (output .entry)) ⌝ }
+pub fn completion(
+    state: &mut [u8],
+    journal: &mut [u8],
+    received: &[u8],
+    output: &mut [u8],
+) -> Answer
+    ensures { λ r. ⌜ outcome r (now (state .exit)) (now (journal .exit)) (now (output .exit)) ≡ called (now (state .entry)) (now (journal .entry)) (Event.completion (Completion.spi (now (received .entry)))) (now (output .entry)) ⌝ }
 {
     let verdict = judge(
-        a,
+        state,
         journal,
         output.len(),
         received.len() != TRANSFER_BYTES,
         false,
     );
     match verdict {
-        Verdict::Refused(number) => refused(a, number),
+        Verdict::Refused(number) => alone(number),
         Verdict::Passed => {
-            let r = chip::events::on_spi(a, received, output);
-            record_event(journal, a, false);
-            r
+            let r = chip::events::on_spi(state::load(state), received, output);
+            keep(state, journal, r, false)
         }
     }
 }
 
 // A pin sample.
-pub fn sample(a: Adapter, journal: &mut [u8], levels: u32, kind: u32, output: &mut [u8]) -> Response
-    ensures { λ r. ⌜ outcome r (now (journal .exit)) (now (output .exit)) ≡ called a (now (journal .entry)) (Event.sample levels kind) (now (output .entry)) ⌝ }
+pub fn sample(
+    state: &mut [u8],
+    journal: &mut [u8],
+    levels: u32,
+    kind: u32,
+    output: &mut [u8],
+) -> Answer
+    ensures { λ r. ⌜ outcome r (now (state .exit)) (now (journal .exit)) (now (output .exit)) ≡ called (now (state .entry)) (now (journal .entry)) (Event.sample levels kind) (now (output .entry)) ⌝ }
 {
-    let verdict = judge(a, journal, output.len(), 2 < kind, false);
+    let verdict = judge(state, journal, output.len(), 2 < kind, false);
     match verdict {
-        Verdict::Refused(number) => refused(a, number),
+        Verdict::Refused(number) => alone(number),
         Verdict::Passed => {
-            let r = chip::events::on_sample(a, levels, kind as u8, output);
-            record_event(journal, a, false);
-            r
+            let r = chip::events::on_sample(state::load(state), levels, kind as u8, output);
+            keep(state, journal, r, false)
         }
     }
 }
 
-// The first refusal of a step back from the state a.
-pub fn judge_back(a: Adapter, journal: &[u8]) -> Verdict
-    ensures { λ r. ⌜ r ≡ backVerdict a (now (journal .entry)) ⌝ }
+// The first refusal of a step back from a state.
+fn judge_back(state: &[u8], journal: &[u8]) -> Verdict
+    ensures { λ r. ⌜ r ≡ backVerdict (now (state .entry)) (now (journal .entry)) ⌝ }
 {
-    if !chip::state::in_range(a) {
+    if !state::is_state(state) {
         return Verdict::Refused(BAD_STATE);
     }
     if !journal::is_well_formed(journal) {
@@ -230,28 +256,23 @@ pub fn judge_back(a: Adapter, journal: &[u8]) -> Verdict
     if journal[journal::KEPT] == 0 {
         return Verdict::Refused(NONE_KEPT);
     }
-    if !journal::is_sound(a, journal) {
+    if !journal::is_sound(journal) {
         return Verdict::Refused(BAD_JOURNAL);
     }
     Verdict::Passed
 }
 
 // Takes the newest standing event back.
-pub fn step_back(a: Adapter, journal: &mut [u8]) -> Response
-    ensures { λ r. ⌜ stepped r (now (journal .exit)) ≡ steppedBack a (now (journal .entry)) ⌝ }
+pub fn step_back(state: &mut [u8], journal: &mut [u8]) -> u8
+    ensures { λ r. ⌜ stepped r (now (state .exit)) (now (journal .exit)) ≡ steppedBack (now (state .entry)) (now (journal .entry)) ⌝ }
 {
-    let verdict = judge_back(a, journal);
+    let verdict = judge_back(state, journal);
     match verdict {
-        Verdict::Refused(number) => refused(a, number),
+        Verdict::Refused(number) => number,
         Verdict::Passed => {
-            let before = journal::restore(a, journal);
+            journal::restore(journal, state);
             journal::lower(journal);
-            Response {
-                adapter: before,
-                number: NO_FRAME,
-                port: 0,
-                length: 0,
-            }
+            NO_FRAME
         }
     }
 }

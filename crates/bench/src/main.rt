@@ -1,6 +1,5 @@
 // The bench program: a listing on standard input, its answers on standard output. What matters is in `player`; here it is only read,
 // fed and written. The answers to what was read are written before the next read.
-use chip::Adapter;
 use libc::STDERR_FILENO;
 use libc::STDIN_FILENO;
 use libc::STDOUT_FILENO;
@@ -15,9 +14,8 @@ const BLOCK_ROOM: usize = 16384;
 // Room for the answers to as much.
 const OUTPUT_ROOM: usize = BLOCK_ROOM * ANSWER_ROOM;
 
-// Between two reads: the adapter, the characters of the line so far, and whether there is more to read.
+// Between two reads, besides lent bytes: the characters of the line so far, and whether there is more to read.
 struct Bench {
-    adapter: Adapter,
     count: usize,
     more: bool,
 }
@@ -38,6 +36,7 @@ fn flush(out: &[u8], used: usize) -> bool
 fn feed(
     b: Bench,
     block: &[u8],
+    state: &mut [u8],
     journal: &mut [u8],
     line: &mut [u8; LINE_ROOM],
     out: &mut [u8; OUTPUT_ROOM],
@@ -46,12 +45,9 @@ fn feed(
     requires { ⌜ length (now block) ≤ 16384 ⌝ }
     ensures { λ r. ⌜ r .count ≤ 81 ⌝ }
 {
-    let a = b.adapter;
-    let r = player::feed(a, b.count, journal, line, block, out);
+    let r = player::feed(state, b.count, journal, line, block, out);
     let more = flush(out, r.next);
-    let next = r.adapter;
     Bench {
-        adapter: next,
         count: r.count,
         more: more,
     }
@@ -60,6 +56,7 @@ fn feed(
 // The end of the input: a last line that lacks its LF is played.
 fn finish(
     b: Bench,
+    state: &mut [u8],
     journal: &mut [u8],
     line: &mut [u8; LINE_ROOM],
     out: &mut [u8; OUTPUT_ROOM],
@@ -67,12 +64,9 @@ fn finish(
     requires { ⌜ b .count ≤ 81 ⌝ }
     ensures { λ r. ⌜ r .count ≤ 81 ⌝ }
 {
-    let a = b.adapter;
-    let r = player::finish(a, b.count, journal, line, out);
+    let r = player::finish(state, b.count, journal, line, out);
     flush(out, r.next);
-    let next = r.adapter;
     Bench {
-        adapter: next,
         count: 0,
         more: false,
     }
@@ -82,6 +76,7 @@ fn finish(
 fn turn(
     b: Bench,
     block: &mut [u8],
+    state: &mut [u8],
     journal: &mut [u8],
     line: &mut [u8; LINE_ROOM],
     out: &mut [u8; OUTPUT_ROOM],
@@ -93,45 +88,44 @@ fn turn(
     let got = libc::read(STDIN_FILENO, block);
     if got < 0 {
         io::write_all(STDERR_FILENO, b"bench: standard input cannot be read\n");
-        let a = b.adapter;
         return Bench {
-            adapter: a,
             count: 0,
             more: false,
         };
     }
     if got == 0 {
-        return finish(b, journal, line, out);
+        return finish(b, state, journal, line, out);
     }
     let n = io::count(got, block);
-    feed(b, &block[..n], journal, line, out)
+    feed(b, &block[..n], state, journal, line, out)
 }
 
 // Nothing says that the input ends, so the turns are counted down from a number that no run uses up.
 fn run(
     block: &mut [u8; BLOCK_ROOM],
+    state: &mut [u8],
     journal: &mut [u8],
     line: &mut [u8; LINE_ROOM],
     out: &mut [u8; OUTPUT_ROOM],
 ) {
-    let a = player::start();
     let mut b = Bench {
-        adapter: a,
         count: 0,
         more: true,
     };
     let mut turns = u64::MAX;
     while turns > 0 && b.more {
-        b = turn(b, block, journal, line, out);
+        b = turn(b, block, state, journal, line, out);
         turns -= 1;
     }
 }
 
 fn main() {
     let mut block = [0u8; BLOCK_ROOM];
+    let mut state = [0u8; state::BYTES];
     let mut journal = [0u8; journal::SIZE];
     let mut line = [0u8; LINE_ROOM];
     let mut out = [0u8; OUTPUT_ROOM];
+    player::start(&mut state);
     adapter::empty(&mut journal);
-    run(&mut block, &mut journal, &mut line, &mut out);
+    run(&mut block, &mut state, &mut journal, &mut line, &mut out);
 }

@@ -10,10 +10,10 @@ use Rattle.numbers.specs.Numbers.{noFrame}
 use Rattle.parts.specs.Parts.{put}
 use Rattle.packets.specs.Packets.{requestOf}
 use Rattle.channels.specs.Perform.{replied, performed}
-use Rattle.chip.specs.State.{withRegisters}
+use Rattle.state.specs.State.{withRegisters}
 use Rattle.chip.specs.Answer.{sends, gives, response, Said, said, says}
 use Rattle.chip.specs.Request.{replies, finished, requested}
-use Rattle.chip.specs.declared.Adapter.{Adapter}
+use Rattle.state.specs.declared.Adapter.{Adapter}
 use Rattle.chip.specs.declared.Response.{Response}
 
 -- a frame written at the front of the output is the one that is sent

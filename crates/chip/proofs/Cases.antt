@@ -13,12 +13,12 @@ use lib.Seq.{take-all}
 use Rattle.bits.proofs.Bits.{bit-set, bit-clear}
 use Rattle.numbers.specs.Numbers.{otherAddress, otherPort, otherControl, badInformation}
 use Rattle.packets.specs.Packets.{replyBody}
-use Rattle.chip.specs.State.{withLink}
+use Rattle.state.specs.State.{withLink}
 use Rattle.chip.specs.Answer.{sends, gives, response, Said, said, says}
 use Rattle.link.specs.Link.{acknowledgeControl, rejectControl, replyControl, receiveNumber, receiveUp, sendUp, numberIn, inLoopback}
 use Rattle.chip.specs.Request.{replies, requested}
 use Rattle.chip.specs.Frame.{isConnect, isReset, isResetFrame, isTest, connected, reset, looped, commanded, numbered, carried, addressed, onFrame}
-use Rattle.chip.specs.declared.Adapter.{Adapter}
+use Rattle.state.specs.declared.Adapter.{Adapter}
 use Rattle.chip.specs.declared.Response.{Response}
 use Rattle.link.specs.declared.Link.{Link}
 

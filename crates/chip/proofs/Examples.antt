@@ -15,7 +15,7 @@ use Rattle.channels.specs.Rows.{held, heldAll}
 use Rattle.channels.specs.Errors.{decoded}
 use Rattle.channels.specs.Perform.{replied, performed}
 use Rattle.chip.specs.Event.{spi, Event, frame, completion, sample, upset}
-use Rattle.chip.specs.State.{poweredOn, powerOn, withRegisters}
+use Rattle.state.specs.State.{poweredOn, powerOn, withRegisters}
 use Rattle.parts.specs.Parts.{part, put}
 use Rattle.parts.specs.Digits.{word as fourBytes, number, digits}
 use Rattle.chip.specs.Answer.{Reaction, laid}
@@ -23,7 +23,7 @@ use Rattle.packets.specs.Packets.{byteOf}
 use Rattle.chip.specs.Request.{replies, requested}
 use Rattle.chip.specs.Frame.{commanded, numbered, carried, addressed, onFrame}
 use Rattle.chip.specs.Chip.{reaction, onSpi, onSample, onUpset}
-use Rattle.chip.specs.declared.Adapter.{Adapter}
+use Rattle.state.specs.declared.Adapter.{Adapter}
 
 -- the bench's chip
 abbrev fresh : Adapter

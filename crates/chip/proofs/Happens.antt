@@ -14,12 +14,12 @@ use Rattle.channels.specs.Rows.{isEnabled, isBusy}
 use Rattle.commands.specs.Request.{interruptTransaction}
 use Rattle.chip.specs.Event.{spi, frame, completion, sample, upset}
 use Rattle.chip.specs.Numbers.{spiChannel, gpioChannel, interruptLength}
-use Rattle.chip.specs.State.{withRegisters}
+use Rattle.state.specs.State.{withRegisters}
 use Rattle.chip.specs.Answer.{gives, response, Said, said, says}
 use Rattle.chip.specs.Request.{replies}
 use Rattle.chip.specs.Frame.{onFrame}
 use Rattle.chip.specs.Chip.{onSpi, onSample, onUpset, reaction}
-use Rattle.chip.specs.declared.Adapter.{Adapter}
+use Rattle.state.specs.declared.Adapter.{Adapter}
 use Rattle.chip.specs.declared.Response.{Response}
 
 pub checked : (a : Adapter) (port : ℕ) (s o : List ℕ) (x : Said) → x ≡ says (onFrame a port s) o → x ≡ says (reaction a (frame port s)) o

@@ -10,7 +10,7 @@ use lib.Dec.{eqb}
 use lib.ListN.{length}
 use Rattle.packets.specs.Packets.{address, requestOf}
 use Rattle.chip.specs.Event.{Event, frame}
-use Rattle.chip.specs.State.{poweredOn, withRegisters}
+use Rattle.state.specs.State.{poweredOn, withRegisters}
 use Rattle.chip.specs.Answer.{Reaction, sends, gives, response, Said, said, says}
 use Rattle.link.specs.Link.{acknowledgeControl}
 use Rattle.channels.specs.Perform.{replied as replyDue, performed}
@@ -19,13 +19,13 @@ use Rattle.commands.specs.declared.request.Reply.the-variants.{Sent, Later}
 use Rattle.chip.specs.Request.{replies, finished, requested}
 use Rattle.chip.specs.Frame.{isConnect, isReset, isResetFrame, addressOf, controlOf, informationOf, commanded, addressed, onFrame}
 use Rattle.chip.specs.Chip.{reaction, acceptedReset}
-use Rattle.chip.specs.declared.Adapter.{Adapter}
+use Rattle.state.specs.declared.Adapter.{Adapter}
 use Rattle.chip.specs.declared.Response.{Response}
 use Rattle.bits.proofs.Tests.{and-left, and-right, or-second}
 use Rattle.chip.proofs.Steps.{moved-id, Commanded, connects, resets, tests, moved-send, Shape, dropped, acknowledged, echoed, rejected}
 use Rattle.chip.proofs.Steps.{replied, quiet, shapes, state-cases}
 pub use Rattle.chip.proofs.Bodies.{number-given, OneFrame, one-frame, silent, sendable, frame-bytes}
-pub use Rattle.chip.proofs.Fits.{Fits, Good, good, good-fits, good-ranged, power-on-good, good-stays}
+pub use Rattle.chip.proofs.Good.{good-stays}
 
 -- ---- the state in what an event leaves
 

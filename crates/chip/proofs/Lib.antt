@@ -4,7 +4,7 @@ pub mod Answers
 pub mod Happens
 pub mod Steps
 pub mod Bodies
-pub mod Fits
+pub mod Good
 pub mod Laws
 pub mod OneOutcome
 pub mod Examples

@@ -25,14 +25,14 @@ use Rattle.parts.proofs.Laws.{bytes-drop}
 use Rattle.chip.proofs.EventFits.{EventFits}
 use Rattle.numbers.specs.Numbers.{otherAddress, otherPort, otherControl, badInformation, noFrame, notBusy, linesDisabled}
 use Rattle.packets.specs.Packets.{address, requestOf}
-use Rattle.chip.specs.State.{withLink, withRegisters}
+use Rattle.state.specs.State.{withLink, withRegisters}
 use Rattle.chip.specs.Answer.{Reaction, sends, gives}
 use Rattle.link.specs.Link.{rejectControl, acknowledgeControl, receiveNumber, sendUp, numberIn, inLoopback}
 use Rattle.chip.specs.Request.{replies, finished, requested}
 use Rattle.chip.specs.Frame.{isConnect, isReset, isTest, controlOf, informationOf, connected, reset, looped, counted, commanded, numbered}
 use Rattle.chip.specs.Frame.{carried, addressed, onFrame}
 use Rattle.chip.specs.Chip.{onSpi, onSample, onUpset, reaction}
-use Rattle.chip.specs.declared.Adapter.{Adapter}
+use Rattle.state.specs.declared.Adapter.{Adapter}
 
 -- ---- how an event can change the state, but for the send number of a reply
 

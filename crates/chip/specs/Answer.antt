@@ -5,7 +5,7 @@ use mathlib.Core.List.{List, [], _∷_}
 use lib.ListN.{length}
 use Rattle.numbers.specs.Numbers.{hasFrame, bodyMost}
 use Rattle.parts.specs.Parts.{put}
-use Rattle.chip.specs.declared.Adapter.{Adapter}
+use Rattle.state.specs.declared.Adapter.{Adapter}
 use Rattle.chip.specs.declared.Response.{Response}
 
 pub record Reaction : Type 0 where

@@ -13,11 +13,11 @@ use Rattle.channels.specs.Rows.{isEnabled, isBusy}
 use Rattle.commands.specs.Request.{interruptTransaction}
 use Rattle.chip.specs.Event.{Completion, spi, Event, frame, completion, sample, upset}
 use Rattle.chip.specs.Numbers.{spiChannel, gpioChannel, interruptLength}
-use Rattle.chip.specs.State.{withRegisters}
+use Rattle.state.specs.State.{withRegisters}
 use Rattle.chip.specs.Answer.{Reaction, gives}
 use Rattle.chip.specs.Request.{replies}
 use Rattle.chip.specs.Frame.{onFrame, isResetFrame}
-use Rattle.chip.specs.declared.Adapter.{Adapter}
+use Rattle.state.specs.declared.Adapter.{Adapter}
 
 -- Completion when not busy: 15. Else the GO's reply, with its own TRN, carries DATA[31:0]. Byte 0 of the received ones holds bits 7 to 0.
 -- (A TRN is a byte: in a state in range the remainder takes nothing away.)

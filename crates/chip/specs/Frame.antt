@@ -7,11 +7,11 @@ use lib.ListN.{length, getD, drop}
 use Rattle.numbers.specs.Numbers.{otherAddress, otherPort, otherControl, badInformation}
 use Rattle.packets.specs.Packets.{address}
 use Rattle.bits.specs.Bits.{bitOf}
-use Rattle.chip.specs.State.{withLink, poweredOn}
+use Rattle.state.specs.State.{withLink, poweredOn}
 use Rattle.chip.specs.Answer.{Reaction, sends, gives}
 use Rattle.link.specs.Link.{receiveNumber, receiveUp, numberIn, rejectControl, acknowledgeControl, freshLink, loopedAt, inLoopback}
 use Rattle.chip.specs.Request.{requested}
-use Rattle.chip.specs.declared.Adapter.{Adapter}
+use Rattle.state.specs.declared.Adapter.{Adapter}
 
 -- The body is address, control and information.
 abbrev pub addressOf : List ℕ → ℕ

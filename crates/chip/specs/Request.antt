@@ -7,9 +7,9 @@ use Rattle.numbers.specs.Numbers.{noFrame}
 use Rattle.packets.specs.Packets.{requestOf, replyBody}
 use Rattle.channels.specs.Perform.{replied, performed}
 use Rattle.link.specs.Link.{replyControl, sendUp}
-use Rattle.chip.specs.State.{withLink, withRegisters}
+use Rattle.state.specs.State.{withLink, withRegisters}
 use Rattle.chip.specs.Answer.{Reaction, sends, gives}
-use Rattle.chip.specs.declared.Adapter.{Adapter}
+use Rattle.state.specs.declared.Adapter.{Adapter}
 
 -- A reply or an interrupt leaves on the active port; the send number then goes up by one modulo 8.
 unfoldable pub replies : Adapter → ℕ → ℕ → ℕ → ℕ → ℕ → Reaction

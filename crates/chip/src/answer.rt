@@ -4,8 +4,8 @@ ghost use Prim.Native.Nat.{_≤_};
 ghost use lib.ListN.{length};
 ghost use Rattle.numbers.specs.Numbers.{bodyMost, outputLeast};
 ghost use Rattle.chip.specs.Answer.{sends, gives, response, said, says};
-use crate::Adapter;
 use crate::Response;
+use state::Adapter;
 
 // An answer with a frame.
 pub(crate) fn send(a: Adapter, port: u8, body: &[u8], output: &mut [u8]) -> Response

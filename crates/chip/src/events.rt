@@ -6,7 +6,6 @@ ghost use Rattle.numbers.specs.Numbers.{bodyLeast, bodyMost, outputLeast, trans
 ghost use Rattle.chip.specs.Event.{Completion, Event};
 ghost use Rattle.chip.specs.Answer.{response, said, says};
 ghost use Rattle.chip.specs.Chip.{reaction, acceptedReset};
-use crate::Adapter;
 use crate::Response;
 use crate::answer;
 use crate::frame;
@@ -17,6 +16,7 @@ use commands::request::INTERRUPT;
 use commands::spi::GO;
 use registers::gpio;
 use registers::spi;
+use state::Adapter;
 
 // The channels of a GO's reply and of an interrupt; an interrupt's LEN.
 const SPI_CHANNEL: u8 = 0x01;

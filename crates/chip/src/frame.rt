@@ -5,11 +5,10 @@ ghost use lib.ListN.{length};
 ghost use Rattle.numbers.specs.Numbers.{bodyLeast, bodyMost, outputLeast};
 ghost use Rattle.chip.specs.Answer.{said, says};
 ghost use Rattle.chip.specs.Frame.{isConnect, isReset, isResetFrame, isTest, connected, looped, commanded, numbered, carried, addressed, onFrame};
-use crate::Adapter;
 use crate::Response;
 use crate::answer;
 use crate::request;
-use crate::state;
+use state::Adapter;
 
 // Each command without and with its bit 4.
 const CONNECT: u8 = 0x2F;
@@ -153,7 +152,7 @@ fn check_control(a: Adapter, port: u8, body: &[u8], output: &mut [u8]) -> Respon
         return command(a, connect(a, port), port, body, output);
     }
     if is_reset(control) {
-        return command(a, state::reset_of(a, port), port, body, output);
+        return command(a, state::powered_on(port, a.id), port, body, output);
     }
     if is_test(control) {
         return command(a, loop_back(a, port), port, body, output);

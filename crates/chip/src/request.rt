@@ -5,10 +5,10 @@ ghost use lib.ListN.{length};
 ghost use Rattle.numbers.specs.Numbers.{outputLeast};
 ghost use Rattle.chip.specs.Answer.{said, says};
 ghost use Rattle.chip.specs.Request.{replies, finished, requested};
-use crate::Adapter;
 use crate::Response;
 use crate::answer;
 use commands::request::Reply;
+use state::Adapter;
 
 // A reply or an interrupt, on the active port; the send number then goes up.
 pub(crate) fn reply(

@@ -5,15 +5,15 @@
 mod print;
 mod requests;
 
-use chip::state;
 use requests::ask;
 use requests::completion;
 use requests::frame;
 use requests::sample;
 use requests::upset;
+use state::Adapter;
 
 // The controller is always enabled. A register stands in D[31:24], the second byte of data.
-fn controller(a: chip::Adapter) -> chip::Adapter {
+fn controller(a: Adapter) -> Adapter {
     // s 0 r 1: 20. LEN 4/2. SPI (bit 1) and the parallel lines (bit 2) are enabled; bit 0 reads 0.
     let a = ask(a, 0x00, 4, 0x02, 0x07000000);
     // s 1 r 2: 42. LEN 2/4. CRB is 06: 00 06 00 00.
@@ -29,7 +29,7 @@ fn controller(a: chip::Adapter) -> chip::Adapter {
 }
 
 // CONTROL and FREQ stand in D[15:0], SS in D[7:0].
-fn spi_settings(a: chip::Adapter) -> chip::Adapter {
+fn spi_settings(a: Adapter) -> Adapter {
     // s 6 r 7: EC. LEN 6/2. A length of 8 bits (bits 6 to 0); bit 15 is kept too.
     let a = ask(a, 0x01, 6, 0x40, 0x00008008);
     // s 7 r 0, since 7 is followed by 0: 0E. LEN 2/6. CONTROL is 8008: 00 00 08 80.
@@ -44,7 +44,7 @@ fn spi_settings(a: chip::Adapter) -> chip::Adapter {
     ask(a, 0x01, 2, 0x61, 0)
 }
 
-fn spi_data(a: chip::Adapter) -> chip::Adapter {
+fn spi_data(a: Adapter) -> Adapter {
     // s 4 r 5: A8. LEN 6/2.
     let a = ask(a, 0x01, 6, 0x00, 0x11223344);
     // s 5 r 6: CA. LEN 2/6. Word 0 is 11223344: 22 11 44 33.
@@ -63,7 +63,7 @@ fn spi_data(a: chip::Adapter) -> chip::Adapter {
     ask(a, 0x01, 2, 0x31, 0)
 }
 
-fn spi_transfer(a: chip::Adapter) -> chip::Adapter {
+fn spi_transfer(a: Adapter) -> Adapter {
     // 17: GO gives no reply yet. It was accepted, so r is 5; s stays 4.
     let a = ask(a, 0x01, 2, 0x72, 0);
     // s 4 r 6: C8. SPI is busy: ERR 40, and as in every error reply LEN 2.
@@ -75,7 +75,7 @@ fn spi_transfer(a: chip::Adapter) -> chip::Adapter {
     completion(a, &received)
 }
 
-fn lines(a: chip::Adapter) -> chip::Adapter {
+fn lines(a: Adapter) -> Adapter {
     // s 6 r 7: EC. LEN 4/2.
     let a = ask(a, 0x02, 4, 0x10, 0x01020304);
     // s 7 r 0: 0E. LEN 1/4. DATAOUT is 01020304: 02 01 04 03.
@@ -106,7 +106,7 @@ fn lines(a: chip::Adapter) -> chip::Adapter {
     ask(a, 0x02, 1, 0x91, 0)
 }
 
-fn samples(a: chip::Adapter) -> chip::Adapter {
+fn samples(a: Adapter) -> Adapter {
     // 17: lines 0 and 1 take 1, line 8 waits for the strobe, line 16 is an output. Line 0 fires, but INTENABLE is 0.
     let a = sample(a, 0x00010103, 0);
     // s 4 r 5: A8. LEN 4/2. D[0] alone is read.
@@ -123,7 +123,7 @@ fn samples(a: chip::Adapter) -> chip::Adapter {
     ask(a, 0x02, 1, 0x01, 0)
 }
 
-fn upsets_and_id(a: chip::Adapter) -> chip::Adapter {
+fn upsets_and_id(a: Adapter) -> Adapter {
     // 17: the counter is 1.
     let a = upset(a);
     // s 1 r 1: 22. LEN 4/4. The counter, low byte in D[7:0]: 00 00 01 00.
@@ -135,7 +135,7 @@ fn upsets_and_id(a: chip::Adapter) -> chip::Adapter {
 }
 
 // The DAC is always enabled; an output stands in D[7:0].
-fn outputs(a: chip::Adapter) -> chip::Adapter {
+fn outputs(a: Adapter) -> Adapter {
     // s 4 r 4: 88. LEN 4/1.
     let a = ask(a, 0x15, 4, 0x10, 0x11);
     // s 5 r 5: AA. LEN 1/4. A is 11: 00 00 11 00.
@@ -154,7 +154,7 @@ fn outputs(a: chip::Adapter) -> chip::Adapter {
     ask(a, 0x15, 1, 0x41, 0)
 }
 
-fn link(a: chip::Adapter) -> chip::Adapter {
+fn link(a: Adapter) -> Adapter {
     // TEST on port 1, bit 4 clear: 00 63. Port 1 is in loopback.
     let a = frame(a, 1, &[0x00, 0xE3]);
     // Port 1 sends back what it gets, though it is not active and this is no request: 00 02 AB.
@@ -170,7 +170,7 @@ fn link(a: chip::Adapter) -> chip::Adapter {
 }
 
 fn main() {
-    let a = controller(state::power_on(0x00000A));
+    let a = controller(state::powered_on(0, 0x00000A));
     let a = spi_transfer(spi_data(spi_settings(a)));
     let a = samples(lines(a));
     let a = outputs(upsets_and_id(a));

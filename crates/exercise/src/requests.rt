@@ -1,8 +1,8 @@
 // Events handed to the chip, and their answers printed.
 use crate::print;
-use chip::Adapter;
 use chip::Response;
 use chip::events;
+use state::Adapter;
 ghost use mathlib.Core.Path.{_≡_};
 ghost use mathlib.Core.List.{[], _∷_};
 ghost use Prim.Native.Nat.{_*_, _/_, _%_, _≤_};

@@ -2,4 +2,3 @@ pub mod Formats
 pub mod OneOutcome
 pub mod Ring
 pub mod Record
-pub mod Spelling

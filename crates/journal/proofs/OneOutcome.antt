@@ -2,58 +2,25 @@
 use mathlib.Core.Path.{sym, _∙_}
 use denote.Ref.{now}
 use Rattle.parts.proofs.Outcome.{One}
-use Rattle.journal.proofs.is_wrong_length.Kinds as is-wrong-length-kinds
-use Rattle.journal.proofs.is_wrong_length.Reads as is-wrong-length
-use Rattle.journal.proofs.is_well_formed.Kinds as is-well-formed-kinds
-use Rattle.journal.proofs.is_well_formed.Reads as is-well-formed
-use Rattle.journal.proofs.empty.Kinds as empty-kinds
-use Rattle.journal.proofs.empty.Reads as empty
-use Rattle.journal.proofs.push.Kinds as push-kinds
-use Rattle.journal.proofs.push.Reads as push
-use Rattle.journal.proofs.is_sound.Kinds as is-sound-kinds
-use Rattle.journal.proofs.is_sound.Reads as is-sound
-use Rattle.journal.proofs.copy_image.Kinds as copy-image-kinds
-use Rattle.journal.proofs.copy_image.Reads as copy-image
-use Rattle.journal.proofs.restore.Kinds as restore-kinds
-use Rattle.journal.proofs.restore.Reads as restore
-use Rattle.journal.proofs.lower.Kinds as lower-kinds
-use Rattle.journal.proofs.lower.Reads as lower
-use Rattle.journal.proofs.image.write.Kinds as write-kinds
-use Rattle.journal.proofs.image.write.Reads as write
-use Rattle.journal.proofs.image.state_of.Kinds as state-of-kinds
-use Rattle.journal.proofs.image.state_of.Reads as state-of
-use Rattle.journal.proofs.image.is_spelled.Kinds as is-spelled-kinds
-use Rattle.journal.proofs.image.is_spelled.Reads as is-spelled
+use Rattle.journal.proofs as this
 
-pub is-wrong-length-one : One 1 is-wrong-length-kinds.ps is-wrong-length-kinds.r is-wrong-length.Post (λ κs x s. x)
+pub is-wrong-length-one : One 1 this.is_wrong_length.Kinds.ps this.is_wrong_length.Kinds.r this.is_wrong_length.Reads.Post (λ κs x s. x)
 is-wrong-length-one κs a x y s t p q = p ∙ sym q
 
-pub is-well-formed-one : One 1 is-well-formed-kinds.ps is-well-formed-kinds.r is-well-formed.Post (λ κs x s. x)
+pub is-well-formed-one : One 1 this.is_well_formed.Kinds.ps this.is_well_formed.Kinds.r this.is_well_formed.Reads.Post (λ κs x s. x)
 is-well-formed-one κs a x y s t p q = p ∙ sym q
 
-pub empty-one : One 1 empty-kinds.ps empty-kinds.r empty.Post (λ κs x s. now (s .0))
+pub empty-one : One 1 this.empty.Kinds.ps this.empty.Kinds.r this.empty.Reads.Post (λ κs x s. now (s .0))
 empty-one κs a x y s t p q = p ∙ sym q
 
-pub push-one : One 2 push-kinds.ps push-kinds.r push.Post (λ κs x s. now (s .0))
+pub push-one : One 2 this.push.Kinds.ps this.push.Kinds.r this.push.Reads.Post (λ κs x s. now (s .0))
 push-one κs a x y s t p q = p ∙ sym q
 
-pub is-sound-one : One 1 is-sound-kinds.ps is-sound-kinds.r is-sound.Post (λ κs x s. x)
+pub is-sound-one : One 1 this.is_sound.Kinds.ps this.is_sound.Kinds.r this.is_sound.Reads.Post (λ κs x s. x)
 is-sound-one κs a x y s t p q = p ∙ sym q
 
-pub copy-image-one : One 2 copy-image-kinds.ps copy-image-kinds.r copy-image.Post (λ κs x s. now (s .1 .0))
-copy-image-one κs a x y s t p q = p ∙ sym q
-
-pub restore-one : One 1 restore-kinds.ps restore-kinds.r restore.Post (λ κs x s. x)
+pub restore-one : One 2 this.restore.Kinds.ps this.restore.Kinds.r this.restore.Reads.Post (λ κs x s. now (s .1 .0))
 restore-one κs a x y s t p q = p ∙ sym q
 
-pub lower-one : One 1 lower-kinds.ps lower-kinds.r lower.Post (λ κs x s. now (s .0))
+pub lower-one : One 1 this.lower.Kinds.ps this.lower.Kinds.r this.lower.Reads.Post (λ κs x s. now (s .0))
 lower-one κs a x y s t p q = p ∙ sym q
-
-pub write-one : One 1 write-kinds.ps write-kinds.r write.Post (λ κs x s. now (s .1 .0))
-write-one κs a x y s t p q = p .0 ∙ sym (q .0)
-
-pub state-of-one : One 1 state-of-kinds.ps state-of-kinds.r state-of.Post (λ κs x s. x)
-state-of-one κs a x y s t p q = p ∙ sym q
-
-pub is-spelled-one : One 1 is-spelled-kinds.ps is-spelled-kinds.r is-spelled.Post (λ κs x s. x)
-is-spelled-one κs a x y s t p q = p ∙ sym q

@@ -1,4 +1,3 @@
--- The journal of document 01: the ring's layout, the image of the state, and the record that an event leaves.
+-- The journal of document 01: the ring's layout, and the record that an event leaves.
 pub mod Layout
-pub mod Image
 pub mod Record

@@ -1,21 +1,21 @@
 -- The record of an event, and what a step back makes of it. The ring knows no more of a record than these names and their law: a step
--- back from the state after an event, by the event's record, is the state before it.
+-- back from the state after an event, by the event's record, is the state before it. States are bytes here, as the caller lends them.
 use Prim.Native.Nat.{ℕ}
-use mathlib.Core.Bool.{Bool, _&&_}
+use mathlib.Core.Bool.{Bool}
 use mathlib.Core.List.{List}
-use Rattle.chip.specs.declared.Adapter.{Adapter}
+use lib.ListN.{take}
+use Rattle.parts.specs.Parts.{put}
+use Rattle.state.specs.Bytes.{recordBytes, isState}
 use Rattle.chip.specs.Event.{Event}
-use Rattle.chip.specs.State.{inRange}
-use Rattle.journal.specs.Image.{image, stateOf, spelled}
 
--- what is kept of an event that happens to a state: the image of the state, whatever the event
-unfoldable pub before : Adapter → Event → List ℕ
-before a e = image a
+-- what is kept of an event that happens to a state: the state's own bytes but for the ID, whatever the event
+unfoldable pub before : List ℕ → Event → List ℕ
+before s e = take recordBytes s
 
--- what a step back makes of the state handed in and a record: the ID is the one of the state handed in, all else is the record's
-unfoldable pub restored : Adapter → List ℕ → Adapter
-restored a r = stateOf (a .id) r
+-- what a step back makes of the state handed in and a record: the ID stays, all else is the record's
+unfoldable pub restored : List ℕ → List ℕ → List ℕ
+restored s r = put 0 (take recordBytes r) s
 
--- A record is damaged, and a step back refused, where it has a bit set that no field has, or restores a state out of range.
-unfoldable pub sound : Adapter → List ℕ → Bool
-sound a r = spelled r && inRange (restored a r)
+-- A record is damaged, and a step back refused, where what it restores is no state: a bit set that no field has, or out of range.
+unfoldable pub sound : List ℕ → List ℕ → Bool
+sound s r = isState (restored s r)

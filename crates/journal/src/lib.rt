@@ -1,16 +1,14 @@
 // The journal: a ring of records in lent bytes, each of which takes the state after an event back to the one before it. A journal belongs
 // to the state that it went with.
-pub mod image;
-
-use chip::Adapter;
+use state::RECORD;
 ghost use mathlib.Core.Path.{_≡_};
 ghost use mathlib.Core.Bool.{true, false};
 ghost use Prim.Native.Nat.{_-_, _<_, _≤_};
-ghost use lib.ListN.{length, take};
-ghost use Rattle.parts.specs.Parts.{put};
-ghost use Rattle.journal.specs.Image.{imageBytes};
+ghost use lib.ListN.{length};
+ghost use Rattle.state.specs.Bytes.{recordBytes};
+ghost use Rattle.state.specs.Inner.{frontInRange};
 ghost use Rattle.journal.specs.Layout.{formatOf, slotsOf, wrongLength, firstOf, keptOf, wellFormed, placeOf, firstAfter, keptUp, past, emptied, pushed, lowered};
-ghost use Rattle.journal.specs.Record.{restored, sound};
+ghost use Rattle.journal.specs.Record.{restored};
 
 // The one format known: its length, slots and version.
 pub const SIZE: usize = 17408;
@@ -150,41 +148,28 @@ fn newest(j: &[u8]) -> usize
     place(f.slots, first, kept - 1)
 }
 
-// The state that the newest record makes of the state a.
-pub fn restore(a: Adapter, j: &[u8]) -> Adapter
+// Whether the newest record, over the bytes of a state, spells a state.
+pub fn is_sound(j: &[u8]) -> bool
     requires { ⌜ wellFormed (now j) ≡ true ⌝ }
     requires { ⌜ 0 < keptOf (now j) ⌝ }
-    ensures { λ r. ⌜ r ≡ restored a (past (now (j .entry)) 0) ⌝ }
+    ensures { λ r. ⌜ r ≡ frontInRange (past (now (j .entry)) 0) ⌝ }
 {
     let at = newest(j);
     let end = at + SLOT_BYTES;
-    image::state_of(&j[at..end], a.id)
+    state::is_front(&j[at..end])
 }
 
-// Whether the newest record is sound for the state a.
-pub fn is_sound(a: Adapter, j: &[u8]) -> bool
+// The newest record over the bytes of a state.
+pub fn restore(j: &[u8], s: &mut [u8])
     requires { ⌜ wellFormed (now j) ≡ true ⌝ }
     requires { ⌜ 0 < keptOf (now j) ⌝ }
-    ensures { λ r. ⌜ r ≡ sound a (past (now (j .entry)) 0) ⌝ }
+    requires { ⌜ recordBytes ≤ length (now s) ⌝ }
+    ensures { λ _. ⌜ now (s .exit) ≡ restored (now (s .entry)) (past (now (j .entry)) 0) ⌝ }
 {
     let at = newest(j);
-    let end = at + SLOT_BYTES;
-    let spelled = image::is_spelled(&j[at..end]);
-    let ranged = chip::state::in_range(restore(a, j));
-    spelled & ranged
-}
-
-// Copies the image in the newest record over the front of s. This and `adapter::record_event` rest on a record being the image of the state before.
-pub fn copy_image(j: &[u8], s: &mut [u8])
-    requires { ⌜ wellFormed (now j) ≡ true ⌝ }
-    requires { ⌜ 0 < keptOf (now j) ⌝ }
-    requires { ⌜ imageBytes ≤ length (now s) ⌝ }
-    ensures { λ _. ⌜ now (s .exit) ≡ put 0 (take imageBytes (past (now (j .entry)) 0)) (now (s .entry)) ⌝ }
-{
-    let at = newest(j);
-    let end = at + image::BYTES;
+    let end = at + RECORD;
     // By way of bytes of its own, which are copied many at a time: the compiler cannot tell two lent slices apart.
-    let mut bytes = [0u8; image::BYTES];
+    let mut bytes = [0u8; RECORD];
     parts::over(&mut bytes, &j[at..end]);
     parts::store(s, 0, &bytes);
 }

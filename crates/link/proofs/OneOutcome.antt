@@ -1,53 +1,34 @@
 -- Any two outcomes that a public function's contract allows coincide.
 use mathlib.Core.Path.{sym, _∙_}
 use Rattle.bits.proofs.Outcome.{OneOutcome}
-use Rattle.link.proofs.send_up.Kinds as send-up-kinds
-use Rattle.link.proofs.send_up.Reads as send-up
-use Rattle.link.proofs.receive_up.Kinds as receive-up-kinds
-use Rattle.link.proofs.receive_up.Reads as receive-up
-use Rattle.link.proofs.receive_number.Kinds as receive-number-kinds
-use Rattle.link.proofs.receive_number.Reads as receive-number
-use Rattle.link.proofs.number_in.Kinds as number-in-kinds
-use Rattle.link.proofs.number_in.Reads as number-in
-use Rattle.link.proofs.reply_control.Kinds as reply-control-kinds
-use Rattle.link.proofs.reply_control.Reads as reply-control
-use Rattle.link.proofs.reject_control.Kinds as reject-control-kinds
-use Rattle.link.proofs.reject_control.Reads as reject-control
-use Rattle.link.proofs.acknowledge_control.Kinds as acknowledge-control-kinds
-use Rattle.link.proofs.acknowledge_control.Reads as acknowledge-control
-use Rattle.link.proofs.fresh.Kinds as fresh-kinds
-use Rattle.link.proofs.fresh.Reads as fresh
-use Rattle.link.proofs.loop_back.Kinds as loop-back-kinds
-use Rattle.link.proofs.loop_back.Reads as loop-back
-use Rattle.link.proofs.in_loopback.Kinds as in-loopback-kinds
-use Rattle.link.proofs.in_loopback.Reads as in-loopback
+use Rattle.link.proofs as this
 
-pub send-up-one : OneOutcome 0 send-up-kinds.ps send-up-kinds.r send-up.Post
+pub send-up-one : OneOutcome 0 this.send_up.Kinds.ps this.send_up.Kinds.r this.send_up.Reads.Post
 send-up-one κs a x y s t e f = e ∙ sym f
 
-pub receive-up-one : OneOutcome 0 receive-up-kinds.ps receive-up-kinds.r receive-up.Post
+pub receive-up-one : OneOutcome 0 this.receive_up.Kinds.ps this.receive_up.Kinds.r this.receive_up.Reads.Post
 receive-up-one κs a x y s t e f = e ∙ sym f
 
-pub receive-number-one : OneOutcome 0 receive-number-kinds.ps receive-number-kinds.r receive-number.Post
+pub receive-number-one : OneOutcome 0 this.receive_number.Kinds.ps this.receive_number.Kinds.r this.receive_number.Reads.Post
 receive-number-one κs a x y s t e f = e ∙ sym f
 
-pub number-in-one : OneOutcome 0 number-in-kinds.ps number-in-kinds.r number-in.Post
+pub number-in-one : OneOutcome 0 this.number_in.Kinds.ps this.number_in.Kinds.r this.number_in.Reads.Post
 number-in-one κs a x y s t e f = e ∙ sym f
 
-pub reply-control-one : OneOutcome 0 reply-control-kinds.ps reply-control-kinds.r reply-control.Post
+pub reply-control-one : OneOutcome 0 this.reply_control.Kinds.ps this.reply_control.Kinds.r this.reply_control.Reads.Post
 reply-control-one κs a x y s t e f = e ∙ sym f
 
-pub reject-control-one : OneOutcome 0 reject-control-kinds.ps reject-control-kinds.r reject-control.Post
+pub reject-control-one : OneOutcome 0 this.reject_control.Kinds.ps this.reject_control.Kinds.r this.reject_control.Reads.Post
 reject-control-one κs a x y s t e f = e ∙ sym f
 
-pub acknowledge-control-one : OneOutcome 0 acknowledge-control-kinds.ps acknowledge-control-kinds.r acknowledge-control.Post
+pub acknowledge-control-one : OneOutcome 0 this.acknowledge_control.Kinds.ps this.acknowledge_control.Kinds.r this.acknowledge_control.Reads.Post
 acknowledge-control-one κs a x y s t e f = e ∙ sym f
 
-pub fresh-one : OneOutcome 0 fresh-kinds.ps fresh-kinds.r fresh.Post
+pub fresh-one : OneOutcome 0 this.fresh.Kinds.ps this.fresh.Kinds.r this.fresh.Reads.Post
 fresh-one κs a x y s t e f = e ∙ sym f
 
-pub loop-back-one : OneOutcome 0 loop-back-kinds.ps loop-back-kinds.r loop-back.Post
+pub loop-back-one : OneOutcome 0 this.loop_back.Kinds.ps this.loop_back.Kinds.r this.loop_back.Reads.Post
 loop-back-one κs a x y s t e f = e ∙ sym f
 
-pub in-loopback-one : OneOutcome 0 in-loopback-kinds.ps in-loopback-kinds.r in-loopback.Post
+pub in-loopback-one : OneOutcome 0 this.in_loopback.Kinds.ps this.in_loopback.Kinds.r this.in_loopback.Reads.Post
 in-loopback-one κs a x y s t e f = e ∙ sym f

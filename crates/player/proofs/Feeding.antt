@@ -2,18 +2,16 @@
 use Prim.Native.Nat.{ℕ, _+_, _≤_, _<_}
 use mathlib.Core.Path.{_≡_, refl, sym, ap, _∙_}
 use mathlib.Core.Bool.{Bool, true, false, cond}
-use mathlib.Core.List.{List, [], _∷_, foldl, foldl-append}
+use mathlib.Core.List.{List, [], _∷_, _++_, foldl, foldl-append, append-assoc, append-nil}
 use native.Mathlib.Numerals.{add-one}
 use native.Mathlib.Omega.{arith}
 use lib.ListN.{length, take, getD, set}
 use lib.Seq.{take-suc, take-all, length-take-le}
-use lib.Dec.{ltb}
+use lib.Dec.{eqb, ltb}
 use borrow.Author.Tests.{ltb-true, lt-ltb, le-ltb, eq-eqb, ne-eqb}
-use Rattle.chip.specs.declared.Adapter.{Adapter}
-use Rattle.player.specs.declared.Played.{Played}
 use Rattle.listing.specs.Answer.{Wrote, wrote, written}
 use Rattle.player.specs.Play.{turn}
-use Rattle.player.specs.Parts.{Left, left, leaves, Held, held, added, Player, player, sofar, ends, joins, takes, closes, Feeding, feeds}
+use Rattle.player.specs.Parts.{Left, left, leaves, Held, held, added, Player, player, ends, joins, takes, closes, handedOver, Feeding, feeds}
 use Rattle.listing.proofs.Writing.{next-place, written-then, written-none}
 
 -- ---- a character
@@ -40,47 +38,31 @@ count-fits count count′ b line line′ e h = rw (ap (λ (x : Held). x .count) 
 pub line-long : (count : ℕ) (line : List ℕ) → length line ≡ 81 → count ≤ 81 → count ≡ length (take count line)
 line-long count line e h = sym (length-take-le count line (omega arith))
 
--- ---- one byte more of a block
+-- ---- the text only grows
 
-pub taken-more : (p : Player) (block : List ℕ) (i : ℕ) → i < length block → foldl takes p (take (i + 1) block) ≡ takes (foldl takes p (take i block)) (getD block i 0)
-taken-more p block i h = rw (add-one, take-suc block i 0 h, foldl-append takes p (take i block) (getD block i 0 ∷ [])) refl
+abbrev pub after : List ℕ → Player → Player
+after t p = record { state = p .state; journal = p .journal; line = p .line; text = t ++ p .text }
 
-abbrev pub feeding : Adapter → List ℕ → List ℕ → ℕ → ℕ → List ℕ → Feeding
-feeding a journal line count next out = record { adapter = a; journal = journal; line = held count line; output = wrote next out }
+pub ends-after : (t : List ℕ) (p : Player) → ends (after t p) ≡ after t (ends p)
+unfolding ends
+ends-after t p = rw append-assoc refl
 
-same-feeding : (a b : Adapter) (j k : List ℕ) (l m : Held) (w v : Wrote) → a ≡ b → j ≡ k → l ≡ m → w ≡ v
-    → _≡_ {A = Feeding} (record { adapter = a; journal = j; line = l; output = w }) (record { adapter = b; journal = k; line = m; output = v })
-same-feeding a b j k l m w v e f g h = rw (e, f, g, h) refl
+joins-after : (t : List ℕ) (p : Player) (b : ℕ) → joins (after t p) b ≡ after t (joins p b)
+unfolding joins
+joins-after t p b = refl
 
-module _ (a : Adapter) (j line out₀ out : List ℕ) (count next : ℕ) (p : Player) (sofar-fed : feeding a j line count next out ≡ feeds out₀ p) where
-  text-written : wrote next out ≡ written 0 (p .text) out₀
-  text-written = ap (λ (f : Feeding). f .output) sofar-fed
+pub takes-after : (t : List ℕ) (p : Player) (b : ℕ) → takes (after t p) b ≡ after t (takes p b)
+unfolding takes
+takes-after t p b = either (eqb b 10)
+  where
+    either : (c : Bool) → cond c (ends (after t p)) (joins (after t p) b) ≡ after t (cond c (ends p) (joins p b))
+    either true = ends-after t p
+    either false = joins-after t p b
 
-  pub ends-fed : (t : Played) (j′ out′ : List ℕ) → next ≤ length out₀ → left t j′ out′ ≡ leaves next out (turn a j (take count line))
-      → feeding (t .adapter) j′ line 0 (t .next) out′ ≡ feeds out₀ (ends p)
-  unfolding ends
-  ends-fed t j′ out′ room h =
-      let same : turn a j (take count line) ≡ turn (p .adapter) (p .journal) (sofar (p .line)) =
-      ap (λ (f : Feeding). turn (f .adapter) (f .journal) (sofar (f .line))) sofar-fed
-      in
-      let g : left t j′ out′ ≡ leaves next out (turn (p .adapter) (p .journal) (sofar (p .line))) = h ∙ ap (leaves next out) same in
-      same-feeding (t .adapter) _ j′ _ (held 0 line) (held 0 (p .line .line)) (wrote (t .next) out′) _
-      (ap (λ (x : Left). x .adapter) g)
-      (ap (λ (x : Left). x .journal) g)
-      (ap (λ (f : Feeding). held 0 (f .line .line)) sofar-fed)
-      (written-then 0 next (p .text) out₀ out text-written (enough (next-place 0 next (p .text) out₀ out text-written)) (t .next) _ out′ (ap (λ (x : Left). x .output) g))
-    where
-      enough : next ≡ 0 + length (p .text) → 0 + length (p .text) ≤ length out₀
-      enough e = omega arith
+pub whole-again : (p : Player) → after (p .text) (handedOver p) ≡ p
+whole-again p = ap (λ (t : List ℕ). record { state = p .state; journal = p .journal; line = p .line; text = t }) (append-nil (p .text))
 
-  pub joins-fed : (b count′ : ℕ) (line′ : List ℕ) → held count′ line′ ≡ added count b line → feeding a j line′ count′ next out ≡ feeds out₀ (joins p b)
-  unfolding joins
-  joins-fed b count′ line′ h =
-      same-feeding a _ j _ (held count′ line′) _ (wrote next out) _
-      (ap (λ (f : Feeding). f .adapter) sofar-fed)
-      (ap (λ (f : Feeding). f .journal) sofar-fed)
-      (h ∙ ap (λ (f : Feeding). added (f .line .count) b (f .line .line)) sofar-fed)
-      text-written
+-- ---- a byte of the input
 
 pub takes-end : (p : Player) (b : ℕ) → b ≡ 10 → takes p b ≡ ends p
 unfolding takes
@@ -90,35 +72,60 @@ pub takes-char : (p : Player) (b : ℕ) → (b ≡ 10 → ⊥) → takes p b ≡
 unfolding takes
 takes-char p b h = simp (ne-eqb b 10 h)
 
-module _ (p : Player) (block out₀ : List ℕ) (i : ℕ) (a : Adapter) (j line out : List ℕ) (count next : ℕ)
-    (sofar-fed : feeding a j line count next out ≡ feeds out₀ (foldl takes p (take i block)))
-    (within : i < length block) where
-  pub line-fed : (t : Played) (j′ out′ : List ℕ) → getD block i 0 ≡ 10 → next ≤ length out₀ → left t j′ out′ ≡ leaves next out (turn a j (take count line))
-      → feeding (t .adapter) j′ line 0 (t .next) out′ ≡ feeds out₀ (foldl takes p (take (i + 1) block))
-  line-fed t j′ out′ lf room h =
-      ends-fed a j line out₀ out count next (foldl takes p (take i block)) sofar-fed t j′ out′ room h
-      ∙ ap (feeds out₀) (sym (taken-more p block i within ∙ takes-end (foldl takes p (take i block)) (getD block i 0) lf))
+abbrev pub feeding : List ℕ → List ℕ → List ℕ → ℕ → ℕ → List ℕ → Feeding
+feeding s journal line count next out = record { state = s; journal = journal; line = held count line; output = wrote next out }
 
-  pub char-fed : (count′ : ℕ) (line′ : List ℕ) → (getD block i 0 ≡ 10 → ⊥) → held count′ line′ ≡ added count (getD block i 0) line
-      → feeding a j line′ count′ next out ≡ feeds out₀ (foldl takes p (take (i + 1) block))
-  char-fed count′ line′ lf h =
-      joins-fed a j line out₀ out count next (foldl takes p (take i block)) sofar-fed (getD block i 0) count′ line′ h
-      ∙ ap (feeds out₀) (sym (taken-more p block i within ∙ takes-char (foldl takes p (take i block)) (getD block i 0) lf))
+module _ (s j line out : List ℕ) (count at b : ℕ) where
+  pub byte-ends : (next : ℕ) (s′ j′ out′ : List ℕ) → b ≡ 10 → left next s′ j′ out′ ≡ leaves at out (turn s j (take count line))
+      → feeding s′ j′ line 0 next out′ ≡ feeds at out (takes (player s j line count []) b)
+  unfolding ends
+  byte-ends next s′ j′ out′ h g =
+      ap (λ (x : Left). record { state = x .state; journal = x .journal; line = held 0 line; output = x .output }) g
+      ∙ ap (feeds at out) (sym (takes-end _ b h))
 
-pub none-fed : (a : Adapter) (j line out : List ℕ) (count : ℕ) → feeding a j line count 0 out ≡ feeds out (player a j line count [])
-none-fed a j line out count = same-feeding a a j j (held count line) (held count line) (wrote 0 out) _ refl refl refl (written-none 0 out)
+  pub byte-joins : (count′ : ℕ) (line′ : List ℕ) → (b ≡ 10 → ⊥) → held count′ line′ ≡ added count b line
+      → feeding s j line′ count′ at out ≡ feeds at out (takes (player s j line count []) b)
+  unfolding joins
+  byte-joins count′ line′ h g = rw (g, written-none at out) (ap (feeds at out) (sym (takes-char _ b h)))
 
-pub all-fed : (p : Player) (block out₀ : List ℕ) (i : ℕ) (f : Feeding) → length block ≤ i → f ≡ feeds out₀ (foldl takes p (take i block)) → f ≡ feeds out₀ (foldl takes p block)
+-- ---- a block
+
+-- the text of a byte stands behind that of those before it
+byte-after : (p : Player) (s j line out₀ out : List ℕ) (count next b : ℕ) → feeding s j line count next out ≡ feeds 0 out₀ p → next ≤ length out₀
+    → feeds next out (takes (player s j line count []) b) ≡ feeds 0 out₀ (takes p b)
+byte-after p s j line out₀ out count next b h room =
+    let q : Player = takes (handedOver p) b in
+    let w : wrote next out ≡ written 0 (p .text) out₀ = ap (λ (f : Feeding). f .output) h in
+    let n = next-place 0 next (p .text) out₀ out w in
+    ap (λ (f : Feeding). feeds next out (takes (record { state = f .state; journal = f .journal; line = f .line; text = [] }) b)) h
+    ∙ ap (λ (v : Wrote). record { state = q .state; journal = q .journal; line = q .line; output = v })
+    (written-then 0 next (p .text) out₀ out w (omega arith) _ (q .text) _ refl)
+    ∙ ap (feeds 0 out₀) (sym (takes-after (p .text) (handedOver p) b) ∙ ap (λ (r : Player). takes r b) (whole-again p))
+
+pub byte-fed : (p : Player) (s j line block out₀ out : List ℕ) (count next i : ℕ)
+    → feeding s j line count next out ≡ feeds 0 out₀ (foldl takes p (take i block)) → i < length block → next ≤ length out₀
+    → feeds next out (takes (player s j line count []) (getD block i 0)) ≡ feeds 0 out₀ (foldl takes p (take (i + 1) block))
+byte-fed p s j line block out₀ out count next i h within room =
+    byte-after (foldl takes p (take i block)) s j line out₀ out count next (getD block i 0) h room ∙ ap (feeds 0 out₀) (sym taken-more)
+  where
+    taken-more : foldl takes p (take (i + 1) block) ≡ takes (foldl takes p (take i block)) (getD block i 0)
+    taken-more = rw (add-one, take-suc block i 0 within, foldl-append takes p (take i block) (getD block i 0 ∷ [])) refl
+
+pub none-fed : (s j line out : List ℕ) (count : ℕ) → feeding s j line count 0 out ≡ feeds 0 out (player s j line count [])
+none-fed s j line out count = rw (← written-none 0 out) refl
+
+pub all-fed : (p : Player) (block out₀ : List ℕ) (i : ℕ) (f : Feeding) → length block ≤ i → f ≡ feeds 0 out₀ (foldl takes p (take i block))
+    → f ≡ feeds 0 out₀ (foldl takes p block)
 all-fed p block out₀ i f h e = rw (take-all i block h) at e
 
 -- ---- the end
 
-pub ends-nothing : (a : Adapter) (j line out : List ℕ) (count : ℕ) → count ≡ 0 → feeding a j line 0 0 out ≡ feeds out (closes (player a j line count []))
-unfolding closes
-ends-nothing a j line out count h = simp (eq-eqb count 0 h) (rw h (none-fed a j line out 0))
+module _ (s j line out : List ℕ) (count : ℕ) where
+  pub ends-nothing : count ≡ 0 → feeding s j line 0 0 out ≡ feeds 0 out (closes (player s j line count []))
+  unfolding closes
+  ends-nothing h = simp (eq-eqb count 0 h) (rw h (none-fed s j line out 0))
 
-pub ends-line : (a : Adapter) (j line out : List ℕ) (count : ℕ) (t : Played) (j′ out′ : List ℕ) → (count ≡ 0 → ⊥) → left t j′ out′ ≡ leaves 0 out (turn a j (take count line))
-    → feeding (t .adapter) j′ line 0 (t .next) out′ ≡ feeds out (closes (player a j line count []))
-unfolding closes
-ends-line a j line out count t j′ out′ h g =
-    simp (ne-eqb count 0 h) (ends-fed a j line out out count 0 (player a j line count []) (none-fed a j line out count) t j′ out′ (omega arith) g)
+  pub ends-line : (x : Feeding) → (count ≡ 0 → ⊥) → x ≡ feeds 0 out (takes (player s j line count []) 10)
+      → x ≡ feeds 0 out (closes (player s j line count []))
+  unfolding closes
+  ends-line x h g = simp (ne-eqb count 0 h) (g ∙ ap (feeds 0 out) (takes-end _ 10 refl))

@@ -9,35 +9,14 @@ use lib.ListN.{length, take, set, replicate, length-append, length-set, length-t
 use lib.Seq.{take-all, take-suc-set, take-append-le, length-take-le}
 use lib.Dec.{eqb, ltb}
 use borrow.Author.Tests.{eqb-true, eqb-false, eq-eqb, ne-eqb, ltb-true, ltb-false}
-use Rattle.chip.specs.declared.Adapter.{Adapter}
-use Rattle.adapter.specs.Calls.{created}
 use Rattle.listing.specs.declared.Form.{Form}
 use Rattle.listing.specs.Line.{saidBy, read, unreadable}
-use Rattle.player.specs.Play.{Turn, turn, linesFrom, lastLine, answers, chipId, emptyJournal, played}
+use Rattle.player.specs.Play.{Turn, turn, linesFrom, lastLine, answers, newState, emptyJournal, played}
 use Rattle.player.specs.Parts.{Held, held, added, Player, sofar, ends, joins, takes, closes, begins, handedOver, playedIn}
 use Rattle.listing.proofs.Reading.{frame-long, completion-other, sample-other, letter-other, form-none}
-use Rattle.player.proofs.Feeding.{takes-end, takes-char}
+use Rattle.player.proofs.Feeding.{after, ends-after, takes-after, whole-again, takes-end, takes-char}
 
--- ---- the text only grows
-
-abbrev after : List ℕ → Player → Player
-after t p = record { adapter = p .adapter; journal = p .journal; line = p .line; text = t ++ p .text }
-
-ends-after : (t : List ℕ) (p : Player) → ends (after t p) ≡ after t (ends p)
-unfolding ends
-ends-after t p = rw append-assoc refl
-
-joins-after : (t : List ℕ) (p : Player) (b : ℕ) → joins (after t p) b ≡ after t (joins p b)
-unfolding joins
-joins-after t p b = refl
-
-takes-after : (t : List ℕ) (p : Player) (b : ℕ) → takes (after t p) b ≡ after t (takes p b)
-unfolding takes
-takes-after t p b = either (eqb b 10)
-  where
-    either : (c : Bool) → cond c (ends (after t p)) (joins (after t p) b) ≡ after t (cond c (ends p) (joins p b))
-    either true = ends-after t p
-    either false = joins-after t p b
+-- ---- blocks one after the other
 
 fold-after : (t : List ℕ) (s : List ℕ) (p : Player) → foldl takes (after t p) s ≡ after t (foldl takes p s)
 fold-after t [] p = refl
@@ -50,9 +29,6 @@ closes-after t p = either (eqb (p .line .count) 0)
     either : (c : Bool) → cond c (after t p) (ends (after t p)) ≡ after t (cond c p (ends p))
     either true = refl
     either false = ends-after t p
-
-whole-again : (p : Player) → after (p .text) (handedOver p) ≡ p
-whole-again p = ap (λ (t : List ℕ). record { adapter = p .adapter; journal = p .journal; line = p .line; text = t }) (append-nil (p .text))
 
 -- two blocks one after the other are one block
 pub in-two : (p : Player) (x y : List ℕ) → foldl takes p (x ++ y) ≡ foldl takes (foldl takes p x) y
@@ -90,9 +66,9 @@ same-read l = either (ltb 80 (length l)) refl
         over-long (take 81 l) (omega arith) ∙ sym (over-long l h)
     either false e = let h = ltb-false 80 (length l) e in ap read (take-all 81 l (omega arith))
 
-same-turn : (a : Adapter) (j l m : List ℕ) → m ≡ take 81 l → turn a j m ≡ turn a j l
+same-turn : (s j l m : List ℕ) → m ≡ take 81 l → turn s j m ≡ turn s j l
 unfolding turn
-same-turn a j l m e = rw (e, same-read l) refl
+same-turn s j l m e = rw (e, same-read l) refl
 
 -- ---- the line so far
 
@@ -141,67 +117,67 @@ none-begun line e = record { long = e; few = omega arith; same = refl }
 
 -- ---- the whole
 
-abbrev at : Adapter → List ℕ → Held → List ℕ → Player
-at a j h t = record { adapter = a; journal = j; line = h; text = t }
+abbrev at : List ℕ → List ℕ → Held → List ℕ → Player
+at s j h t = record { state = s; journal = j; line = h; text = t }
 
 some-begun : (h : Held) (c : ℕ) (l : List ℕ) → Begun h (c ∷ l) → h .count ≡ 0 → ⊥
 some-begun h c l b e = let n = counted h (c ∷ l) b in omega arith
 
-ends-text : (a : Adapter) (j : List ℕ) (h : Held) (t : List ℕ) → ends (at a j h t) .text ≡ t ++ turn a j (sofar h) .text
+ends-text : (s j : List ℕ) (h : Held) (t : List ℕ) → ends (at s j h t) .text ≡ t ++ turn s j (sofar h) .text
 unfolding ends
-ends-text a j h t = refl
+ends-text s j h t = refl
 
-last-answered : (l : List ℕ) (a : Adapter) (j : List ℕ) (h : Held) (t : List ℕ) → Begun h l → closes (at a j h t) .text ≡ t ++ answers a j (lastLine l)
+last-answered : (l s j : List ℕ) (h : Held) (t : List ℕ) → Begun h l → closes (at s j h t) .text ≡ t ++ answers s j (lastLine l)
 unfolding closes answers
-last-answered [] a j h t b = simp (eq-eqb (h .count) 0 (counted h [] b)) (sym (append-nil t))
-last-answered (c ∷ l) a j h t b =
+last-answered [] s j h t b = simp (eq-eqb (h .count) 0 (counted h [] b)) (sym (append-nil t))
+last-answered (c ∷ l) s j h t b =
     simp (ne-eqb (h .count) 0 (some-begun h c l b))
-    (ends-text a j h t
-    ∙ ap (λ (u : Turn). t ++ u .text) (same-turn a j (c ∷ l) (sofar h) (b .same))
-    ∙ ap (λ (u : List ℕ). t ++ u) (sym (append-nil (turn a j (c ∷ l) .text))))
+    (ends-text s j h t
+    ∙ ap (λ (u : Turn). t ++ u .text) (same-turn s j (c ∷ l) (sofar h) (b .same))
+    ∙ ap (λ (u : List ℕ). t ++ u) (sym (append-nil (turn s j (c ∷ l) .text))))
 
-lines-end : (l : List ℕ) (c : ℕ) (s : List ℕ) → c ≡ 10 → linesFrom l (c ∷ s) ≡ l ∷ linesFrom [] s
+lines-end : (l : List ℕ) (c : ℕ) (x : List ℕ) → c ≡ 10 → linesFrom l (c ∷ x) ≡ l ∷ linesFrom [] x
 unfolding linesFrom
-lines-end l c s e = simp (eq-eqb c 10 e)
+lines-end l c x e = simp (eq-eqb c 10 e)
 
-lines-char : (l : List ℕ) (c : ℕ) (s : List ℕ) → (c ≡ 10 → ⊥) → linesFrom l (c ∷ s) ≡ linesFrom (l ++ (c ∷ [])) s
+lines-char : (l : List ℕ) (c : ℕ) (x : List ℕ) → (c ≡ 10 → ⊥) → linesFrom l (c ∷ x) ≡ linesFrom (l ++ (c ∷ [])) x
 unfolding linesFrom
-lines-char l c s e = simp (ne-eqb c 10 e)
+lines-char l c x e = simp (ne-eqb c 10 e)
 
 -- what the rest of the input gives, whatever line is begun
 abbrev Answered : List ℕ → Type 0
-Answered s = (l : List ℕ) (a : Adapter) (j : List ℕ) (h : Held) (t : List ℕ) → Begun h l → closes (foldl takes (at a j h t) s) .text ≡ t ++ answers a j (linesFrom l s)
+Answered x = (l s j : List ℕ) (h : Held) (t : List ℕ) → Begun h l → closes (foldl takes (at s j h t) x) .text ≡ t ++ answers s j (linesFrom l x)
 
-line-answered : (c : ℕ) (s : List ℕ) → c ≡ 10 → Answered s → Answered (c ∷ s)
+line-answered : (c : ℕ) (x : List ℕ) → c ≡ 10 → Answered x → Answered (c ∷ x)
 unfolding ends answers
-line-answered c s e rest l a j h t b =
-    let u : Turn = turn a j (sofar h) in
-    ap (λ (p : Player). closes (foldl takes p s) .text) (takes-end (at a j h t) c e)
-    ∙ rest [] (u .adapter) (u .journal) (held 0 (h .line)) (t ++ u .text) (none-begun (h .line) (b .long))
-    ∙ append-assoc t (u .text) (answers (u .adapter) (u .journal) (linesFrom [] s))
-    ∙ ap (λ (v : Turn). t ++ (v .text ++ answers (v .adapter) (v .journal) (linesFrom [] s))) (same-turn a j l (sofar h) (b .same))
-    ∙ ap (λ (ls : List (List ℕ)). t ++ answers a j ls) (sym (lines-end l c s e))
+line-answered c x e rest l s j h t b =
+    let u : Turn = turn s j (sofar h) in
+    ap (λ (p : Player). closes (foldl takes p x) .text) (takes-end (at s j h t) c e)
+    ∙ rest [] (u .state) (u .journal) (held 0 (h .line)) (t ++ u .text) (none-begun (h .line) (b .long))
+    ∙ append-assoc t (u .text) (answers (u .state) (u .journal) (linesFrom [] x))
+    ∙ ap (λ (v : Turn). t ++ (v .text ++ answers (v .state) (v .journal) (linesFrom [] x))) (same-turn s j l (sofar h) (b .same))
+    ∙ ap (λ (ls : List (List ℕ)). t ++ answers s j ls) (sym (lines-end l c x e))
 
-char-answered : (c : ℕ) (s : List ℕ) → (c ≡ 10 → ⊥) → Answered s → Answered (c ∷ s)
+char-answered : (c : ℕ) (x : List ℕ) → (c ≡ 10 → ⊥) → Answered x → Answered (c ∷ x)
 unfolding joins
-char-answered c s e rest l a j h t b =
-    ap (λ (p : Player). closes (foldl takes p s) .text) (takes-char (at a j h t) c e)
-    ∙ rest (l ++ (c ∷ [])) a j (added (h .count) c (h .line)) t (begun-more h l c b)
-    ∙ ap (λ (ls : List (List ℕ)). t ++ answers a j ls) (sym (lines-char l c s e))
+char-answered c x e rest l s j h t b =
+    ap (λ (p : Player). closes (foldl takes p x) .text) (takes-char (at s j h t) c e)
+    ∙ rest (l ++ (c ∷ [])) s j (added (h .count) c (h .line)) t (begun-more h l c b)
+    ∙ ap (λ (ls : List (List ℕ)). t ++ answers s j ls) (sym (lines-char l c x e))
 
-by-character : (c : ℕ) (s : List ℕ) → Answered s → (d : Bool) → eqb c 10 ≡ d → Answered (c ∷ s)
-by-character c s rest true e = line-answered c s (eqb-true c 10 e) rest
-by-character c s rest false e = char-answered c s (eqb-false c 10 e) rest
+by-character : (c : ℕ) (x : List ℕ) → Answered x → (d : Bool) → eqb c 10 ≡ d → Answered (c ∷ x)
+by-character c x rest true e = line-answered c x (eqb-true c 10 e) rest
+by-character c x rest false e = char-answered c x (eqb-false c 10 e) rest
 
-all-answered : (s : List ℕ) → Answered s
+all-answered : (x : List ℕ) → Answered x
 unfolding linesFrom
 all-answered [] = last-answered
-all-answered (c ∷ s) = by-character c s (all-answered s) (eqb c 10) refl
+all-answered (c ∷ x) = by-character c x (all-answered x) (eqb c 10) refl
 
 -- any cutting of the input into blocks gives the same output bytes: those of the whole listing
 pub any-cutting : (blocks : List (List ℕ)) → playedIn begins blocks ≡ played (flatten blocks)
 unfolding played
 any-cutting blocks =
     in-one blocks begins
-    ∙ all-answered (flatten blocks) [] (created chipId .adapter) emptyJournal (held 0 (replicate 81 0)) []
+    ∙ all-answered (flatten blocks) [] newState emptyJournal (held 0 (replicate 81 0)) []
     (none-begun (replicate 81 0) (length-replicate {A = ℕ} 81 0))

@@ -4,26 +4,23 @@ use mathlib.Core.Bool.{cond}
 use mathlib.Core.List.{List, [], _∷_, _++_, foldl}
 use lib.ListN.{take, set, replicate}
 use lib.Dec.{eqb, ltb}
-use Rattle.chip.specs.declared.Adapter.{Adapter}
-use Rattle.adapter.specs.Calls.{created}
-use Rattle.player.specs.declared.Played.{Played}
 use Rattle.player.specs.declared.Fed.{Fed}
 use Rattle.listing.specs.Characters.{lineFeed}
 use Rattle.listing.specs.Answer.{Wrote, wrote, written}
-use Rattle.player.specs.Play.{Turn, turn, chipId, emptyJournal}
+use Rattle.player.specs.Play.{Turn, turn, newState, emptyJournal}
 
 -- ---- one line, its output line in a lent buffer
 
 pub record Left : Type 0 where
-  pub adapter : Adapter
+  pub state : List ℕ
   pub journal : List ℕ
   pub output : Wrote
 
-abbrev pub left : Played → List ℕ → List ℕ → Left
-left r journal output = record { adapter = r .adapter; journal = journal; output = wrote (r .next) output }
+abbrev pub left : ℕ → List ℕ → List ℕ → List ℕ → Left
+left next state journal output = record { state = state; journal = journal; output = wrote next output }
 
 abbrev pub leaves : ℕ → List ℕ → Turn → Left
-leaves at output t = record { adapter = t .adapter; journal = t .journal; output = written at (t .text) output }
+leaves at output t = record { state = t .state; journal = t .journal; output = written at (t .text) output }
 
 -- ---- a byte of the input
 
@@ -43,15 +40,15 @@ held count line = record { count = count; line = line }
 unfoldable pub added : ℕ → ℕ → List ℕ → Held
 added count b line = cond (ltb count lineRoom) (held (count + 1) (set line count b)) (held count line)
 
--- Between two bytes: the adapter, its journal, the line so far, and the text that was answered.
+-- Between two bytes: the chip's state, its journal, the line so far, and the text that was answered.
 pub record Player : Type 0 where
-  pub adapter : Adapter
+  pub state : List ℕ
   pub journal : List ℕ
   pub line : Held
   pub text : List ℕ
 
-abbrev pub player : Adapter → List ℕ → List ℕ → ℕ → List ℕ → Player
-player a journal line count text = record { adapter = a; journal = journal; line = held count line; text = text }
+abbrev pub player : List ℕ → List ℕ → List ℕ → ℕ → List ℕ → Player
+player s journal line count text = record { state = s; journal = journal; line = held count line; text = text }
 
 abbrev pub sofar : Held → List ℕ
 sofar h = take (h .count) (h .line)
@@ -59,12 +56,12 @@ sofar h = take (h .count) (h .line)
 -- LF: the line is played
 unfoldable pub ends : Player → Player
 ends p =
-    let t = turn (p .adapter) (p .journal) (sofar (p .line)) in
-    record { adapter = t .adapter; journal = t .journal; line = held 0 (p .line .line); text = p .text ++ t .text }
+    let t = turn (p .state) (p .journal) (sofar (p .line)) in
+    record { state = t .state; journal = t .journal; line = held 0 (p .line .line); text = p .text ++ t .text }
 
 -- any other character joins the line
 unfoldable pub joins : Player → ℕ → Player
-joins p b = record { adapter = p .adapter; journal = p .journal; line = added (p .line .count) b (p .line .line); text = p .text }
+joins p b = record { state = p .state; journal = p .journal; line = added (p .line .count) b (p .line .line); text = p .text }
 
 unfoldable pub takes : Player → ℕ → Player
 takes p b = cond (eqb b lineFeed) (ends p) (joins p b)
@@ -77,11 +74,11 @@ closes p = cond (eqb (p .line .count) 0) p (ends p)
 
 -- power-on, an empty journal, and no line begun
 abbrev pub begins : Player
-begins = player (created chipId .adapter) emptyJournal (replicate lineRoom 0) 0 []
+begins = player newState emptyJournal (replicate lineRoom 0) 0 []
 
 -- the text is handed over before the next block
 abbrev pub handedOver : Player → Player
-handedOver p = record { adapter = p .adapter; journal = p .journal; line = p .line; text = [] }
+handedOver p = record { state = p .state; journal = p .journal; line = p .line; text = [] }
 
 -- the texts of all blocks and of the end
 unfoldable pub playedIn : Player → List (List ℕ) → List ℕ
@@ -91,13 +88,13 @@ playedIn p (block ∷ blocks) = foldl takes p block .text ++ playedIn (handedOve
 -- ---- a block of the input, the text in a lent buffer
 
 pub record Feeding : Type 0 where
-  pub adapter : Adapter
+  pub state : List ℕ
   pub journal : List ℕ
   pub line : Held
   pub output : Wrote
 
-abbrev pub fed : Fed → List ℕ → List ℕ → List ℕ → Feeding
-fed r journal line output = record { adapter = r .adapter; journal = journal; line = held (r .count) line; output = wrote (r .next) output }
+abbrev pub fed : Fed → List ℕ → List ℕ → List ℕ → List ℕ → Feeding
+fed r state journal line output = record { state = state; journal = journal; line = held (r .count) line; output = wrote (r .next) output }
 
-abbrev pub feeds : List ℕ → Player → Feeding
-feeds output p = record { adapter = p .adapter; journal = p .journal; line = p .line; output = written 0 (p .text) output }
+abbrev pub feeds : ℕ → List ℕ → Player → Feeding
+feeds at output p = record { state = p .state; journal = p .journal; line = p .line; output = written at (p .text) output }

@@ -4,8 +4,8 @@ use mathlib.Core.Bool.{cond}
 use mathlib.Core.List.{List, [], _∷_, _++_}
 use lib.ListN.{take, replicate}
 use lib.Dec.{eqb}
-use Rattle.chip.specs.declared.Adapter.{Adapter}
 use Rattle.numbers.specs.Numbers as numbers
+use Rattle.state.specs.Bytes.{stateSize}
 use Rattle.adapter.specs.Calls.{Outcome, outcome, plain, called, steppedBack, keptIn, created, madeEmpty}
 use Rattle.listing.specs.Characters.{lineFeed}
 use Rattle.listing.specs.Line.{Line, happens, back, unreadable, read}
@@ -14,10 +14,10 @@ use Rattle.listing.specs.Answer.{answerText}
 -- ---- one line
 
 -- what a line does: its event, a step back, or nothing and the answer 10
-abbrev pub heard : Adapter → List ℕ → Line → List ℕ → Outcome
-heard a journal (happens e) reply = called a journal e reply
-heard a journal back reply = outcome (steppedBack a journal .answer) (steppedBack a journal .journal) reply
-heard a journal unreadable reply = outcome (plain a numbers.unreadable) journal reply
+abbrev pub heard : List ℕ → List ℕ → Line → List ℕ → Outcome
+heard s journal (happens e) reply = called s journal e reply
+heard s journal back reply = let x = steppedBack s journal in outcome (plain (x .number)) (x .state) (x .journal) reply
+heard s journal unreadable reply = outcome (plain numbers.unreadable) s journal reply
 
 -- room for a body of 16 bytes
 abbrev pub noReply : List ℕ
@@ -29,14 +29,14 @@ answerOf o = answerText (o .answer .number) (keptIn (o .journal) .kept) (o .answ
 
 -- what a line leaves, and its output line
 pub record Turn : Type 0 where
-  pub adapter : Adapter
+  pub state : List ℕ
   pub journal : List ℕ
   pub text : List ℕ
 
-unfoldable pub turn : Adapter → List ℕ → List ℕ → Turn
-turn a journal line =
-    let o = heard a journal (read line) noReply in
-    record { adapter = o .answer .adapter; journal = o .journal; text = answerOf o }
+unfoldable pub turn : List ℕ → List ℕ → List ℕ → Turn
+turn s journal line =
+    let o = heard s journal (read line) noReply in
+    record { state = o .state; journal = o .journal; text = answerOf o }
 
 -- ---- a whole listing
 
@@ -51,17 +51,21 @@ linesFrom l [] = lastLine l
 linesFrom l (b ∷ s) = cond (eqb b lineFeed) (l ∷ linesFrom [] s) (linesFrom (l ++ (b ∷ [])) s)
 
 -- each line's answer, one after the other
-unfoldable pub answers : Adapter → List ℕ → List (List ℕ) → List ℕ
-answers a journal [] = []
-answers a journal (l ∷ ls) = turn a journal l .text ++ answers (turn a journal l .adapter) (turn a journal l .journal) ls
+unfoldable pub answers : List ℕ → List ℕ → List (List ℕ) → List ℕ
+answers s journal [] = []
+answers s journal (l ∷ ls) = turn s journal l .text ++ answers (turn s journal l .state) (turn s journal l .journal) ls
 
 -- the listing's chip ID
 abbrev pub chipId : ℕ
 chipId = 0x00000A
 
+-- the state of this chip that the creating call made of zeros
+abbrev pub newState : List ℕ
+newState = created (replicate stateSize 0) chipId .bytes
+
 -- a journal of 17,408 bytes that the emptying call made of zeros
 abbrev pub emptyJournal : List ℕ
-emptyJournal = madeEmpty (replicate 17408 0) .journal
+emptyJournal = madeEmpty (replicate 17408 0) .bytes
 
 unfoldable pub played : List ℕ → List ℕ
-played input = answers (created chipId .adapter) emptyJournal (linesFrom [] input)
+played input = answers newState emptyJournal (linesFrom [] input)

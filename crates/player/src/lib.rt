@@ -1,7 +1,6 @@
 // A listing played: each line's answer behind the last one's, lines cut out of blocks of any size.
 pub mod calls;
 
-use chip::Adapter;
 use listing::answer;
 use listing::characters::LINE_FEED;
 ghost use mathlib.Core.Path.{_≡_};
@@ -21,15 +20,8 @@ pub const LINE_ROOM: usize = 81;
 // Room that an output line never outgrows.
 pub const ANSWER_ROOM: usize = 48;
 
-// What a line leaves besides lent bytes: the state, and the place after its output line.
-pub struct Played {
-    pub adapter: Adapter,
-    pub next: usize,
-}
-
-// What a block leaves besides lent bytes: the state, the characters of the line so far, and the output's length.
+// What a block leaves besides lent bytes: the characters of the line so far, and the output's length.
 pub struct Fed {
-    pub adapter: Adapter,
     pub count: usize,
     pub next: usize,
 }
@@ -56,29 +48,23 @@ fn put_reply(
     answer::put_answer(out, at, number, kept, port, reply)
 }
 
-// Plays a line: its output line is written from a place on.
-pub fn play_line(a: Adapter, journal: &mut [u8], l: &[u8], out: &mut [u8], at: usize) -> Played
+// Plays a line: its output line is written from a place on. The place after it.
+pub fn play_line(state: &mut [u8], journal: &mut [u8], l: &[u8], out: &mut [u8], at: usize) -> usize
     requires { ⌜ at + 48 ≤ length (now out) ⌝ }
-    ensures { λ r. ⌜ left r (now (journal .exit)) (now (out .exit)) ≡ leaves at (now (out .entry)) (turn a (now (journal .entry)) (now (l .entry))) ⌝ }
-    ensures { λ r. ⌜ r .next ≤ at + 48 ⌝ }
+    ensures { λ r. ⌜ left r (now (state .exit)) (now (journal .exit)) (now (out .exit)) ≡ leaves at (now (out .entry)) (turn (now (state .entry)) (now (journal .entry)) (now (l .entry))) ⌝ }
+    ensures { λ r. ⌜ r ≤ at + 48 ⌝ }
 {
     let mut reply = [0u8; 16];
-    let r = calls::hear(a, journal, l, &mut reply);
+    let r = calls::hear(state, journal, l, &mut reply);
     let k = adapter::kept(journal);
-    let next = put_reply(out, at, r.number, k.kept, r.port, r.length, &reply);
-    let b = r.adapter;
-    Played {
-        adapter: b,
-        next: next,
-    }
+    put_reply(out, at, r.number, k.kept, r.port, r.length, &reply)
 }
 
-// A listing's chip as it starts.
-pub fn start() -> Adapter
-    ensures { λ r. ⌜ r ≡ created chipId .adapter ⌝ }
+// A listing's chip as it starts, in a state's bytes.
+pub fn start(state: &mut [u8])
+    ensures { λ _. ⌜ now (state .exit) ≡ created (now (state .entry)) chipId .bytes ⌝ }
 {
-    let c = adapter::create(CHIP_ID);
-    c.adapter
+    adapter::create(state, CHIP_ID);
 }
 
 // One character more of a line; those past the room for a line are not kept.
@@ -93,9 +79,39 @@ fn add(line: &mut [u8], count: usize, b: u8) -> usize
     count
 }
 
+// Takes a byte of the input: LF plays the line so far, and any other character joins it.
+fn take_byte(
+    state: &mut [u8],
+    count: usize,
+    journal: &mut [u8],
+    line: &mut [u8],
+    b: u8,
+    out: &mut [u8],
+    at: usize,
+) -> Fed
+    requires { ⌜ length (now line) ≡ 81 ⌝ }
+    requires { ⌜ count ≤ 81 ⌝ }
+    requires { ⌜ at + 48 ≤ length (now out) ⌝ }
+    ensures { λ r. ⌜ fed r (now (state .exit)) (now (journal .exit)) (now (line .exit)) (now (out .exit)) ≡ feeds at (now (out .entry)) (takes (player (now (state .entry)) (now (journal .entry)) (now (line .entry)) count []) b) ⌝ }
+    ensures { λ r. ⌜ (r .count ≤ 81) × (r .next ≤ at + 48) ⌝ }
+{
+    if b == LINE_FEED {
+        let next = play_line(state, journal, &line[..count], out, at);
+        return Fed {
+            count: 0,
+            next: next,
+        };
+    }
+    let more = add(line, count, b);
+    Fed {
+        count: more,
+        next: at,
+    }
+}
+
 // Plays a block of the input: the lines that end in it. The line so far stands in the lent line.
 pub fn feed(
-    first: Adapter,
+    state: &mut [u8],
     held: usize,
     journal: &mut [u8],
     line: &mut [u8],
@@ -105,53 +121,37 @@ pub fn feed(
     requires { ⌜ length (now line) ≡ 81 ⌝ }
     requires { ⌜ held ≤ 81 ⌝ }
     requires { ⌜ 48 * length (now block) ≤ length (now out) ⌝ }
-    ensures { λ r. ⌜ fed r (now (journal .exit)) (now (line .exit)) (now (out .exit)) ≡ feeds (now (out .entry)) (foldl takes (player first (now (journal .entry)) (now (line .entry)) held []) (now (block .entry))) ⌝ }
+    ensures { λ r. ⌜ fed r (now (state .exit)) (now (journal .exit)) (now (line .exit)) (now (out .exit)) ≡ feeds 0 (now (out .entry)) (foldl takes (player (now (state .entry)) (now (journal .entry)) (now (line .entry)) held []) (now (block .entry))) ⌝ }
     ensures { λ r. ⌜ (r .count ≤ 81) × (r .next ≤ 48 * length (now (block .entry))) ⌝ }
 {
-    let mut a = first;
-    let mut count = held;
-    let mut next = 0;
+    let mut f = Fed {
+        count: held,
+        next: 0,
+    };
     let mut i = 0;
     while i < block.len() {
-        let after = i + 1;
-        if block[i] == LINE_FEED {
-            let t = play_line(a, journal, &line[..count], out, next);
-            a = t.adapter;
-            next = t.next;
-            count = 0;
-            i = after;
-            continue;
-        }
-        count = add(line, count, block[i]);
-        i = after;
+        f = take_byte(state, f.count, journal, line, block[i], out, f.next);
+        i += 1;
     }
-    Fed {
-        adapter: a,
-        count: count,
-        next: next,
-    }
+    f
 }
 
-// Plays a last line that no LF ended, if there is one.
-pub fn finish(a: Adapter, count: usize, journal: &mut [u8], line: &mut [u8], out: &mut [u8]) -> Fed
+// Plays a last line that no LF ended, if there is one, as an LF would end it.
+pub fn finish(
+    state: &mut [u8],
+    count: usize,
+    journal: &mut [u8],
+    line: &mut [u8],
+    out: &mut [u8],
+) -> Fed
     requires { ⌜ length (now line) ≡ 81 ⌝ }
     requires { ⌜ count ≤ 81 ⌝ }
     requires { ⌜ 48 ≤ length (now out) ⌝ }
-    ensures { λ r. ⌜ fed r (now (journal .exit)) (now (line .exit)) (now (out .exit)) ≡ feeds (now (out .entry)) (closes (player a (now (journal .entry)) (now (line .entry)) count [])) ⌝ }
+    ensures { λ r. ⌜ fed r (now (state .exit)) (now (journal .exit)) (now (line .exit)) (now (out .exit)) ≡ feeds 0 (now (out .entry)) (closes (player (now (state .entry)) (now (journal .entry)) (now (line .entry)) count [])) ⌝ }
     ensures { λ r. ⌜ r .next ≤ 48 ⌝ }
 {
     if count == 0 {
-        return Fed {
-            adapter: a,
-            count: 0,
-            next: 0,
-        };
+        return Fed { count: 0, next: 0 };
     }
-    let t = play_line(a, journal, &line[..count], out, 0);
-    let b = t.adapter;
-    Fed {
-        adapter: b,
-        count: 0,
-        next: t.next,
-    }
+    take_byte(state, count, journal, line, LINE_FEED, out, 0)
 }

@@ -16,10 +16,10 @@ use Rattle.channels.proofs.Laws.{decoded-cases}
 use Rattle.numbers.specs.Numbers.{noFrame}
 use Rattle.packets.specs.Packets.{requestOf}
 use Rattle.link.specs.Link.{receiveNumber, numberIn, inLoopback}
-use Rattle.chip.specs.declared.Adapter.{Adapter}
+use Rattle.state.specs.declared.Adapter.{Adapter}
 use Rattle.chip.specs.Answer.{Reaction, gives}
 use Rattle.chip.specs.Event.{frame}
-use Rattle.chip.specs.State.{withRegisters}
+use Rattle.state.specs.State.{withRegisters}
 use Rattle.chip.specs.Request.{replies, finished, requested}
 use Rattle.chip.specs.Frame.{addressOf, controlOf, informationOf, isConnect, isReset, isTest, counted, numbered, carried, addressed, onFrame}
 use Rattle.chip.specs.Chip.{reaction}

@@ -19,7 +19,7 @@ use Rattle.parts.specs.Digits.{number, digits}
 use Rattle.wire.specs.Bits.{low, wire}
 use Rattle.wire.specs.Frame.{stuff}
 use Rattle.chip.specs.Event.{spi, frame, completion, sample, upset}
-use Rattle.chip.specs.State.{poweredOn}
+use Rattle.state.specs.State.{poweredOn}
 use Rattle.chip.specs.Request.{replies, requested}
 use Rattle.chip.specs.Frame.{isResetFrame, commanded, numbered, carried, addressed, onFrame}
 use Rattle.chip.specs.Chip.{reaction, onSample, onUpset}

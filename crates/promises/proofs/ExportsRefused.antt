@@ -6,10 +6,9 @@ use mathlib.Core.Bool.{Bool, true, false, cond, _&&_, false≢true}
 use mathlib.Core.List.{List}
 use native.Mathlib.Omega.{arith}
 use lib.ListN.{length, drop}
-use lib.Dec.{eqb, ltb, leb, lit<}
+use lib.Dec.{eqb, leb, lit<}
 use borrow.Author.Tests.{eqb-true}
 use Rattle.numbers.specs.Numbers as number
-use Rattle.parts.proofs.Laws.{AreBytes}
 use Rattle.chip.specs.Event.{Event}
 use Rattle.transmitter.specs.declared.Sent.{Sent}
 use Rattle.transmitter.specs.Frame.{framed}
@@ -19,74 +18,44 @@ use Rattle.receiver.specs.declared.Receiver.{Receiver}
 use Rattle.receiver.specs.declared.Received.{Received}
 use Rattle.receiver.specs.Receiver.{inRange, view}
 use Rattle.receiver.specs.Receive.{readFrom, receivedAs, received}
-use Rattle.journal.specs.Layout.{wrongLength}
-use Rattle.adapter.specs.Calls as Calls
-use Rattle.adapter.specs.Calls.{Outcome, Stepped}
-use Rattle.sca.specs.Adapter.{stateSize, stateBytes, stateIn, isState, packAnswer, left, happened, backed, steppedBack, created, emptied}
+use Rattle.adapter.specs.Calls.{Outcome, created, madeEmpty, called, steppedBack, stepped}
+use Rattle.sca.specs.Adapter.{left, packAnswer, packed}
 use Rattle.sca.specs.Link.{receiverBytes, receiverOf, transmitResult, transmitOutput, newResult, newReceiver, receiveResult, receiveReceiver, receiveOutput}
-use Rattle.sca.proofs.States.{state-again}
 use Rattle.sca.proofs.Spelling.{spelled-again}
 use Rattle.promises.specs.Runs.{isRefusal}
-use Rattle.promises.specs.Exported.{resultNumber}
-use Rattle.promises.proofs.Exported.{its-number, called-number, back-small}
-use Rattle.promises.proofs.Refused.{event-unchanged, back-unchanged, transmit-unchanged, reading-number, receive-unchanged}
+use Rattle.promises.specs.Ours.{resultNumber}
+use Rattle.promises.proofs.Exported.{its-number, called-number, back-number, create-number, empty-number}
+use Rattle.promises.proofs.Refused.{event-unchanged, back-unchanged, create-unchanged, empty-unchanged, transmit-unchanged, reading-number, receive-unchanged}
 
 -- the number is below the count that is packed above it
 sent-again : (n c : ℕ) → n < 256 → (n + 256 * c) % 256 ≡ n
 sent-again n c h = omega arith
 
+alone-again : (n : ℕ) → n < 256 → n % 256 ≡ n
+alone-again n h = omega arith
+
 -- ---- the adapter's calls
 
-module _ (s journal : List ℕ) (bytes : AreBytes s) where
-  -- sca_frame, sca_completion, sca_sample, sca_upset
-  pub event-keeps : (e : Event) (output : List ℕ) → isRefusal (resultNumber (happened s journal e output .result)) ≡ true
-      → happened s journal e output ≡ left (happened s journal e output .result) s journal output
-  unfolding happened
-  event-keeps e output h = by (isState s) refl
-    where
-      by : (t : Bool) → isState s ≡ t → happened s journal e output ≡ left (happened s journal e output .result) s journal output
-      by true q =
-          let x = Calls.called (stateIn s) journal e output in
-          let n = its-number (x .answer .number) (x .answer .length) (x .answer .port) (called-number (stateIn s) journal e output) in
-          let u = event-unchanged (stateIn s) journal e output (ap isRefusal (sym n) ∙ (rw q at h)) in
-          rw q
-          (ap (λ (c : Outcome). left (packAnswer (x .answer)) (stateBytes (c .answer .adapter)) (c .journal) (c .output)) u
-          ∙ ap (λ (y : List ℕ). left (packAnswer (x .answer)) y journal output) (state-again s q bytes))
-      by false q = rw q refl
+-- sca_frame, sca_completion, sca_sample, sca_upset
+pub event-keeps : (s journal : List ℕ) (e : Event) (output : List ℕ) → let x = packed (called s journal e output) in
+    isRefusal (resultNumber (x .result)) ≡ true → x ≡ left (x .result) s journal output
+event-keeps s journal e output h =
+    let x = called s journal e output .answer in
+    let n = its-number (x .number) (x .length) (x .port) (called-number s journal e output) in
+    ap (λ (c : Outcome). left (packAnswer x) (c .state) (c .journal) (c .output)) (event-unchanged s journal e output (ap isRefusal (sym n) ∙ h))
 
-  -- sca_step_back
-  pub back-keeps : isRefusal (resultNumber (steppedBack s journal .result)) ≡ true → steppedBack s journal ≡ backed (steppedBack s journal .result) s journal
-  unfolding steppedBack
-  back-keeps h = by (isState s) refl
-    where
-      by : (t : Bool) → isState s ≡ t → steppedBack s journal ≡ backed (steppedBack s journal .result) s journal
-      by true q =
-          let x = Calls.steppedBack (stateIn s) journal in
-          let n = its-number (x .answer .number) (x .answer .length) (x .answer .port) (back-small (stateIn s) journal .number) in
-          let u = back-unchanged (stateIn s) journal (ap isRefusal (sym n) ∙ (rw q at h)) in
-          rw q
-          (ap (λ (c : Stepped). backed (packAnswer (x .answer)) (stateBytes (c .answer .adapter)) (c .journal)) u
-          ∙ ap (λ (y : List ℕ). backed (packAnswer (x .answer)) y journal) (state-again s q bytes))
-      by false q = rw q refl
+-- sca_step_back
+pub back-keeps : (s journal : List ℕ) → isRefusal (resultNumber (steppedBack s journal .number)) ≡ true
+    → steppedBack s journal ≡ stepped (steppedBack s journal .number) s journal
+back-keeps s journal h = back-unchanged s journal (ap isRefusal (sym (alone-again _ (back-number s journal))) ∙ h)
 
 -- sca_create
-pub create-keeps : (s : List ℕ) (id : ℕ) → isRefusal (resultNumber (created s id .result)) ≡ true → created s id .bytes ≡ s
-unfolding created Calls.created
-create-keeps s id h = by (eqb (length s) stateSize) refl (ltb 0xFFFFFF id) refl
-  where
-    by : (t : Bool) → eqb (length s) stateSize ≡ t → (l : Bool) → ltb 0xFFFFFF id ≡ l → created s id .bytes ≡ s
-    by true q true k = rw (q, k) refl
-    by true q false k = absurd (false≢true (rw (q, k) at h))
-    by false q l k = rw q refl
+pub create-keeps : (s : List ℕ) (id : ℕ) → isRefusal (resultNumber (created s id .number)) ≡ true → created s id .bytes ≡ s
+create-keeps s id h = create-unchanged s id (ap isRefusal (sym (alone-again _ (create-number s id))) ∙ h)
 
 -- sca_empty
-pub empty-keeps : (journal : List ℕ) → isRefusal (resultNumber (emptied journal .result)) ≡ true → emptied journal .bytes ≡ journal
-unfolding emptied Calls.madeEmpty
-empty-keeps journal h = by (wrongLength journal) refl
-  where
-    by : (t : Bool) → wrongLength journal ≡ t → emptied journal .bytes ≡ journal
-    by true q = rw q refl
-    by false q = absurd (false≢true (rw q at h))
+pub empty-keeps : (journal : List ℕ) → isRefusal (resultNumber (madeEmpty journal .number)) ≡ true → madeEmpty journal .bytes ≡ journal
+empty-keeps journal h = empty-unchanged journal (ap isRefusal (sym (alone-again _ (empty-number journal))) ∙ h)
 
 -- ---- the link's calls
 

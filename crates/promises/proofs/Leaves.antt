@@ -11,19 +11,20 @@ use lib.Seq.{drop-at}
 use lib.Dec.{leb}
 use Rattle.numbers.specs.Numbers as number
 use Rattle.parts.specs.Parts.{put}
-use Rattle.parts.proofs.Laws.{put-none, length-put}
+use Rattle.parts.proofs.Laws.{AreBytes, put-none, length-put}
 use Rattle.wire.specs.Bits.{wire}
 use Rattle.receiver.specs.declared.Receiver.{Receiver}
 use Rattle.receiver.specs.declared.Received.{Received}
 use Rattle.receiver.specs.Receiver as receiver
 use Rattle.receiver.specs.Receive.{reading, readFrom, receivedAs, received, outputAfter}
-use Rattle.chip.specs.declared.Adapter.{Adapter}
+use Rattle.state.specs.declared.Adapter.{Adapter}
 use Rattle.chip.specs.Answer.{Reaction, frontLength, laid}
 use Rattle.chip.specs.Event.{Event, frame, completion, sample, upset}
 use Rattle.chip.proofs.EventFits.{EventFits}
 use Rattle.chip.specs.Chip.{reaction, acceptedReset}
-use Rattle.chip.specs.State.{inRange}
-use Rattle.chip.proofs.Fits.{Fits, of-in-range}
+use Rattle.state.specs.Bytes.{stateBytes, stateIn}
+use Rattle.state.proofs.Good.{ranged-port}
+use Rattle.state.proofs.Spelling.{its-range, state-again}
 use Rattle.chip.proofs.Laws.{dropped-keeps, accepted-reset, OneFrame, one-frame, sendable}
 use Rattle.chip.proofs.Bodies.{one, none, Every, Framable}
 use Rattle.journal.specs.Layout.{slotsOf, pushed}
@@ -142,15 +143,15 @@ laid-alone : (r : Reaction) (output : List ℕ) → OneFrame r → r .number ≡
 laid-alone r output (one b port body) h f room = front-alone (length body) body output refl (f .0 .least) (f .0 .most) room
 laid-alone r output (none b n other) h f room = absurd (other h)
 
-by-verdict : (s f o g b : Bool) (a : Adapter) (j : List ℕ) (e : Event) (output : List ℕ)
-    → isRefusal (judged (inOrder s f o g b) a j e output .answer .number) ≡ false → inOrder s f o g b ≡ Passed
+by-verdict : (x f o g b : Bool) (s j : List ℕ) (e : Event) (output : List ℕ)
+    → isRefusal (judged (inOrder x f o g b) s j e output .answer .number) ≡ false → inOrder x f o g b ≡ Passed
 unfolding inOrder
-by-verdict true f o g b a j e output h = absurd (true≢false h)
-by-verdict false true o g b a j e output h = absurd (true≢false h)
-by-verdict false false true g b a j e output h = absurd (true≢false h)
-by-verdict false false false true b a j e output h = absurd (true≢false h)
-by-verdict false false false false true a j e output h = absurd (true≢false h)
-by-verdict false false false false false a j e output h = refl
+by-verdict true f o g b s j e output h = absurd (true≢false h)
+by-verdict false true o g b s j e output h = absurd (true≢false h)
+by-verdict false false true g b s j e output h = absurd (true≢false h)
+by-verdict false false false true b s j e output h = absurd (true≢false h)
+by-verdict false false false false true s j e output h = absurd (true≢false h)
+by-verdict false false false false false s j e output h = refl
 
 -- an accepted RESET is answered
 reset-answered : (a : Adapter) (e : Event) → acceptedReset e ≡ true → reaction a e .number ≡ number.hasFrame
@@ -159,73 +160,73 @@ reset-answered a (completion c) h = absurd (true≢false (sym h))
 reset-answered a (sample levels kind) h = absurd (true≢false (sym h))
 reset-answered a upset h = absurd (true≢false (sym h))
 
-kept-number : (a : Adapter) (e : Event) (j : List ℕ) → Well j → Fits a → acceptedReset e ≡ false
-    → keptIn (recorded a e j) ≡ record { number = number.noFrame; kept = min (slotsOf j) (keptIn j .kept + 1) }
+kept-number : (s : List ℕ) (e : Event) (j : List ℕ) → Well j → acceptedReset e ≡ false
+    → keptIn (recorded s e j) ≡ record { number = number.noFrame; kept = min (slotsOf j) (keptIn j .kept + 1) }
 unfolding keptIn
-kept-number a e j w f other = rw (well-of (recorded-well a e j w f), well-of w, recorded-kept a e j w f, other) refl
+kept-number s e j w other = rw (well-of (recorded-well s e j w), well-of w, recorded-kept s e j w, other) refl
 
 over-ten : (n : ℕ) → 11 ≤ n → isRefusal n ≡ false
 over-ten n h = split (leb 1 n) (λ t. rw (t, lt-leb n 10 h) refl) (λ t. rw t refl)
 
-module _ (a : Adapter) (j : List ℕ) (e : Event) (output : List ℕ) where
+module _ (s : List ℕ) (j : List ℕ) (e : Event) (output : List ℕ) where
   -- an event that is done
   record Happened : Type 0 where
-    passes : Passing a j e output
-    call : called a j e output ≡ done a j e output
-    answer : called a j e output .answer .number ≡ reaction a e .number
+    passes : Passing s j e output
+    call : called s j e output ≡ done s j e output
+    answer : called s j e output .answer .number ≡ reaction (stateIn s) e .number
 
-  happened : isRefusal (called a j e output .answer .number) ≡ false → Happened
+  happened : isRefusal (called s j e output .answer .number) ≡ false → Happened
   unfolding called verdict done
   happened h =
-      let v : verdict a j e output ≡ Passed = by-verdict _ _ _ _ _ a j e output h in
-      let c : called a j e output ≡ done a j e output = called-done a j e output v in
-      record { passes = passing a j e output (verdict a j e output) refl v; call = c; answer = ap (λ (x : Outcome). x .answer .number) c }
+      let v : verdict s j e output ≡ Passed = by-verdict _ _ _ _ _ s j e output h in
+      let c : called s j e output ≡ done s j e output = called-done s j e output v in
+      record { passes = passing s j e output (verdict s j e output) refl v; call = c; answer = ap (λ (x : Outcome). x .answer .number) c }
 
   -- Every number but 0 leaves every output byte.
-  pub event-other : (called a j e output .answer .number ≡ number.hasFrame → ⊥) → called a j e output .output ≡ output
+  pub event-other : (called s j e output .answer .number ≡ number.hasFrame → ⊥) → called s j e output .output ≡ output
   unfolding done
   event-other h =
-      split (isRefusal (called a j e output .answer .number))
-      (λ t. ap (λ (x : Outcome). x .output) (event-unchanged a j e output t))
+      split (isRefusal (called s j e output .answer .number))
+      (λ t. ap (λ (x : Outcome). x .output) (event-unchanged s j e output t))
       (λ t.
       let d : Happened = happened t in
-      ap (λ (x : Outcome). x .output) (d .call) ∙ unsent a e output (λ z. h (d .answer ∙ z)))
+      ap (λ (x : Outcome). x .output) (d .call) ∙ unsent (stateIn s) e output (λ z. h (d .answer ∙ z)))
 
   -- 0: A BODY AT THE FRONT OF THE OUTPUT, as many bytes as the call gives, 2 to 16; no other byte changes.
-  pub event-0 : OfItsTypes (event e output) → called a j e output .answer .number ≡ number.hasFrame
-      → FrontAlone (called a j e output .answer .length) output (called a j e output .output)
+  pub event-0 : OfItsTypes (event e output) → called s j e output .answer .number ≡ number.hasFrame
+      → FrontAlone (called s j e output .answer .length) output (called s j e output .output)
   unfolding done
   event-0 types h =
       let d : Happened = happened (rw h refl) in
-      let p : Passing a j e output = d .passes in
+      let p : Passing s j e output = d .passes in
       let f : EventFits e = fits e output types (rw (le-ltb (length output) 16 (p .room), p .argument, p .body) refl) in
-      rw (d .call) (laid-alone (reaction a e) output (one-frame a e) (sym (d .answer) ∙ h) (sendable a e (of-in-range a (p .ranged) .port) f .1) (p .room))
+      rw (d .call) (laid-alone (reaction (stateIn s) e) output (one-frame (stateIn s) e) (sym (d .answer) ∙ h) (sendable (stateIn s) e (ranged-port (stateIn s) (its-range s (p .state))) f .1) (p .room))
 
   -- 11 TO 16: OUTPUT AND REGISTERS UNCHANGED, EVENT KEPT. The whole state stays, the event's record joins the journal, and the kept
   -- number goes up by one, to at most the journal's slots.
   pub record Dropped : Type 0 where
-    pub state : called a j e output .answer .adapter ≡ a
-    pub bytes : called a j e output .output ≡ output
-    pub entry : called a j e output .journal ≡ pushed (before a e) j
-    pub kept : keptIn (called a j e output .journal) ≡ record { number = number.noFrame; kept = min (slotsOf j) (keptIn j .kept + 1) }
+    pub state : called s j e output .state ≡ s
+    pub bytes : called s j e output .output ≡ output
+    pub entry : called s j e output .journal ≡ pushed (before s e) j
+    pub kept : keptIn (called s j e output .journal) ≡ record { number = number.noFrame; kept = min (slotsOf j) (keptIn j .kept + 1) }
 
-  pub event-11-to-16 : Fits a → 11 ≤ called a j e output .answer .number → called a j e output .answer .number ≤ 16 → Dropped
+  pub event-11-to-16 : AreBytes s → 11 ≤ called s j e output .answer .number → called s j e output .answer .number ≤ 16 → Dropped
   unfolding done
-  event-11-to-16 f l u =
-      let d : Happened = happened (over-ten (called a j e output .answer .number) l) in
-      let n : called a j e output .answer .number ≡ reaction a e .number = d .answer in
-      let least : 11 ≤ reaction a e .number = omega arith in
-      let most : reaction a e .number ≤ 16 = omega arith in
+  event-11-to-16 b l u =
+      let d : Happened = happened (over-ten (called s j e output .answer .number) l) in
+      let n : called s j e output .answer .number ≡ reaction (stateIn s) e .number = d .answer in
+      let least : 11 ≤ reaction (stateIn s) e .number = omega arith in
+      let most : reaction (stateIn s) e .number ≤ 16 = omega arith in
       let other : acceptedReset e ≡ false =
-      split (acceptedReset e) (λ t. absurd (omega (arith, reset-answered a e t))) (λ t. t) in
+      split (acceptedReset e) (λ t. absurd (omega (arith, reset-answered (stateIn s) e t))) (λ t. t) in
       let w : Well j = of-well j (d .passes .formed) in
       record {
-        state = ap (λ (x : Outcome). x .answer .adapter) (d .call) ∙ dropped-keeps a e least most;
+        state = ap (λ (x : Outcome). x .state) (d .call) ∙ ap stateBytes (dropped-keeps (stateIn s) e least most) ∙ state-again s (d .passes .state) b;
         bytes = event-other (λ z. omega arith);
         entry = ap (λ (x : Outcome). x .journal) (d .call) ∙ rw other refl;
-        kept = ap (λ (x : Outcome). keptIn (x .journal)) (d .call) ∙ kept-number a e j w f other;
+        kept = ap (λ (x : Outcome). keptIn (x .journal)) (d .call) ∙ kept-number s e j w other;
       }
 
   -- 17: OUTPUT UNCHANGED.
-  pub event-17 : called a j e output .answer .number ≡ number.noFrame → called a j e output .output ≡ output
+  pub event-17 : called s j e output .answer .number ≡ number.noFrame → called s j e output .output ≡ output
   event-17 h = event-other (λ z. omega arith)

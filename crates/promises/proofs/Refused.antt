@@ -3,7 +3,7 @@
 use Prim.Native.Nat.{ℕ, _*_, _-_, _/_, _%_}
 use mathlib.Core.Path.{_≡_, refl, sym, ap, _∙_}
 use mathlib.Core.List.{List}
-use mathlib.Core.Bool.{Bool, true, false, cond, _&&_, false≢true}
+use mathlib.Core.Bool.{Bool, true, false, not, cond, _&&_, false≢true}
 use lib.ListN.{length, take, drop}
 use lib.Dec.{eqb, ltb, leb}
 use Rattle.parts.specs.Parts.{put}
@@ -19,64 +19,63 @@ use Rattle.transmitter.specs.Transmit as transmit
 use Rattle.transmitter.specs.declared.Sent.{Sent}
 use Rattle.receiver.specs.declared.Receiver.{Receiver}
 use Rattle.receiver.specs.declared.Received.{Received}
-use Rattle.chip.specs.declared.Adapter.{Adapter}
+use Rattle.state.specs.State.{powerOn}
+use Rattle.state.specs.Bytes.{stateSize, stateBytes, stateIn}
 use Rattle.chip.specs.Event.{Event}
-use Rattle.chip.specs.State.{powerOn, inRange}
 use Rattle.chip.proofs.Laws.{number-given}
 use Rattle.journal.specs.Layout.{wrongLength, emptied}
 use Rattle.adapter.specs.declared.Verdict.{Verdict}
 use Rattle.adapter.specs.declared.Verdict.the-variants.{Refused, Passed}
-use Rattle.adapter.specs.declared.Created.{Created}
 use Rattle.adapter.specs.Refusals.{verdict, backVerdict}
-use Rattle.adapter.specs.Calls.{Outcome, outcome, plain, done, called, stepped, judgedBack, steppedBack, cleared, madeEmpty, created}
-use Rattle.adapter.proofs.Laws.{no-adapter, called-refused, called-done}
+use Rattle.adapter.specs.Calls.{made, created, madeEmpty, Outcome, outcome, plain, done, called, stepped, judgedBack, steppedBack}
+use Rattle.adapter.proofs.Laws.{called-refused, called-done}
 use Rattle.promises.specs.Runs.{isRefusal}
 use Rattle.promises.proofs.Runs.{not-one-to-ten}
 
 -- ---- the adapter
 
-module _ (a : Adapter) (j : List ℕ) (e : Event) (o : List ℕ) where
-  -- an event: the adapter, the journal and the output as they came
-  pub event-unchanged : isRefusal (called a j e o .answer .number) ≡ true → called a j e o ≡ outcome (plain a (called a j e o .answer .number)) j o
+module _ (s : List ℕ) (j : List ℕ) (e : Event) (o : List ℕ) where
+  -- an event: the state, the journal and the output as they came
+  pub event-unchanged : isRefusal (called s j e o .answer .number) ≡ true → called s j e o ≡ outcome (plain (called s j e o .answer .number)) s j o
   unfolding done
-  event-unchanged h = go (verdict a j e o) refl
+  event-unchanged h = go (verdict s j e o) refl
     where
-      go : (v : Verdict) → verdict a j e o ≡ v → called a j e o ≡ outcome (plain a (called a j e o .answer .number)) j o
+      go : (v : Verdict) → verdict s j e o ≡ v → called s j e o ≡ outcome (plain (called s j e o .answer .number)) s j o
       go (Refused n) q =
-          let x = called-refused a j e o n q in
-          x ∙ ap (λ (m : ℕ). outcome (plain a m) j o) (sym (ap (λ (y : Outcome). y .answer .number) x))
+          let x = called-refused s j e o n q in
+          x ∙ ap (λ (m : ℕ). outcome (plain m) s j o) (sym (ap (λ (y : Outcome). y .answer .number) x))
       go Passed q =
-          let x = called-done a j e o q in
-          absurd (not-one-to-ten _ (number-given a e) (ap (λ (y : Outcome). isRefusal (y .answer .number)) (sym x) ∙ h))
+          let x = called-done s j e o q in
+          absurd (not-one-to-ten _ (number-given (stateIn s) e) (ap (λ (y : Outcome). isRefusal (y .answer .number)) (sym x) ∙ h))
 
 -- a step back
-pub back-unchanged : (a : Adapter) (j : List ℕ) → isRefusal (steppedBack a j .answer .number) ≡ true → steppedBack a j ≡ stepped (plain a (steppedBack a j .answer .number)) j
+pub back-unchanged : (s j : List ℕ) → isRefusal (steppedBack s j .number) ≡ true → steppedBack s j ≡ stepped (steppedBack s j .number) s j
 unfolding steppedBack
-back-unchanged a j h = go (backVerdict a j) h
+back-unchanged s j h = go (backVerdict s j) h
   where
-    go : (v : Verdict) → isRefusal (judgedBack v a j .answer .number) ≡ true → judgedBack v a j ≡ stepped (plain a (judgedBack v a j .answer .number)) j
+    go : (v : Verdict) → isRefusal (judgedBack v s j .number) ≡ true → judgedBack v s j ≡ stepped (judgedBack v s j .number) s j
     go (Refused n) q = refl
     go Passed q = absurd (false≢true q)
 
 -- the emptying call
-cleared-unchanged : (j j′ : List ℕ) (b : Bool) → isRefusal (cond b (cleared 4 j) (cleared 17 j′) .number) ≡ true
-    → cond b (cleared 4 j) (cleared 17 j′) .journal ≡ j
-cleared-unchanged j j′ true h = refl
-cleared-unchanged j j′ false h = absurd (false≢true h)
-
-pub empty-unchanged : (j : List ℕ) → isRefusal (madeEmpty j .number) ≡ true → madeEmpty j .journal ≡ j
+pub empty-unchanged : (j : List ℕ) → isRefusal (madeEmpty j .number) ≡ true → madeEmpty j .bytes ≡ j
 unfolding madeEmpty
-empty-unchanged j h = cleared-unchanged j (emptied j) (wrongLength j) h
+empty-unchanged j h = go (wrongLength j) h
+  where
+    go : (b : Bool) → isRefusal (cond b (made 4 j) (made 17 (emptied j)) .number) ≡ true → cond b (made 4 j) (made 17 (emptied j)) .bytes ≡ j
+    go true q = refl
+    go false q = absurd (false≢true q)
 
--- creation: no adapter, for every call refuses the one that comes with 7
-created-none : (id : ℕ) (b : Bool) → let r : Created = cond b (record { number = 7; adapter = powerOn 0xFFFFFFFF }) (record { number = 17; adapter = powerOn id }) in
-    isRefusal (r .number) ≡ true → inRange (r .adapter) ≡ false
-created-none id true h = no-adapter
-created-none id false h = absurd (false≢true h)
-
-pub no-adapter-created : (id : ℕ) → isRefusal (created id .number) ≡ true → inRange (created id .adapter) ≡ false
+-- creation: no adapter, the bytes as they came
+pub create-unchanged : (s : List ℕ) (id : ℕ) → isRefusal (created s id .number) ≡ true → created s id .bytes ≡ s
 unfolding created
-no-adapter-created id h = created-none id (ltb 0xFFFFFF id) h
+create-unchanged s id h = go (not (eqb (length s) stateSize)) (ltb 0xFFFFFF id) h
+  where
+    go : (a b : Bool) → isRefusal (cond a (made 6 s) (cond b (made 7 s) (made 17 (stateBytes (powerOn id)))) .number) ≡ true
+        → cond a (made 6 s) (cond b (made 7 s) (made 17 (stateBytes (powerOn id)))) .bytes ≡ s
+    go true b q = refl
+    go false true q = refl
+    go false false q = absurd (false≢true q)
 
 -- ---- the link
 

@@ -7,17 +7,21 @@ use mathlib.Core.Bool.{Bool, true, false, not, cond, _&&_, _||_, false≢true, t
 use mathlib.Core.Logic.{_⊎_, inl, inr, ⊎-elim}
 use native.Mathlib.Nat.{eq-zero-or-pos}
 use native.Mathlib.Omega.{arith}
-use lib.ListN.{length, drop, length-drop}
+use lib.ListN.{length, drop, replicate, length-drop, length-replicate}
 use lib.Seq.{drop-drop}
 use lib.Dec.{eqb, ltb, leb}
 use borrow.Author.Tests.{eq-eqb, ne-eqb, eqb-true, eqb-false, ltb-false, le-ltb, leb-true, not-false}
 use Rattle.numbers.specs.Numbers as number
-use Rattle.chip.specs.declared.Adapter.{Adapter}
+use Rattle.state.specs.declared.Adapter.{Adapter}
 use Rattle.chip.specs.Event.{spi, Event, frame, completion, sample, upset}
 use Rattle.chip.proofs.EventFits.{EventFits}
-use Rattle.chip.specs.State.{powerOn, inRange}
+use Rattle.state.specs.State.{powerOn}
+use Rattle.state.specs.Bytes.{stateSize, stateBytes, stateIn}
+use Rattle.state.proofs.Spelling.{state-back, state-bytes}
 use Rattle.chip.specs.Chip.{reaction, acceptedReset}
-use Rattle.chip.proofs.Laws.{Fits, Good, good-fits, good-ranged, power-on-good, good-stays, number-given}
+use Rattle.chip.specs.Answer.{response, laid}
+use Rattle.chip.proofs.Laws.{good-stays, number-given}
+use Rattle.state.proofs.Good.{Good, power-on-good}
 use Rattle.journal.specs.Layout.{slotsOf, wrongLength, keptOf, past, emptied, lowered}
 use Rattle.journal.specs.Record.{restored, sound}
 use Rattle.bits.proofs.Tests.{either}
@@ -25,12 +29,12 @@ use Rattle.journal.proofs.Ring.{Well, well-of, emptied-well, emptied-slots, emp
 use Rattle.adapter.specs.declared.Verdict.the-variants.{Refused, Passed}
 use Rattle.adapter.specs.declared.KeptNumber.{KeptNumber}
 use Rattle.adapter.specs.Refusals.{wrongArgument, wrongBody, inOrder, verdict}
-use Rattle.adapter.specs.Calls.{Outcome, outcome, plain, recorded, done, called, Stepped, stepped, steppedBack, Cleared, keptIn, created}
+use Rattle.adapter.specs.Calls.{Made, made, created, keptIn, Outcome, outcome, plain, shown, recorded, done, called, Stepped, stepped, steppedBack}
 use Rattle.adapter.proofs.Laws.{called-refused, called-done, own-refusals, recorded-well, recorded-slots, recorded-kept, newest-restores}
 use Rattle.adapter.proofs.Laws.{newest-sound, older-stay, back-refused, back-done, empty-done}
 use Rattle.promises.specs.Runs.{Call, event, back, empty, Given, OfItsTypes, AllOfTheirTypes, Run, left, refusal, refused, Standing, atStart}
 use Rattle.promises.specs.Runs.{keeps, standing, stateAfter, dueState, bare, answered, due, refuses, lent, Demand3}
-use Rattle.promises.specs.Ours.{Handed, handed, shown, givesOurs, leavesOurs, ours}
+use Rattle.promises.specs.Ours.{Handed, handed, given, givesOurs, leavesOurs, ours}
 use Rattle.promises.proofs.Formats.{always-64}
 
 -- ---- what refuses an event's own arguments
@@ -67,15 +71,17 @@ fits (sample levels kind) output t h =
     record { levels = t; kind = ltb-false 2 kind (b .0) }
 fits upset output t h = tt
 
-module _ (a : Adapter) (j : List ℕ) (ranged : inRange a ≡ true) (w : Well j) (e : Event) (o : List ℕ) where
-  own : verdict a j e o ≡ cond (refused e o) (Refused (refusal e o)) Passed
-  own = own-refusals a j e o ranged w ∙ by-order (ltb (length o) 16) (wrongArgument e) (wrongBody e)
+module _ (a : Adapter) (g : Good a) (j : List ℕ) (w : Well j) (e : Event) (o : List ℕ) where
+  own : verdict (stateBytes a) j e o ≡ cond (refused e o) (Refused (refusal e o)) Passed
+  own = own-refusals (stateBytes a) j e o (state-bytes a g) w ∙ by-order (ltb (length o) 16) (wrongArgument e) (wrongBody e)
 
-  is-refused : refused e o ≡ true → called a j e o ≡ outcome (plain a (refusal e o)) j o
-  is-refused h = called-refused a j e o (refusal e o) (own ∙ rw h refl)
+  is-refused : refused e o ≡ true → called (stateBytes a) j e o ≡ outcome (plain (refusal e o)) (stateBytes a) j o
+  is-refused h = called-refused (stateBytes a) j e o (refusal e o) (own ∙ rw h refl)
 
-  is-done : refused e o ≡ false → called a j e o ≡ done a j e o
-  is-done h = called-done a j e o (own ∙ rw h refl)
+  is-done : refused e o ≡ false → called (stateBytes a) j e o
+      ≡ outcome (shown (response (reaction a e))) (stateBytes (reaction a e .adapter)) (recorded (stateBytes a) e j) (laid (reaction a e .frames) o)
+  unfolding done
+  is-done h = called-done (stateBytes a) j e o (own ∙ rw h refl) ∙ rw (state-back a g) refl
 
 -- the numbers that the chip gives are no refusals
 pub not-one-to-ten : (n : ℕ) → (n ≡ 0) ⊎ ((11 ≤ n) × (n ≤ 17)) → (leb 1 n && leb n 10) ≡ true → ⊥
@@ -110,22 +116,20 @@ module _ (id : ℕ) (small : id ≤ number.idMost) where
   after-good [] f = power-on-good id small
   after-good (e ∷ es) f = good-stays (stateAfter id es) e (after-good es (f .1)) (f .0)
 
-  after-fits : (es : List Event) → AllFit es → Fits (stateAfter id es)
-  after-fits es f = good-fits (stateAfter id es) (after-good es f)
-
-  after-ranged : (es : List Event) → AllFit es → inRange (stateAfter id es) ≡ true
-  after-ranged es f = good-ranged (stateAfter id es) (after-good es f)
+  -- their bytes
+  bytesAfter : List Event → List ℕ
+  bytesAfter es = stateBytes (stateAfter id es)
 
   -- ---- the invariant
 
   -- a record that takes one state back to another
-  record TakesBack (r : List ℕ) (b a : Adapter) : Type 0 where
+  record TakesBack (r : List ℕ) (b a : List ℕ) : Type 0 where
     restores : restored b r ≡ a
     is-sound : sound b r ≡ true
 
   -- the i-th newest record has one more event taken back than i
   Past : List ℕ → List Event → Type 0
-  Past j es = (i : ℕ) → i < keptOf j → TakesBack (past j i) (stateAfter id (drop i es)) (stateAfter id (drop (suc i) es))
+  Past j es = (i : ℕ) → i < keptOf j → TakesBack (past j i) (bytesAfter (drop i es)) (bytesAfter (drop (suc i) es))
 
   record Inv (s : Standing) (j : List ℕ) : Type 0 where
     fit : AllFit (s .events)
@@ -136,38 +140,37 @@ module _ (id : ℕ) (small : id ≤ number.idMost) where
     records : Past j (s .events)
 
   pair : Standing → List ℕ → Handed
-  pair s j = handed (stateAfter id (s .events)) j
+  pair s j = handed (bytesAfter (s .events)) j
 
   -- ---- an event that is kept
 
   module _ (s : Standing) (j : List ℕ) (i : Inv s j) (e : Event) (f : EventFits e) (other : acceptedReset e ≡ false) where
     after : List ℕ
-    after = recorded (stateAfter id (s .events)) e j
+    after = recorded (bytesAfter (s .events)) e j
 
     more : keptOf after ≡ min (slotsOf j) (keptOf j + 1)
     unfolding after
-    more = recorded-kept (stateAfter id (s .events)) e j (i .well) (after-fits (s .events) (i .fit)) ∙ rw other refl
+    more = recorded-kept (bytesAfter (s .events)) e j (i .well) ∙ rw other refl
 
     kept-records : Past after (e ∷ s .events)
-    unfolding after Past
+    unfolding after Past bytesAfter
     kept-records zero l =
-        let f₀ = after-fits (s .events) (i .fit) in
-        let h₀ = after-ranged (s .events) (i .fit) in
+        let g = after-good (s .events) (i .fit) in
         record {
-          restores = newest-restores (stateAfter id (s .events)) e j (i .well) f₀ other h₀ f;
-          is-sound = newest-sound (stateAfter id (s .events)) e j (i .well) f₀ other h₀ f;
+          restores = newest-restores (stateAfter id (s .events)) e j (i .well) other g f;
+          is-sound = newest-sound (stateAfter id (s .events)) e j (i .well) other g f;
         }
     kept-records (suc k) l =
         let l′ : suc k < min (slotsOf j) (keptOf j + 1) = subst (λ (n : ℕ). suc k < n) more l in
-        rw (older-stay (stateAfter id (s .events)) e j (i .well) (after-fits (s .events) (i .fit)) other k l′) (i .records k (omega arith))
+        rw (older-stay (bytesAfter (s .events)) e j (i .well) other k l′) (i .records k (omega arith))
 
     kept-inv : Inv (record { events = e ∷ s .events; number = min (s .most) (s .number + 1); most = s .most }) after
     unfolding after AllFit
     kept-inv =
         record {
           fit = (f, i .fit);
-          well = recorded-well (stateAfter id (s .events)) e j (i .well) (after-fits (s .events) (i .fit));
-          slots = recorded-slots (stateAfter id (s .events)) e j (i .well) (after-fits (s .events) (i .fit)) ∙ i .slots;
+          well = recorded-well (bytesAfter (s .events)) e j (i .well);
+          slots = recorded-slots (bytesAfter (s .events)) e j (i .well) ∙ i .slots;
           number = more ∙ ap₂ (λ (m n : ℕ). min m (n + 1)) (i .slots) (i .number);
           enough = omega (arith, i .enough);
           records = kept-records;
@@ -190,13 +193,13 @@ module _ (id : ℕ) (small : id ≤ number.idMost) where
 
   -- ---- a step back that is granted
 
-  after-drop : (k : ℕ) (es : List Event) → stateAfter id (drop k (drop 1 es)) ≡ stateAfter id (drop (suc k) es)
+  after-drop : (k : ℕ) (es : List Event) → bytesAfter (drop k (drop 1 es)) ≡ bytesAfter (drop (suc k) es)
   after-drop k es =
       let n : 1 + k ≡ suc k = omega arith in
-      ap (stateAfter id) (drop-drop k 1 es ∙ ap (λ (m : ℕ). drop m es) n)
+      ap bytesAfter (drop-drop k 1 es ∙ ap (λ (m : ℕ). drop m es) n)
 
   module _ (s : Standing) (j : List ℕ) (i : Inv s j) (some : keptOf j ≡ 0 → ⊥) where
-    newest : TakesBack (past j 0) (stateAfter id (s .events)) (stateAfter id (drop 1 (s .events)))
+    newest : TakesBack (past j 0) (bytesAfter (s .events)) (bytesAfter (drop 1 (s .events)))
     unfolding Past
     newest = i .records 0 (omega arith)
 
@@ -217,10 +220,11 @@ module _ (id : ℕ) (small : id ≤ number.idMost) where
           records = back-records;
         }
 
-    back-granted : steppedBack (stateAfter id (s .events)) j ≡ stepped (plain (stateAfter id (drop 1 (s .events))) 17) (lowered j)
+    back-granted : steppedBack (bytesAfter (s .events)) j ≡ stepped 17 (bytesAfter (drop 1 (s .events))) (lowered j)
+    unfolding bytesAfter
     back-granted =
-        back-done (stateAfter id (s .events)) j (after-ranged (s .events) (i .fit)) (i .well) some (newest .is-sound)
-        ∙ ap (λ (b : Adapter). stepped (plain b 17) (lowered j)) (newest .restores)
+        back-done (bytesAfter (s .events)) j (state-bytes (stateAfter id (s .events)) (after-good (s .events) (i .fit))) (i .well) some (newest .is-sound)
+        ∙ ap (λ (b : List ℕ). stepped 17 b (lowered j)) (newest .restores)
 
   -- ---- one call
 
@@ -241,45 +245,48 @@ module _ (id : ℕ) (small : id ≤ number.idMost) where
   stepsTo s j k s′ j′ e h i = record { next = j′; leaves-eq = rw e h; inv = rw e i }
 
   module _ (s : Standing) (j : List ℕ) (i : Inv s j) where
-    ranged : inRange (stateAfter id (s .events)) ≡ true
-    ranged = after-ranged (s .events) (i .fit)
+    abbrev now : Adapter
+    now = stateAfter id (s .events)
+
+    is-good : Good now
+    is-good = after-good (s .events) (i .fit)
 
     module _ (e : Event) (o : List ℕ) where
       module _ (h : refused e o ≡ true) where
         refused-leaves : leavesOurs (pair s j) (event e o) ≡ pair s j
-        unfolding pair
-        refused-leaves = ap (λ (x : Outcome). handed (x .answer .adapter) (x .journal)) (is-refused (stateAfter id (s .events)) j ranged (i .well) e o h)
+        unfolding pair bytesAfter
+        refused-leaves = ap (λ (x : Outcome). handed (x .state) (x .journal)) (is-refused now is-good j (i .well) e o h)
 
         refused-told : Told s j (event e o)
-        unfolding pair
+        unfolding pair bytesAfter
         refused-told =
             as-told s j (event e o) (bare (refusal e o) o) (rw h refl)
-            (ap (λ (x : Outcome). shown (x .answer) (x .output)) (is-refused (stateAfter id (s .events)) j ranged (i .well) e o h)) (λ _. refused-leaves)
+            (ap (λ (x : Outcome). given (x .answer) (x .output)) (is-refused now is-good j (i .well) e o h)) (λ _. refused-leaves)
 
         refused-step : Step s j (event e o)
         refused-step = stepsTo s j (event e o) s j (rw h refl) refused-leaves i
 
       module _ (h : refused e o ≡ false) where
-        done-leaves : leavesOurs (pair s j) (event e o) ≡ handed (reaction (stateAfter id (s .events)) e .adapter) (recorded (stateAfter id (s .events)) e j)
-        unfolding pair done
-        done-leaves = ap (λ (x : Outcome). handed (x .answer .adapter) (x .journal)) (is-done (stateAfter id (s .events)) j ranged (i .well) e o h)
+        done-leaves : leavesOurs (pair s j) (event e o) ≡ handed (stateBytes (reaction now e .adapter)) (recorded (bytesAfter (s .events)) e j)
+        unfolding pair bytesAfter
+        done-leaves = ap (λ (x : Outcome). handed (x .state) (x .journal)) (is-done now is-good j (i .well) e o h)
 
         done-told : Told s j (event e o)
-        unfolding pair done
+        unfolding pair bytesAfter
         done-told =
-            as-told s j (event e o) (answered (reaction (stateAfter id (s .events)) e) o) (rw h refl)
-            (ap (λ (x : Outcome). shown (x .answer) (x .output)) (is-done (stateAfter id (s .events)) j ranged (i .well) e o h))
-            (λ q. absurd (not-one-to-ten _ (number-given (stateAfter id (s .events)) e) q))
+            as-told s j (event e o) (answered (reaction now e) o) (rw h refl)
+            (ap (λ (x : Outcome). given (x .answer) (x .output)) (is-done now is-good j (i .well) e o h))
+            (λ q. absurd (not-one-to-ten _ (number-given now e) q))
 
         module _ (t : OfItsTypes (event e o)) where
           reset-step : acceptedReset e ≡ true → Step s j (event e o)
-          unfolding pair AllFit
+          unfolding pair bytesAfter AllFit
           reset-step r =
               stepsTo s j (event e o) (record { events = e ∷ s .events; number = 0; most = s .most }) (emptied j) (simp (h, r)) (done-leaves ∙ simp r)
               (emptied-inv (record { events = e ∷ s .events; number = 0; most = s .most }) j (fits e o t h, i .fit) (i .well .size) (i .slots))
 
           kept-step : acceptedReset e ≡ false → Step s j (event e o)
-          unfolding pair after
+          unfolding pair bytesAfter after
           kept-step r =
               stepsTo s j (event e o) (record { events = e ∷ s .events; number = min (s .most) (s .number + 1); most = s .most })
               (after s j i e (fits e o t h) r) (simp (h, r)) done-leaves
@@ -304,15 +311,18 @@ module _ (id : ℕ) (small : id ≤ number.idMost) where
       zero-number : s .number ≡ 0
       zero-number = sym (i .number) ∙ z
 
+      back-none : steppedBack (bytesAfter (s .events)) j ≡ stepped 5 (bytesAfter (s .events)) j
+      unfolding bytesAfter
+      back-none = back-refused (stateBytes now) j (state-bytes now is-good) (i .well) z
+
       zero-leaves : leavesOurs (pair s j) back ≡ pair s j
       unfolding pair
-      zero-leaves = ap (λ (x : Stepped). handed (x .answer .adapter) (x .journal)) (back-refused (stateAfter id (s .events)) j ranged (i .well) z)
+      zero-leaves = ap (λ (x : Stepped). handed (x .state) (x .journal)) back-none
 
       zero-told : Told s j back
       unfolding pair
       zero-told =
-          as-told s j back (bare 5 []) (simp (eq-eqb _ _ zero-number))
-          (ap (λ (x : Stepped). shown (x .answer) []) (back-refused (stateAfter id (s .events)) j ranged (i .well) z)) (λ _. zero-leaves)
+          as-told s j back (bare 5 []) (simp (eq-eqb _ _ zero-number)) (ap (λ (x : Stepped). bare (x .number) []) back-none) (λ _. zero-leaves)
 
       zero-step : Step s j back
       zero-step = stepsTo s j back s j (simp (eq-eqb _ _ zero-number)) zero-leaves i
@@ -324,24 +334,24 @@ module _ (id : ℕ) (small : id ≤ number.idMost) where
       granted-told : Told s j back
       unfolding pair
       granted-told =
-          as-told s j back (bare 17 []) (simp (ne-eqb _ _ some-number)) (ap (λ (x : Stepped). shown (x .answer) []) (back-granted s j i z))
+          as-told s j back (bare 17 []) (simp (ne-eqb _ _ some-number)) (ap (λ (x : Stepped). bare (x .number) []) (back-granted s j i z))
           (λ q. absurd (false≢true q))
 
       granted-step : Step s j back
       unfolding pair
       granted-step =
           stepsTo s j back (record { events = drop 1 (s .events); number = s .number - 1; most = s .most }) (lowered j) (simp (ne-eqb _ _ some-number))
-          (ap (λ (x : Stepped). handed (x .answer .adapter) (x .journal)) (back-granted s j i z)) (back-inv s j i z)
+          (ap (λ (x : Stepped). handed (x .state) (x .journal)) (back-granted s j i z)) (back-inv s j i z)
 
     empty-told : Told s j empty
     unfolding pair
-    empty-told = as-told s j empty (bare 17 []) refl (ap (λ (x : Cleared). bare (x .number) []) (empty-done j (i .well .size))) (λ q. absurd (false≢true q))
+    empty-told = as-told s j empty (bare 17 []) refl (ap (λ (x : Made). bare (x .number) []) (empty-done j (i .well .size))) (λ q. absurd (false≢true q))
 
     empty-step : Step s j empty
     unfolding pair
     empty-step =
         stepsTo s j empty (record { events = s .events; number = 0; most = s .most }) (emptied j) refl
-        (ap (λ (x : Cleared). handed (stateAfter id (s .events)) (x .journal)) (empty-done j (i .well .size)))
+        (ap (λ (x : Made). handed (bytesAfter (s .events)) (x .bytes)) (empty-done j (i .well .size)))
         (emptied-inv s j (i .fit) (i .well .size) (i .slots))
 
     say : (k : Call) → Told s j k
@@ -371,17 +381,19 @@ module _ (id : ℕ) (small : id ≤ number.idMost) where
 -- ---- the start
 
 -- any chip ID that `create` accepts
-pub accepted-id : (id : ℕ) → created id .number ≡ number.noFrame → id ≤ 0xFFFFFF
+pub accepted-id : (s : List ℕ) (id : ℕ) → created s id .number ≡ number.noFrame → id ≤ 0xFFFFFF
 unfolding created
-accepted-id id h = go (ltb 0xFFFFFF id) refl
+accepted-id s id h = go (eqb (length s) stateSize) refl (ltb 0xFFFFFF id) refl
   where
-    go : (b : Bool) → ltb 0xFFFFFF id ≡ b → id ≤ 0xFFFFFF
-    go true e = absurd (eqb-false 7 17 refl (rw e at h))
-    go false e = ltb-false 0xFFFFFF id e
+    go : (a : Bool) → eqb (length s) stateSize ≡ a → (b : Bool) → ltb 0xFFFFFF id ≡ b → id ≤ 0xFFFFFF
+    go false d b e = absurd (eqb-false 6 17 refl (rw d at h))
+    go true d true e = absurd (eqb-false 7 17 refl (rw (d, e) at h))
+    go true d false e = ltb-false 0xFFFFFF id e
 
-pub created-new : (id : ℕ) → id ≤ 0xFFFFFF → created id ≡ record { number = number.noFrame; adapter = powerOn id }
+-- A NEW ADAPTER is the same in any bytes of a state's length.
+pub any-bytes : (s : List ℕ) (id : ℕ) → length s ≡ stateSize → id ≤ 0xFFFFFF → created s id ≡ made number.noFrame (stateBytes (powerOn id))
 unfolding created
-created-new id h = rw (le-ltb 0xFFFFFF id h) refl
+any-bytes s id n h = rw (eq-eqb (length s) stateSize n, le-ltb 0xFFFFFF id h) refl
 
 -- after every run, the pair and the invariant
 module _ (r : Run) where
@@ -389,8 +401,9 @@ module _ (r : Run) where
   first = atStart (slotsOf (r .bytes))
 
   start-eq : ours .start (r .id) (r .bytes) ≡ pair (r .id) (r .id-fits) first (emptied (r .bytes))
-  unfolding pair
-  start-eq = rw (created-new (r .id) (r .id-fits), empty-done (r .bytes) (r .size)) refl
+  unfolding pair bytesAfter
+  start-eq =
+      rw (any-bytes (replicate stateSize 0) (r .id) (length-replicate {A = ℕ} stateSize 0) (r .id-fits), empty-done (r .bytes) (r .size)) refl
 
   run-whole : Whole (r .id) (r .id-fits) first (emptied (r .bytes)) (r .calls)
   unfolding AllFit
@@ -477,13 +490,14 @@ module _ (r : Run) where
       )
 
   some-back : (keptIn (left ours r .journal) .kept ≡ 0 → ⊥)
-      → (givesOurs (left ours r) back ≡ bare 17 []) × (leavesOurs (left ours r) back .adapter ≡ stateAfter (r .id) (drop 1 (standing r .events)))
-  unfolding pair
+      → (givesOurs (left ours r) back ≡ bare 17 []) × (stateIn (leavesOurs (left ours r) back .state) ≡ stateAfter (r .id) (drop 1 (standing r .events)))
+  unfolding pair bytesAfter
   some-back z =
       let e : eqb (standing r .number) 0 ≡ false = ne-eqb _ _ (λ q. z (number-end ∙ q)) in
       let x = step (r .id) (r .id-fits) (standing r) last inv-end back tt in (
         gives-end back ∙ rw e refl,
-        ap (λ (p : Handed). leavesOurs p back .adapter) at-end ∙ ap (λ (p : Handed). p .adapter) (x .leaves-eq) ∙ rw e refl,
+        ap (λ (p : Handed). stateIn (leavesOurs p back .state)) at-end ∙ ap (λ (p : Handed). stateIn (p .state)) (x .leaves-eq)
+            ∙ state-back _ (after-good (r .id) (r .id-fits) _ (x .inv .fit)) ∙ rw e refl,
       )
 
   refused-same : (k : Call) → refuses (givesOurs (left ours r) k) ≡ true → (leavesOurs (left ours r) k ≡ left ours r) × (givesOurs (left ours r) k .output ≡ lent k)
@@ -495,11 +509,11 @@ module _ (r : Run) where
 
 -- DEMAND 3 HOLDS of the delivered calls: for every chip ID that `create` accepts, all bytes of a journal's length made empty, every list of calls.
 pub demand3 : Demand3 ours
-unfolding pair
+unfolding pair bytesAfter
 demand3 =
     record {
       undamaged = λ r k. rw (gives-end r k) (never r k);
-      state = λ r. ap (λ (p : Handed). p .adapter) (at-end r);
+      state = λ r. ap (λ (p : Handed). stateIn (p .state)) (at-end r) ∙ state-back (dueState r) (after-good (r .id) (r .id-fits) (standing r .events) (inv-end r .fit));
       reply = λ r e output. gives-end r (event e output);
       takes-back = λ r. some-back r;
       refused-at-zero = λ r. zero-back r;
@@ -534,14 +548,3 @@ at-most-slots r =
 
 pub at-most-64 : (r : Run) → standing r .number ≤ 64
 at-most-64 r = let m = at-most-slots r in omega (arith, always-64 (r .bytes) (r .size))
-
--- What a run leaves, and what a step back after it leaves, holds what the state's types hold.
-pub state-good : (r : Run) → Good (left ours r .adapter)
-unfolding pair
-state-good r = rw (at-end r) (after-good (r .id) (r .id-fits) (standing r .events) (inv-end r .fit))
-
-pub back-good : (r : Run) → Good (leavesOurs (left ours r) back .adapter)
-unfolding pair
-back-good r =
-    let x = step (r .id) (r .id-fits) (standing r) (last r) (inv-end r) back tt in
-    rw (at-end r, x .leaves-eq) (after-good (r .id) (r .id-fits) (keeps (standing r) back .events) (x .inv .fit))

@@ -8,12 +8,12 @@ use Rattle.parts.proofs.Laws.{AreBytes}
 use Rattle.transmitter.specs.Frame.{frame}
 use Rattle.transmitter.specs.Transmit as transmit
 use Rattle.receiver.specs.Receiver.{hunting, image}
-use Rattle.chip.specs.declared.Adapter.{Adapter}
+use Rattle.state.specs.declared.Adapter.{Adapter}
 use Rattle.chip.specs.Event.{Event}
-use Rattle.chip.specs.State.{inRange}
+use Rattle.state.specs.State.{inRange}
 use Rattle.chip.specs.Chip.{reaction}
 use Rattle.chip.proofs.EventFits.{EventFits}
-use Rattle.chip.proofs.Fits.{of-in-range}
+use Rattle.state.proofs.Good.{ranged-port}
 use Rattle.chip.proofs.Bodies.{Every, Framable, sendable, frame-bytes}
 use Rattle.promises.specs.Wire.{found}
 use Rattle.promises.specs.Calls.{Gives}
@@ -31,4 +31,4 @@ module _ (cable output : List ℕ) (least : 24 ≤ length cable) (most : length 
 
   pub answer-comes-back : (a : Adapter) (e : Event) → inRange a ≡ true → EventFits e → Every ComesBack (reaction a e .frames)
   answer-comes-back a e ranged typed =
-      every-body (reaction a e .frames) (sendable a e (of-in-range a ranged .port) typed .1) (frame-bytes a e typed)
+      every-body (reaction a e .frames) (sendable a e (ranged-port a ranged) typed .1) (frame-bytes a e typed)

@@ -27,9 +27,9 @@ use Rattle.channels.proofs.Laws.{Own, disabled-holds, settled-held, settled-ena
 use Rattle.channels.specs.Errors.{decoded}
 use Rattle.channels.specs.Perform.{replied, performed}
 use Rattle.numbers.specs.Numbers.{notBusy, noFrame}
-use Rattle.chip.specs.declared.Adapter.{Adapter}
+use Rattle.state.specs.declared.Adapter.{Adapter}
 use Rattle.chip.specs.Event.{spi, frame, completion, upset}
-use Rattle.chip.specs.State.{poweredOn, withRegisters}
+use Rattle.state.specs.State.{poweredOn, withRegisters}
 use Rattle.chip.specs.Answer.{gives}
 use Rattle.link.specs.Link.{numberIn, inLoopback}
 use Rattle.chip.specs.Frame.{connected, reset, numbered, carried, addressed, onFrame}

@@ -12,9 +12,9 @@ use Rattle.commands.specs.declared.command.Register.the-variants.{Seu}
 use Rattle.parts.specs.Parts.{part, put}
 use Rattle.parts.specs.Digits.{number, digits}
 use Rattle.registers.specs.Registers.{read, store}
-use Rattle.chip.specs.declared.Adapter.{Adapter}
+use Rattle.state.specs.declared.Adapter.{Adapter}
 use Rattle.chip.specs.Event.{Event, frame, upset}
-use Rattle.chip.specs.State.{poweredOn, powerOn}
+use Rattle.state.specs.State.{poweredOn, powerOn}
 use Rattle.chip.specs.Frame.{isResetFrame, commanded, addressed, onFrame}
 use Rattle.chip.specs.Chip.{reaction, onUpset, acceptedReset}
 use Rattle.adapter.specs.declared.KeptNumber.{KeptNumber}
@@ -198,7 +198,7 @@ fixed-reply g d = one-reply (replying g) d g (λ p e o. refl)
 
 -- ONE THAT LEAVES THE STATE AS IT CAME; its journal is ours.
 unmoved : Handed → Call → Handed
-unmoved p (event e o) = handed (p .adapter) (leavesOurs p (event e o) .journal)
+unmoved p (event e o) = handed (p .state) (leavesOurs p (event e o) .journal)
 unmoved p back = leavesOurs p back
 unmoved p empty = leavesOurs p empty
 
@@ -236,7 +236,7 @@ copying =
       start = λ id bytes. record { pair = ours .start id bytes; first = [] };
       gives = copying-gives;
       leaves = copying-leaves;
-      state = λ p. p .pair .adapter;
+      state = λ p. ours .state (p .pair);
       kept = λ p. ours .kept (p .pair);
     }
 
@@ -247,7 +247,7 @@ copies-the-first-reply d = copied-reply copying d (λ e e′ o. refl)
 -- A STEP BACK THAT ONLY LOWERS THE NUMBER.
 lowering : Handed → Call → Handed
 lowering p (event e o) = leavesOurs p (event e o)
-lowering p back = handed (p .adapter) (leavesOurs p back .journal)
+lowering p back = handed (p .state) (leavesOurs p back .journal)
 lowering p empty = leavesOurs p empty
 
 pub only-lowering : Calls
@@ -290,7 +290,7 @@ counting =
       start = λ id bytes. record { pair = ours .start id bytes; count = 0 };
       gives = λ p k. givesOurs (p .pair) k;
       leaves = counting-leaves;
-      state = λ p. p .pair .adapter;
+      state = λ p. ours .state (p .pair);
       kept = λ p. record { number = number.noFrame; kept = p .count };
     }
 
@@ -315,7 +315,7 @@ doubting =
       start = λ id bytes. record { pair = ours .start id bytes; damaged = false };
       gives = λ p k. cond (p .damaged) (bare number.badJournal (lent k)) (givesOurs (p .pair) k);
       leaves = λ p k. record { pair = leavesOurs (p .pair) k; damaged = resets k || p .damaged };
-      state = λ p. p .pair .adapter;
+      state = λ p. ours .state (p .pair);
       kept = λ p. ours .kept (p .pair);
     }
 

@@ -1,16 +1,11 @@
 -- The listing's lines as text: what the bench program writes is the text of the delivered calls' lines.
 use Prim.Native.Nat.{ℕ}
-use mathlib.Core.Path.{_≡_, refl, sym, ap, ap₂, _∙_}
+use mathlib.Core.Path.{_≡_, refl, ap, ap₂, _∙_}
 use mathlib.Core.List.{List, [], _∷_, _++_}
 use mathlib.Core.Bool.{Bool, true, false}
 use lib.ListN.{length, take}
 use lib.Dec.{eqb}
 use Rattle.chip.specs.Event.{Event}
-use Rattle.chip.specs.declared.Adapter.{Adapter}
-use Rattle.adapter.specs.declared.Verdict.{Verdict}
-use Rattle.adapter.specs.declared.Verdict.the-variants.{Refused, Passed}
-use Rattle.adapter.specs.Refusals.{backVerdict}
-use Rattle.adapter.specs.Calls.{judgedBack, steppedBack}
 use Rattle.listing.specs.Line as Line
 use Rattle.listing.specs.Answer.{answerText}
 use Rattle.player.specs.Play.{noReply, heard, answerOf, Turn, turn, answers}
@@ -35,15 +30,6 @@ pub data Says : List (List ℕ) → List Call → Type 0 where
   happens : {l : List ℕ} {e : Event} {ls : List (List ℕ)} {ks : List Call} → Line.read l ≡ Line.happens e → Says ls ks → Says (l ∷ ls) (event e noReply ∷ ks)
   steps : {l : List ℕ} {ls : List (List ℕ)} {ks : List Call} → Line.read l ≡ Line.back → Says ls ks → Says (l ∷ ls) (back ∷ ks)
 
--- a step back gives no frame
-back-length : (a : Adapter) (j : List ℕ) → steppedBack a j .answer .length ≡ 0
-unfolding steppedBack
-back-length a j = go (backVerdict a j)
-  where
-    go : (v : Verdict) → judgedBack v a j .answer .length ≡ 0
-    go (Refused n) = refl
-    go Passed = refl
-
 -- one line
 of-line : (g : Given) (kept : ℕ) (body : List ℕ) → body ≡ take (g .length) (g .output) → answerText (g .number) kept (g .port) body ≡ ofLine (line g kept)
 unfolding ofLine answerText
@@ -54,26 +40,23 @@ of-line g kept body e = by (eqb (g .number) 0) refl
     by false h = rw (h, h) refl
 
 -- what a line does is what it says
-turned : (a : Adapter) (j l : List ℕ) (x : Line.Line) → Line.read l ≡ x
-    → turn a j l ≡ (let o = heard a j x noReply in record { adapter = o .answer .adapter; journal = o .journal; text = answerOf o })
+turned : (s j l : List ℕ) (x : Line.Line) → Line.read l ≡ x
+    → turn s j l ≡ (let o = heard s j x noReply in record { state = o .state; journal = o .journal; text = answerOf o })
 unfolding turn
-turned a j l x h =
-    ap (λ (y : Line.Line). let w : Turn = (let o = heard a j y noReply in record { adapter = o .answer .adapter; journal = o .journal; text = answerOf o }) in w) h
+turned s j l x h =
+    ap (λ (y : Line.Line). let w : Turn = (let o = heard s j y noReply in record { state = o .state; journal = o .journal; text = answerOf o }) in w) h
 
 -- what the program answers to lines that say calls
-pub answers-text : {ls : List (List ℕ)} {ks : List Call} → Says ls ks → (a : Adapter) (j : List ℕ) → answers a j ls ≡ joined (lines ours (handed a j) ks)
+pub answers-text : {ls : List (List ℕ)} {ks : List Call} → Says ls ks → (s j : List ℕ) → answers s j ls ≡ joined (lines ours (handed s j) ks)
 unfolding answers joined
-answers-text none a j = refl
-answers-text (happens {l} {e} {ls} h s) a j =
-    let p = handed a j in
+answers-text none s j = refl
+answers-text (happens {l} {e} {ls} h more) s j =
+    let p = handed s j in
     let q = ours .leaves p (event e noReply) in
-    ap (λ (t : Turn). t .text ++ answers (t .adapter) (t .journal) ls) (turned a j l (Line.happens e) h)
-    ∙ ap₂ _++_ (of-line (ours .gives p (event e noReply)) (ours .kept q .kept) _ refl) (answers-text s (q .adapter) (q .journal))
-answers-text (steps {l} {ls} h s) a j =
-    let p = handed a j in
+    ap (λ (t : Turn). t .text ++ answers (t .state) (t .journal) ls) (turned s j l (Line.happens e) h)
+    ∙ ap₂ _++_ (of-line (ours .gives p (event e noReply)) (ours .kept q .kept) _ refl) (answers-text more (q .state) (q .journal))
+answers-text (steps {l} {ls} h more) s j =
+    let p = handed s j in
     let q = ours .leaves p back in
-    ap (λ (t : Turn). t .text ++ answers (t .adapter) (t .journal) ls) (turned a j l Line.back h)
-    ∙ ap₂ _++_
-    (of-line (ours .gives p back) (ours .kept q .kept) _
-    (ap (λ (n : ℕ). take n noReply) (back-length a j) ∙ sym (ap (λ (n : ℕ). take n []) (back-length a j))))
-    (answers-text s (q .adapter) (q .journal))
+    ap (λ (t : Turn). t .text ++ answers (t .state) (t .journal) ls) (turned s j l Line.back h)
+    ∙ ap₂ _++_ (of-line (ours .gives p back) (ours .kept q .kept) _ refl) (answers-text more (q .state) (q .journal))

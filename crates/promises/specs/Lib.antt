@@ -2,6 +2,5 @@ pub mod Wire
 pub mod Calls
 pub mod Runs
 pub mod Ours
-pub mod Exported
 pub mod Text
 pub mod Table

@@ -1,41 +1,79 @@
--- The delivered adapter as its calls show it: nothing but the functions that the public contracts of crate `adapter` state.
-use Prim.Native.Nat.{ℕ}
+-- The delivered adapter as its calls show it: nothing but the functions that the contracts of crate `adapter` state, and, of the exports that C
+-- and Rust link, those that the contracts of crate `sca` state. An export differs in what it gives alone: one packed number.
+use Prim.Native.Nat.{ℕ, _/_, _%_}
 use mathlib.Core.List.{List, []}
-use Rattle.chip.specs.declared.Adapter.{Adapter}
-use Rattle.chip.specs.declared.Response.{Response}
-use Rattle.adapter.specs.Calls.{created, called, steppedBack, madeEmpty, keptIn}
+use lib.ListN.{replicate}
+use Rattle.state.specs.Bytes.{stateSize, stateIn}
+use Rattle.adapter.specs.declared.Answer.{Answer}
+use Rattle.adapter.specs.declared.KeptNumber.{KeptNumber}
+use Rattle.adapter.specs.Calls.{created, madeEmpty, keptIn, called, steppedBack}
+use Rattle.sca.specs.Adapter.{packKept, packed}
 use Rattle.promises.specs.Runs.{Call, event, back, empty, Given, bare, Calls}
 
--- the pair that is handed on
+-- the pair that is handed on: a state and a journal, as bytes
 pub record Handed : Type 0 where
-  pub adapter : Adapter
+  pub state : List ℕ
   pub journal : List ℕ
 
-abbrev pub handed : Adapter → List ℕ → Handed
-handed a journal = record { adapter = a; journal = journal }
+abbrev pub handed : List ℕ → List ℕ → Handed
+handed state journal = record { state = state; journal = journal }
 
-abbrev pub shown : Response → List ℕ → Given
-shown x output = record { number = x .number; port = x .port; length = x .length; output = output }
-
-abbrev pub givesOurs : Handed → Call → Given
-givesOurs p (event e output) =
-    let x = called (p .adapter) (p .journal) e output in shown (x .answer) (x .output)
-givesOurs p back = shown (steppedBack (p .adapter) (p .journal) .answer) []
-givesOurs p empty = bare (madeEmpty (p .journal) .number) []
+-- a new adapter, in bytes of a state's length (in any such bytes it is the same: `any-bytes`), and a journal made empty
+abbrev pub starts : ℕ → List ℕ → Handed
+starts id bytes = handed (created (replicate stateSize 0) id .bytes) (madeEmpty bytes .bytes)
 
 abbrev pub leavesOurs : Handed → Call → Handed
-leavesOurs p (event e output) =
-    let x = called (p .adapter) (p .journal) e output in handed (x .answer .adapter) (x .journal)
-leavesOurs p back = let x = steppedBack (p .adapter) (p .journal) in handed (x .answer .adapter) (x .journal)
-leavesOurs p empty = handed (p .adapter) (madeEmpty (p .journal) .journal)
+leavesOurs p (event e output) = let x = called (p .state) (p .journal) e output in handed (x .state) (x .journal)
+leavesOurs p back = let x = steppedBack (p .state) (p .journal) in handed (x .state) (x .journal)
+leavesOurs p empty = handed (p .state) (madeEmpty (p .journal) .bytes)
+
+-- ---- crate `adapter`
+
+abbrev pub given : Answer → List ℕ → Given
+given x output = record { number = x .number; port = x .port; length = x .length; output = output }
+
+abbrev pub givesOurs : Handed → Call → Given
+givesOurs p (event e output) = let x = called (p .state) (p .journal) e output in given (x .answer) (x .output)
+givesOurs p back = bare (steppedBack (p .state) (p .journal) .number) []
+givesOurs p empty = bare (madeEmpty (p .journal) .number) []
 
 abbrev pub ours : Calls
 ours =
     record {
       Pair = Handed;
-      start = λ id bytes. handed (created id .adapter) (madeEmpty bytes .journal);
+      start = starts;
       gives = givesOurs;
       leaves = leavesOurs;
-      state = λ p. p .adapter;
+      state = λ p. stateIn (p .state);
       kept = λ p. keptIn (p .journal);
+    }
+
+-- ---- the exports
+
+-- results as include/sca.h reads them: the number in bits 7 to 0; above it the length, then the port; or the kept number
+abbrev pub resultNumber : ℕ → ℕ
+resultNumber result = result % 256
+
+abbrev pub unpacked : ℕ → List ℕ → Given
+unpacked result output =
+    record { number = resultNumber result; port = result / 65536 % 256; length = result / 256 % 256; output = output }
+
+abbrev pub unpackedKept : ℕ → KeptNumber
+unpackedKept result = record { number = resultNumber result; kept = result / 256 % 256 }
+
+abbrev pub givesExported : Handed → Call → Given
+givesExported p (event e output) =
+    let x = packed (called (p .state) (p .journal) e output) in unpacked (x .result) (x .output)
+givesExported p back = unpacked (steppedBack (p .state) (p .journal) .number) []
+givesExported p empty = unpacked (madeEmpty (p .journal) .number) []
+
+abbrev pub exported : Calls
+exported =
+    record {
+      Pair = Handed;
+      start = starts;
+      gives = givesExported;
+      leaves = leavesOurs;
+      state = λ p. stateIn (p .state);
+      kept = λ p. unpackedKept (packKept (keptIn (p .journal)));
     }

@@ -1,18 +1,21 @@
 -- Laws of a receiver as bytes.
-use mathlib.Core.Path.{_≡_, refl, sym, ap, _∙_}
+use mathlib.Core.Path.{_≡_, refl, ap, _∙_}
 use mathlib.Core.List.{List, [], _∷_}
-use Prim.Native.Nat.{ℕ, _+_, _<_}
+use Prim.Native.Nat.{ℕ, _+_, _-_, _≤_}
 use native.Mathlib.Omega.{arith}
-use lib.ListN.{length, take, drop, getD, set, length-drop}
-use lib.Seq.{take-all, getD-drop}
+use lib.ListN.{length, take, drop, getD}
+use lib.Seq.{take-all}
 use borrow.Author.Tests.{eq-eqb, ne-eqb}
 use Rattle.numbers.specs.Numbers as number
 use Rattle.parts.specs.Parts.{part, put}
-use Rattle.parts.proofs.Laws.{put-all, put-put, copied-more}
+use Rattle.parts.proofs.Laws.{put-all, put-put}
 use Rattle.receiver.specs.Receive.{received, outputAfter}
 use Rattle.receiver.specs.declared.Receiver.{Receiver}
 use Rattle.receiver.specs.declared.Received.{Received}
 use Rattle.sca.specs.Link.{receiverBytes, receiverOf, packReceived, receiveResult, receiveReceiver, receiveOutput}
+
+pub behind-head : (r : Receiver) (d d₁ : List ℕ) → length (r .bytes) ≡ 20 → length d₁ ≡ length d → length d ≡ 24 → 4 + length (r .bytes) ≤ length d₁
+behind-head r d d₁ l m n = omega arith
 
 -- the head, then the content
 pub spelled : (r : Receiver) (d d₁ d₂ : List ℕ) → length (r .bytes) ≡ 20 → length d ≡ 24
@@ -22,18 +25,10 @@ spelled r d d₁ d₂ l n e f =
     ∙ put-put 0 (r .mode ∷ r .ones ∷ r .lead ∷ r .count ∷ []) (r .bytes) d 4 refl (omega arith)
     ∙ put-all (receiverBytes r) d (omega arith)
 
--- one byte more of the content
-pub byte-more : (b s : List ℕ) (i : ℕ) → length b ≡ 20 → length s ≡ 24 → i < 20 → take i b ≡ take i (drop 4 s)
-    → take (i + 1) (set b i (getD s (4 + i) 0)) ≡ take (i + 1) (drop 4 s)
-byte-more b s i l n h e =
-    rw (← getD-drop 4 s i 0) (copied-more b (drop 4 s) i (omega arith) (simp length-drop (omega arith)) e)
-
-pub all-bytes : (b s : List ℕ) (i : ℕ) → length b ≡ 20 → i ≡ 20 → take i b ≡ take i (drop 4 s) → b ≡ part 4 20 s
-unfolding part
-all-bytes b s i l e t = sym (take-all 20 b (omega arith)) ∙ (rw e at t)
-
-pub receiver-of : (b s : List ℕ) → b ≡ part 4 20 s
+-- what the code reads
+pub receiver-of : (b s : List ℕ) → b ≡ take (24 - 4) (drop 4 s)
     → record { mode = getD s 0 0; ones = getD s 1 0; lead = getD s 2 0; count = getD s 3 0; bytes = b } ≡ receiverOf s
+unfolding part
 receiver-of b s e = ap (λ (l : List ℕ). record { mode = getD s 0 0; ones = getD s 1 0; lead = getD s 2 0; count = getD s 3 0; bytes = l }) e
 
 -- bytes spell a receiver that is spelled by them

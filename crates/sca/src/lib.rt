@@ -1,21 +1,18 @@
 // What C and Rust link: every call on numbers and byte slices. include/sca.h is its manual.
 mod receiving;
-mod state;
 
+use adapter::Answer;
 use adapter::KeptNumber;
-use adapter::Verdict;
-use chip::Response;
 use numbers::BAD_STATE;
 use numbers::NO_FRAME;
 use receiver::Received;
 use transmitter::Sent;
 ghost use mathlib.Core.Path.{_≡_};
 ghost use Prim.Native.Nat.{_≤_, _<_};
-ghost use lib.ListN.{length};
 ghost use Rattle.chip.specs.Event.{Completion, Event};
 ghost use Rattle.sca.specs.Link as calls;
-ghost use Rattle.sca.specs.Adapter as events;
-ghost use Rattle.sca.specs.Inner.{backVerdictIn};
+ghost use Rattle.adapter.specs.Calls as adapters;
+ghost use Rattle.sca.specs.Adapter.{packAnswer, packKept, left, packed};
 ghost use Rattle.sca.specs.Version.{version};
 
 const VERSION: u64 = 0x010000;
@@ -81,51 +78,31 @@ pub extern "C" fn sca_receive(rx: &mut [u8], input: &[u8], start: usize, output:
 }
 
 // The number in bits 7 to 0, the frame's length in bits 15 to 8, its port in bits 23 to 16.
-fn pack_answer(a: Response) -> u64
-    ensures { λ r. ⌜ r ≡ events.packAnswer a ⌝ }
+fn pack_answer(a: Answer) -> u64
+    ensures { λ r. ⌜ r ≡ packAnswer a ⌝ }
 {
     wide(a.number) + 256 * wide(a.length) + 65536 * wide(a.port)
 }
 
 // The number in bits 7 to 0, the kept number in bits 15 to 8.
 fn pack_kept(k: KeptNumber) -> u64
-    ensures { λ r. ⌜ r ≡ events.packKept k ⌝ }
+    ensures { λ r. ⌜ r ≡ packKept k ⌝ }
 {
     wide(k.number) + 256 * wide(k.kept)
 }
 
-// An answer, with the state it leaves.
-fn finish(bytes: &mut [u8], a: Response) -> u64
-    requires { ⌜ length (now bytes) ≡ events.stateSize ⌝ }
-    ensures { λ r. ⌜ r ≡ events.packAnswer a ⌝ }
-    ensures { λ _. ⌜ now (bytes .exit) ≡ events.stateBytes (a .adapter) ⌝ }
-{
-    let after = a.adapter;
-    state::spell(after, bytes);
-    pack_answer(a)
-}
-
 // A new adapter for a chip of this ID.
 #[no_mangle]
-pub extern "C" fn sca_create(bytes: &mut [u8], id: u32) -> u64
-    ensures { λ r. ⌜ events.gave r (now (bytes .exit)) ≡ events.created (now (bytes .entry)) id ⌝ }
+pub extern "C" fn sca_create(state: &mut [u8], id: u32) -> u64
+    ensures { λ r. ⌜ adapters.made r (now (state .exit)) ≡ adapters.created (now (state .entry)) id ⌝ }
 {
-    if bytes.len() == state::BYTES {
-        let c = adapter::create(id);
-        if c.number == NO_FRAME {
-            let after = c.adapter;
-            state::spell(after, bytes);
-            return wide(c.number);
-        }
-        return wide(c.number);
-    }
-    wide(BAD_STATE)
+    wide(adapter::create(state, id))
 }
 
 // Makes a journal empty.
 #[no_mangle]
 pub extern "C" fn sca_empty(journal: &mut [u8]) -> u64
-    ensures { λ r. ⌜ events.gave r (now (journal .exit)) ≡ events.emptied (now (journal .entry)) ⌝ }
+    ensures { λ r. ⌜ adapters.made r (now (journal .exit)) ≡ adapters.madeEmpty (now (journal .entry)) ⌝ }
 {
     wide(adapter::empty(journal))
 }
@@ -133,7 +110,7 @@ pub extern "C" fn sca_empty(journal: &mut [u8]) -> u64
 // How many events a journal can take back.
 #[no_mangle]
 pub extern "C" fn sca_kept(journal: &[u8]) -> u64
-    ensures { λ r. ⌜ r ≡ events.kept (now (journal .entry)) ⌝ }
+    ensures { λ r. ⌜ r ≡ packKept (adapters.keptIn (now (journal .entry))) ⌝ }
 {
     pack_kept(adapter::kept(journal))
 }
@@ -141,97 +118,58 @@ pub extern "C" fn sca_kept(journal: &[u8]) -> u64
 // A frame body on a port.
 #[no_mangle]
 pub extern "C" fn sca_frame(
-    bytes: &mut [u8],
+    state: &mut [u8],
     journal: &mut [u8],
     port: u32,
     body: &[u8],
     output: &mut [u8],
 ) -> u64
-    ensures { λ r. ⌜ events.left r (now (bytes .exit)) (now (journal .exit)) (now (output .exit)) ≡ events.happened (now (bytes .entry)) (now (journal .entry)) (Event.frame port (now (body .entry))) (now (output .entry)) ⌝ }
+    ensures { λ r. ⌜ left r (now (state .exit)) (now (journal .exit)) (now (output .exit)) ≡ packed (adapters.called (now (state .entry)) (now (journal .entry)) (Event.frame port (now (body .entry))) (now (output .entry))) ⌝ }
 {
-    if state::is_state(bytes) {
-        let before = state::state_in(bytes);
-        let a = adapter::frame(before, journal, port, body, output);
-        return finish(bytes, a);
-    }
-    wide(BAD_STATE)
+    pack_answer(adapter::frame(state, journal, port, body, output))
 }
 
 // An SPI completion with 16 received bytes.
 #[no_mangle]
 pub extern "C" fn sca_completion(
-    bytes: &mut [u8],
+    state: &mut [u8],
     journal: &mut [u8],
     received: &[u8],
     output: &mut [u8],
 ) -> u64
-    ensures { λ r. ⌜ events.left r (now (bytes .exit)) (now (journal .exit)) (now (output .exit)) ≡ events.happened (now (bytes .entry)) (now (journal .entry)) (Event.completion (Completion.spi (now (received .entry)))) (now (output .entry)) ⌝ }
+    ensures { λ r. ⌜ left r (now (state .exit)) (now (journal .exit)) (now (output .exit)) ≡ packed (adapters.called (now (state .entry)) (now (journal .entry)) (Event.completion (Completion.spi (now (received .entry)))) (now (output .entry))) ⌝ }
 {
-    if state::is_state(bytes) {
-        let before = state::state_in(bytes);
-        let a = adapter::completion(before, journal, received, output);
-        return finish(bytes, a);
-    }
-    wide(BAD_STATE)
+    pack_answer(adapter::completion(state, journal, received, output))
 }
 
 // A pin sample.
 #[no_mangle]
 pub extern "C" fn sca_sample(
-    bytes: &mut [u8],
+    state: &mut [u8],
     journal: &mut [u8],
     levels: u32,
     kind: u32,
     output: &mut [u8],
 ) -> u64
-    ensures { λ r. ⌜ events.left r (now (bytes .exit)) (now (journal .exit)) (now (output .exit)) ≡ events.happened (now (bytes .entry)) (now (journal .entry)) (Event.sample levels kind) (now (output .entry)) ⌝ }
+    ensures { λ r. ⌜ left r (now (state .exit)) (now (journal .exit)) (now (output .exit)) ≡ packed (adapters.called (now (state .entry)) (now (journal .entry)) (Event.sample levels kind) (now (output .entry))) ⌝ }
 {
-    if state::is_state(bytes) {
-        let before = state::state_in(bytes);
-        let a = adapter::sample(before, journal, levels, kind, output);
-        return finish(bytes, a);
-    }
-    wide(BAD_STATE)
+    pack_answer(adapter::sample(state, journal, levels, kind, output))
 }
 
 // An upset.
 #[no_mangle]
-pub extern "C" fn sca_upset(bytes: &mut [u8], journal: &mut [u8], output: &mut [u8]) -> u64
-    ensures { λ r. ⌜ events.left r (now (bytes .exit)) (now (journal .exit)) (now (output .exit)) ≡ events.happened (now (bytes .entry)) (now (journal .entry)) Event.upset (now (output .entry)) ⌝ }
+pub extern "C" fn sca_upset(state: &mut [u8], journal: &mut [u8], output: &mut [u8]) -> u64
+    ensures { λ r. ⌜ left r (now (state .exit)) (now (journal .exit)) (now (output .exit)) ≡ packed (adapters.called (now (state .entry)) (now (journal .entry)) Event.upset (now (output .entry))) ⌝ }
 {
-    if state::is_state(bytes) {
-        let before = state::state_in(bytes);
-        let a = adapter::upset(before, journal, output);
-        return finish(bytes, a);
-    }
-    wide(BAD_STATE)
-}
-
-// The first refusal of a step back from the state that bytes spell.
-fn judge_back(bytes: &[u8], journal: &[u8]) -> Verdict
-    ensures { λ r. ⌜ r ≡ backVerdictIn (now (bytes .entry)) (now (journal .entry)) ⌝ }
-{
-    if state::is_state(bytes) {
-        return adapter::judge_back(state::state_in(bytes), journal);
-    }
-    Verdict::Refused(BAD_STATE)
+    pack_answer(adapter::upset(state, journal, output))
 }
 
 // Takes the newest standing event back.
 #[no_mangle]
-pub extern "C" fn sca_step_back(bytes: &mut [u8], journal: &mut [u8]) -> u64
-    ensures { λ r. ⌜ events.backed r (now (bytes .exit)) (now (journal .exit)) ≡ events.steppedBack (now (bytes .entry)) (now (journal .entry)) ⌝ }
+pub extern "C" fn sca_step_back(state: &mut [u8], journal: &mut [u8]) -> u64
+    ensures { λ r. ⌜ adapters.stepped r (now (state .exit)) (now (journal .exit)) ≡ adapters.steppedBack (now (state .entry)) (now (journal .entry)) ⌝ }
 {
-    let verdict = judge_back(bytes, journal);
-    match verdict {
-        Verdict::Refused(number) => wide(number),
-        Verdict::Passed => {
-            // A record is spelled as a state is, so its image takes the state's place as it stands.
-            journal::copy_image(journal, bytes);
-            journal::lower(journal);
-            wide(NO_FRAME)
-        }
-    }
+    wide(adapter::step_back(state, journal))
 }
 
 // The version of these calls: the major number in bits 23 to 16, the minor in bits 15 to 8, the patch in bits 7 to 0.

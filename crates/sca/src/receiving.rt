@@ -4,19 +4,19 @@ ghost use mathlib.Core.Path.{_≡_};
 ghost use lib.ListN.{length};
 ghost use Rattle.sca.specs.Link.{receiverOf, receiverBytes};
 
-pub const BYTES: usize = 24;
+const HEAD: usize = 4;
+
+const CONTENT: usize = 20;
+
+pub const BYTES: usize = HEAD + CONTENT;
 
 // The receiver that bytes spell.
 pub(crate) fn spelled_by(s: &[u8]) -> Receiver
     requires { ⌜ length (now s) ≡ 24 ⌝ }
     ensures { λ r. ⌜ r ≡ receiverOf (now (s .entry)) ⌝ }
 {
-    let mut bytes = [0u8; 20];
-    let mut i: usize = 0;
-    while i < 20 {
-        bytes[i] = s[4 + i];
-        i += 1;
-    }
+    let mut bytes = [0u8; CONTENT];
+    parts::over(&mut bytes, &s[HEAD..BYTES]);
     Receiver {
         mode: s[0],
         ones: s[1],
@@ -34,5 +34,5 @@ pub(crate) fn spell(rx: Receiver, s: &mut [u8])
     let head = [rx.mode, rx.ones, rx.lead, rx.count];
     let bytes = rx.bytes;
     parts::store(s, 0, &head);
-    parts::store(s, 4, &bytes);
+    parts::store(s, HEAD, &bytes);
 }

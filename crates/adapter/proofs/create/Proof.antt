@@ -1,4 +1,4 @@
--- `adapter::create` meets its contract. Assumes nothing.
+-- `create` meets its contract. Assumes nothing.
 use borrow.Author.Needs.{needs}
 use Rattle.adapter.proofs.Cases.{creations}
 use Rattle.adapter.proofs.create.Statement.{statement}
@@ -7,4 +7,10 @@ use Rattle.adapter.proofs.create.Tie as tie
 pub create-spec : {M : Type 1} → statement M
 create-spec =
     tie.close
-    (tie.spec (λ c κs. search needs) (λ c. search creations) (λ c κs. search needs) (λ c. search creations))
+    (tie.spec
+    (λ c. search creations)
+    (λ c. search creations)
+    (λ c κs. search needs)
+    (λ c κs. search needs)
+    (λ c. search needs)
+    (λ c. search creations))

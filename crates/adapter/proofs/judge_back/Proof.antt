@@ -1,4 +1,4 @@
--- `adapter::judge_back` meets its contract. Assumes nothing.
+-- `judge_back` meets its contract. Assumes nothing.
 use borrow.Author.Needs.{needs}
 use Rattle.adapter.proofs.Cases.{judging-back, back-header, back-newest}
 use Rattle.adapter.proofs.judge_back.Statement.{statement}

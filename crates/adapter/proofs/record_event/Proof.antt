@@ -11,7 +11,7 @@ record-event-spec =
     (tie.spec
     (λ c κs. search size-in)
     (λ c. search needs)
-    (λ c κs. search needs)
+    (λ c. search needs)
     (λ c. search needs)
     (λ c κs. search needs)
     (λ c. search needs)

@@ -17,6 +17,4 @@ is-sound-spec =
     (λ c. search needs)
     (λ c. newest-in _ _ (c .before .before .pre .0) (c .newest .ensures) 256 (lit≤ tt))
     (λ c κs. search needs)
-    (λ c κs. search needs)
-    (λ c κs. search needs)
     (λ c. search is-judged))

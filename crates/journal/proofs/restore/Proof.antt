@@ -1,7 +1,7 @@
 -- `restore` meets its contract. Assumes nothing.
 use borrow.Author.Needs.{needs}
-use native.Mathlib.Omega.{arith}
 use lib.Dec.{lit≤}
+use Rattle.state.specs.Bytes.{recordBytes}
 use Rattle.journal.proofs.Ring.{newest-in}
 use Rattle.journal.proofs.Record.{restores}
 use Rattle.journal.proofs.restore.Statement.{statement}
@@ -12,9 +12,13 @@ restore-spec =
     tie.close
     (tie.spec
     (λ c κs. search needs)
-    (λ c. let l = newest-in _ _ (c .before .before .pre .0) (c .newest .ensures) 256 (lit≤ tt) in omega arith)
     (λ c. search needs)
     (λ c. search needs)
-    (λ c. newest-in _ _ (c .before .before .pre .0) (c .newest .ensures) 256 (lit≤ tt))
+    (λ c. search needs)
+    (λ c. search needs)
+    (λ c. newest-in _ _ (c .before .before .before .before .pre .0) (c .before .newest .ensures) recordBytes (lit≤ tt))
     (λ c κs. search needs)
+    (λ c. search needs)
+    (λ c κs. search needs)
+    (λ c. search needs)
     (λ c. search restores))

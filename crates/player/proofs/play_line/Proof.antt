@@ -15,4 +15,5 @@ play-line-spec =
     (λ c κs. search needs)
     (λ c. search needs)
     (λ c. search needs)
-    (λ c. (search (plays), search needs)))
+    (λ c. search needs)
+    (λ c. (search plays, search needs)))

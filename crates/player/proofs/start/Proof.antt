@@ -1,7 +1,7 @@
 -- `player::start` meets its contract. Assumes nothing.
 use borrow.Author.Needs.{needs}
 use mathlib.Core.Path.{ap}
-use Rattle.adapter.specs.declared.Created.{Created}
+use Rattle.adapter.specs.Calls.{Made}
 use Rattle.player.proofs.start.Statement.{statement}
 use Rattle.player.proofs.start.Tie as tie
 
@@ -10,4 +10,5 @@ start-spec =
     tie.close
     (tie.spec
     (λ c κs. search needs)
-    (λ c. ap (λ (x : Created). x .adapter) (c .before .create .ensures)))
+    (λ c. search needs)
+    (λ c. ap (λ (x : Made). x .bytes) (c .before .before .create .ensures)))

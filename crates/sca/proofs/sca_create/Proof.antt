@@ -1,6 +1,6 @@
--- By the length, then by what `create` gives.
+-- The number, wide.
 use borrow.Author.Needs.{needs}
-use Rattle.sca.proofs.States.{create-done, create-seven, create-refused}
+use Rattle.sca.proofs.Packing.{made-wide}
 use Rattle.sca.proofs.sca_create.Statement.{statement}
 use Rattle.sca.proofs.sca_create.Tie as tie
 
@@ -10,10 +10,5 @@ sca-create-spec =
     (tie.spec
     (λ c κs. search needs)
     (λ c κs. search needs)
-    (λ c κs. search needs)
     (λ c. search needs)
-    (λ c. search (create-done))
-    (λ c κs. search needs)
-    (λ c. search (create-seven))
-    (λ c κs. search needs)
-    (λ c. search (create-refused)))
+    (λ c. search made-wide))

@@ -1,6 +1,6 @@
--- The call on the state that the bytes spell, spelled and packed.
+-- What the adapter's call gives, packed.
 use borrow.Author.Needs.{needs}
-use Rattle.sca.proofs.States.{of-its-length, event-done, event-refused}
+use Rattle.sca.proofs.Packing.{packs}
 use Rattle.sca.proofs.sca_frame.Statement.{statement}
 use Rattle.sca.proofs.sca_frame.Tie as tie
 
@@ -9,13 +9,8 @@ sca-frame-spec =
     tie.close
     (tie.spec
     (λ c κs. search needs)
-    (λ c κs. search (of-its-length))
-    (λ c κs. search needs)
-    (λ c κs. search (of-its-length))
-    (λ c. search needs)
-    (λ c. search needs)
-    (λ c. search needs)
-    (λ c. search (event-done))
     (λ c κs. search needs)
     (λ c. search needs)
-    (λ c. search (event-refused)))
+    (λ c. search needs)
+    (λ c. search needs)
+    (λ c. search packs))

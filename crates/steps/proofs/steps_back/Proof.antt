@@ -5,10 +5,10 @@ use Rattle.steps.proofs.steps_back.Statement.{statement}
 use Rattle.steps.proofs.steps_back.Tie as tie
 
 abbrev Inv-loop : tie.InvT-loop
-Inv-loop journal₀ count b₀ number₀ i₀ journal b number i = i ≤ count
+Inv-loop state₀ journal₀ count number₀ i₀ state journal number i = i ≤ count
 
 abbrev μ-loop : tie.MeasureT-loop
-μ-loop journal₀ count b₀ number₀ i₀ journal b number i = count - i
+μ-loop state₀ journal₀ count number₀ i₀ state journal number i = count - i
 
 pub steps-back-spec : {M : Type 1} → statement M
 steps-back-spec =

@@ -13,4 +13,5 @@ call-frame-spec =
     (λ c. search needs)
     (λ c. search needs)
     (λ c. search needs)
-    (λ c. search (frame-call)))
+    (λ c. search needs)
+    (λ c. search frame-call))

@@ -1,7 +1,7 @@
 -- `calls::hear` meets its contract. Assumes nothing.
 use borrow.Author.Needs.{needs}
 use Rattle.listing.proofs.Reading.{frame-six, frame-eighty, completion-fits, sample-fits}
-use Rattle.player.proofs.Hearing.{hears-frame, hears-completion, hears-sample, hears-upset, hears-back, hears-nothing}
+use Rattle.player.proofs.Hearing.{hears, hears-back, hears-nothing}
 use Rattle.player.proofs.calls.hear.Statement.{statement}
 use Rattle.player.proofs.calls.hear.Tie as tie
 
@@ -11,28 +11,35 @@ hear-spec =
     (tie.spec
     (λ c κs. search needs)
     (λ c. search needs)
-    (λ c κs. (search (frame-six), search (frame-eighty)))
+    (λ c κs. (search frame-six, search frame-eighty))
     (λ c. search needs)
-    (λ c κs. search (completion-fits))
+    (λ c κs. search completion-fits)
     (λ c. search needs)
-    (λ c κs. search (sample-fits))
+    (λ c κs. search sample-fits)
     (λ c. search needs)
+    (λ c κs. search needs)
+    (λ c. search needs)
+    (λ c κs. search needs)
     (λ c κs. search needs)
     (λ c. search needs)
     (λ c κs. search needs)
     (λ c. search needs)
     (λ c. search needs)
     (λ c. search needs)
-    (λ c. search (hears-frame))
+    (λ c. search hears)
     (λ c. search needs)
     (λ c. search needs)
-    (λ c. search (hears-completion))
+    (λ c. search needs)
+    (λ c. search hears)
     (λ c. search needs)
     (λ c. search needs)
-    (λ c. search (hears-sample))
+    (λ c. search needs)
+    (λ c. search hears)
     (λ c. search needs)
     (λ c. search needs)
-    (λ c. search (hears-upset))
     (λ c. search needs)
-    (λ c. search (hears-back))
-    (λ c. search (hears-nothing)))
+    (λ c. search hears)
+    (λ c. search needs)
+    (λ c. search needs)
+    (λ c. search hears-back)
+    (λ c. search hears-nothing))

@@ -17,4 +17,5 @@ hear-completion-spec =
     (λ c κs. search needs)
     (λ c. search needs)
     (λ c. search needs)
-    (λ c. search (completion-call)))
+    (λ c. search needs)
+    (λ c. search completion-call))

@@ -20,4 +20,5 @@ hear-frame-spec =
     (λ c κs. search (body-fits, needs))
     (λ c. search needs)
     (λ c. search needs)
+    (λ c. search needs)
     (λ c. search (frame-line, needs)))

@@ -15,4 +15,5 @@ hear-sample-spec =
     (λ c κs. search needs)
     (λ c. search needs)
     (λ c. search needs)
-    (λ c. search (sample-call)))
+    (λ c. search needs)
+    (λ c. search sample-call))
