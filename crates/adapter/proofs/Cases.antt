@@ -1,17 +1,17 @@
 -- What each call gives and leaves, case by case: a law for every case of the definitions. Assumes nothing.
-use Prim.Native.Nat.{ℕ, _≤_, _<_}
+use Prim.Native.Nat.{ℕ, _-_, _≤_, _<_}
 use mathlib.Core.Path.{_≡_, refl, sym, ap, _∙_}
 use mathlib.Core.Bool.{Bool, true, false, not, cond, _||_, true≢false}
 use mathlib.Core.List.{List}
 use native.Mathlib.Nat.{pos-of-ne-zero}
 use native.Mathlib.Omega.{arith}
-use lib.ListN.{length, take}
+use lib.ListN.{length, take, drop}
 use lib.Dec.{eqb, ltb, lit<}
 use borrow.Author.Tests.{eq-eqb, ne-eqb, lt-ltb, le-ltb, ltb-false, eqb-true, eqb-false, not-false}
 use Rattle.state.specs.declared.Adapter.{Adapter}
 use Rattle.state.specs.State.{powerOn}
 use Rattle.state.specs.Bytes.{recordBytes, stateSize, stateBytes, stateIn, isState}
-use Rattle.state.specs.Inner.{frontInRange}
+use Rattle.state.specs.Inner.{isRecord}
 use Rattle.state.proofs.Spelling.{its-length}
 use Rattle.chip.specs.declared.Response.{Response}
 use Rattle.chip.specs.Event.{Event, frame, upset}
@@ -19,7 +19,7 @@ use Rattle.chip.specs.Answer.{response, Said, said, says}
 use Rattle.chip.specs.Chip.{reaction, onUpset, acceptedReset}
 use Rattle.journal.specs.Layout.{wrongLength, keptOf, wellFormed, past, emptied, pushed, lowered}
 use Rattle.journal.specs.Record.{sound, restored}
-use Rattle.journal.proofs.Record.{before-front, sound-by}
+use Rattle.journal.proofs.Record.{before-bytes, sound-by}
 use Rattle.journal.proofs.Ring.{in-journal, length-past}
 use Rattle.adapter.specs.declared.Answer.{Answer}
 use Rattle.adapter.specs.declared.KeptNumber.{KeptNumber}
@@ -108,8 +108,8 @@ module _ (resets : Bool) (j k : List ℕ) where
   pub empties : (r : List ℕ) → resets ≡ true → k ≡ emptied j → k ≡ joined resets r j
   empties r h g = simp h g
 
-  pub pushes : (r : List ℕ) → resets ≡ false → k ≡ pushed r j → k ≡ joined resets r j
-  pushes r h g = simp h g
+  pub pushes : (r s : List ℕ) → resets ≡ false → r ≡ take (recordBytes - 0) (drop 0 s) → k ≡ pushed r j → k ≡ joined resets (take recordBytes s) j
+  pushes r s h e g = simp h (g ∙ ap (λ (x : List ℕ). pushed x j) e)
 
 -- ---- an event's call
 
@@ -145,7 +145,7 @@ module _ (s : List ℕ) (j : List ℕ) (e : Event) (o : List ℕ) (v : Verdict)
       → x ≡ shown r → t ≡ stateBytes (r .adapter) → outcome x t k p ≡ called s j e o
   unfolding called verdict done
   passes a r x t p k resets q f g i u m n =
-      rw (← h, q, ← i, before-front s e, u, m, n, ← f)
+      rw (← h, q, ← i, before-bytes s e, u, m, n, ← f)
       (ap (λ (y : Said). outcome (shown (y .response)) (stateBytes (y .response .adapter)) (joined resets (take recordBytes s) j) (y .output)) g)
 
   pub passing : v ≡ Passed → Passing s j e o
@@ -224,19 +224,19 @@ module _ (s j : List ℕ) (spelled : Bool) (is-state : spelled ≡ isState s) wh
     unfolding backVerdict
     back-none g n = rw (← is-state, h, ← well-formed, g, eq-eqb (keptOf j) 0 n) refl
 
-    module _ (restorable : Bool) (is-sound : restorable ≡ frontInRange (past j 0)) (g : not formed ≡ false) (n : keptOf j ≡ 0 → ⊥) where
-      by-front : restorable ≡ sound s (past j 0)
-      by-front =
+    module _ (restorable : Bool) (is-sound : restorable ≡ isRecord (past j 0)) (g : not formed ≡ false) (n : keptOf j ≡ 0 → ⊥) where
+      by-record : restorable ≡ sound s (past j 0)
+      by-record =
           let l = length-past j (sym well-formed ∙ not-false formed g) in
           is-sound ∙ sym (sound-by s (past j 0) (sym is-state ∙ not-false spelled h) (omega arith))
 
       pub back-damaged : not restorable ≡ true → Refused 4 ≡ backVerdict s j
       unfolding backVerdict
-      back-damaged d = rw (← is-state, h, ← well-formed, g, ne-eqb (keptOf j) 0 n, ← by-front, d) refl
+      back-damaged d = rw (← is-state, h, ← well-formed, g, ne-eqb (keptOf j) 0 n, ← by-record, d) refl
 
       pub back-passed : not restorable ≡ false → Passed ≡ backVerdict s j
       unfolding backVerdict
-      back-passed d = rw (← is-state, h, ← well-formed, g, ne-eqb (keptOf j) 0 n, ← by-front, d) refl
+      back-passed d = rw (← is-state, h, ← well-formed, g, ne-eqb (keptOf j) 0 n, ← by-record, d) refl
 
 pub ruleset judging-back = (back-state, back-journal, back-none, back-damaged, back-passed)
 

@@ -7,6 +7,7 @@ use mathlib.Core.List.{List, _++_}
 use lib.ListN.{length}
 use lib.Dec.{ltb}
 use borrow.Author.Tests.{eq-eqb, ne-eqb}
+use Rattle.bits.proofs.Tests.{either}
 use Rattle.state.specs.declared.Adapter.{Adapter}
 use Rattle.state.specs.Bytes.{stateBytes, isState}
 use Rattle.state.proofs.Good.{Good}
@@ -46,25 +47,18 @@ unsent a e o h = ap (λ (r : Reaction). laid (r .frames) o) (silent a e h)
 -- what an event leaves in the journal
 module _ (s : List ℕ) (e : Event) (j : List ℕ) (w : Well j) where
   pub recorded-well : Well (recorded s e j)
-  recorded-well = either (acceptedReset e)
-    where
-      either : (b : Bool) → Well (cond b (emptied j) (pushed (before s e) j))
-      either true = emptied-well j (w .size)
-      either false = pushed-well (before s e) j w (length-before s e)
+  recorded-well = either Well (acceptedReset e) _ _ (emptied-well j (w .size)) (pushed-well (before s e) j w (length-before s e))
 
   pub recorded-slots : slotsOf (recorded s e j) ≡ slotsOf j
-  recorded-slots = either (acceptedReset e)
-    where
-      either : (b : Bool) → slotsOf (cond b (emptied j) (pushed (before s e) j)) ≡ slotsOf j
-      either true = emptied-slots j (w .size)
-      either false = pushed-slots (before s e) j w (length-before s e)
+  recorded-slots =
+      either (λ (k : List ℕ). slotsOf k ≡ slotsOf j) (acceptedReset e) _ _ (emptied-slots j (w .size)) (pushed-slots (before s e) j w (length-before s e))
 
   pub recorded-kept : keptOf (recorded s e j) ≡ cond (acceptedReset e) 0 (min (slotsOf j) (keptOf j + 1))
-  recorded-kept = either (acceptedReset e)
+  recorded-kept = by (acceptedReset e)
     where
-      either : (b : Bool) → keptOf (cond b (emptied j) (pushed (before s e) j)) ≡ cond b 0 (min (slotsOf j) (keptOf j + 1))
-      either true = emptied-kept j
-      either false = pushed-kept (before s e) j w (length-before s e)
+      by : (b : Bool) → keptOf (cond b (emptied j) (pushed (before s e) j)) ≡ cond b 0 (min (slotsOf j) (keptOf j + 1))
+      by true = emptied-kept j
+      by false = pushed-kept (before s e) j w (length-before s e)
 
   module _ (kept : acceptedReset e ≡ false) where
     -- the newest record is the event's

@@ -14,10 +14,9 @@ use numbers::NONE_KEPT;
 use numbers::OUTPUT_LEAST;
 use numbers::SHORT_OUTPUT;
 use numbers::TRANSFER_BYTES;
-use state::RECORD;
+use state::RECORD_BYTES;
 ghost use mathlib.Core.Path.{_≡_};
 ghost use mathlib.Core.Bool.{true, not};
-ghost use Prim.Native.Nat.{_≤_};
 ghost use lib.Dec.{ltb};
 ghost use lib.ListN.{length, take};
 ghost use Rattle.chip.specs.Event.{Completion, Event};
@@ -108,7 +107,7 @@ fn in_order(state: bool, journal: bool, output: bool, argument: bool, body: bool
     Verdict::Passed
 }
 
-// Keeps an event that happens to a state, by the state's bytes; an accepted RESET empties the journal.
+// The record of an event that happens to a state, the state's bytes but for the ID, joins the journal; an accepted RESET empties it.
 fn record_event(journal: &mut [u8], state: &[u8], resets: bool)
     requires { ⌜ wellFormed (now journal) ≡ true ⌝ }
     requires { ⌜ length (now state) ≡ stateSize ⌝ }
@@ -117,7 +116,10 @@ fn record_event(journal: &mut [u8], state: &[u8], resets: bool)
     if resets {
         journal::empty(journal);
     } else {
-        journal::push(journal, &state[0..RECORD]);
+        // By way of bytes of its own, as `journal::restore` does.
+        let mut record = [0u8; RECORD_BYTES];
+        parts::over(&mut record, &state[0..RECORD_BYTES]);
+        journal::push(journal, &record);
     }
 }
 
@@ -125,9 +127,9 @@ fn record_event(journal: &mut [u8], state: &[u8], resets: bool)
 fn judge(state: &[u8], journal: &[u8], room: usize, argument: bool, body: bool) -> Verdict
     ensures { λ r. ⌜ r ≡ inOrder (not (isState (now (state .entry)))) (not (wellFormed (now (journal .entry)))) (ltb room outputLeast) argument body ⌝ }
 {
-    let sound = state::is_state(state);
+    let spelled = state::is_state(state);
     let formed = journal::is_well_formed(journal);
-    in_order(!sound, !formed, room < OUTPUT_LEAST, argument, body)
+    in_order(!spelled, !formed, room < OUTPUT_LEAST, argument, body)
 }
 
 // A number with no frame.

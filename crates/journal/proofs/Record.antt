@@ -12,9 +12,9 @@ use lib.Seq.{take-at, length-take-le}
 use Rattle.parts.specs.Parts.{put}
 use Rattle.state.specs.declared.Adapter.{Adapter}
 use Rattle.state.specs.Bytes.{recordBytes, stateBytes, isState}
-use Rattle.state.specs.Inner.{frontInRange}
+use Rattle.state.specs.Inner.{isRecord}
 use Rattle.state.proofs.Good.{Good}
-use Rattle.state.proofs.Spelling.{length-state, state-bytes, taken-over, front-judges}
+use Rattle.state.proofs.Spelling.{length-state, state-bytes, taken-over, record-judges}
 use Rattle.chip.specs.Event.{Event}
 use Rattle.chip.specs.Chip.{reaction}
 use Rattle.chip.proofs.EventFits.{EventFits}
@@ -24,12 +24,12 @@ use Rattle.journal.specs.Record.{before, restored, sound}
 use Rattle.journal.proofs.Ring.{newest-slot, newest-front}
 
 -- the one law that unfolds `before`: the code keeps the state's front
-pub before-front : (s : List ℕ) (e : Event) → before s e ≡ take recordBytes s
+pub before-bytes : (s : List ℕ) (e : Event) → before s e ≡ take recordBytes s
 unfolding before
-before-front s e = refl
+before-bytes s e = refl
 
 pub length-before : (s : List ℕ) (e : Event) → length (before s e) ≤ 256
-length-before s e = rw (before-front s e, length-take recordBytes s) (omega arith)
+length-before s e = rw (before-bytes s e, length-take recordBytes s) (omega arith)
 
 -- A STEP BACK FROM WHAT AN EVENT LEFT, by the event's record, IS THE STATE THAT IT HAPPENED TO, and the record is sound there.
 module _ (a : Adapter) (e : Event) (rest : List ℕ) (g : Good a) (typed : EventFits e) where
@@ -38,7 +38,7 @@ module _ (a : Adapter) (e : Event) (rest : List ℕ) (g : Good a) (typed : Event
   taken-back =
       let n = length-state a g in
       let l = length-take-le recordBytes (stateBytes a) (omega arith) in
-      rw (before-front (stateBytes a) e, take-at (take recordBytes (stateBytes a)) rest recordBytes l)
+      rw (before-bytes (stateBytes a) e, take-at (take recordBytes (stateBytes a)) rest recordBytes l)
       (taken-over a (reaction a e .adapter) g (good-stays a e g typed) (id-stays a e))
 
   pub sound-back : sound (stateBytes (reaction a e .adapter)) (before (stateBytes a) e ++ rest) ≡ true
@@ -47,14 +47,14 @@ module _ (a : Adapter) (e : Event) (rest : List ℕ) (g : Good a) (typed : Event
 
 -- what the code sees of the newest record
 module _ (j : List ℕ) (at : ℕ) (h : wellFormed j ≡ true) (e : at ≡ placeOf (slotsOf j) (firstOf j) (keptOf j - 1)) where
-  pub is-judged : (x : Bool) → x ≡ frontInRange (take (at + 256 - at) (drop at j)) → x ≡ frontInRange (past j 0)
-  is-judged x f = f ∙ ap (λ (l : List ℕ). frontInRange l) (newest-slot j at h e)
+  pub is-judged : (x : Bool) → x ≡ isRecord (take (at + 256 - at) (drop at j)) → x ≡ isRecord (past j 0)
+  is-judged x f = f ∙ ap (λ (l : List ℕ). isRecord l) (newest-slot j at h e)
 
   pub restores : (r s s′ : List ℕ) → r ≡ take (at + recordBytes - at) (drop at j) → s′ ≡ put 0 r s → s′ ≡ restored s (past j 0)
   unfolding restored
   restores r s s′ f g = g ∙ ap (λ (r : List ℕ). put 0 r s) (f ∙ newest-front j at h e recordBytes (lit≤ tt))
 
 -- and by what it judges it
-pub sound-by : (s r : List ℕ) → isState s ≡ true → recordBytes ≤ length r → sound s r ≡ frontInRange r
+pub sound-by : (s r : List ℕ) → isState s ≡ true → recordBytes ≤ length r → sound s r ≡ isRecord r
 unfolding sound restored
-sound-by s r h l = front-judges s r h l
+sound-by s r h l = record-judges s r h l

@@ -1,12 +1,12 @@
 // The journal: a ring of records in lent bytes, each of which takes the state after an event back to the one before it. A journal belongs
 // to the state that it went with.
-use state::RECORD;
+use state::RECORD_BYTES;
 ghost use mathlib.Core.Path.{_≡_};
 ghost use mathlib.Core.Bool.{true, false};
 ghost use Prim.Native.Nat.{_-_, _<_, _≤_};
 ghost use lib.ListN.{length};
 ghost use Rattle.state.specs.Bytes.{recordBytes};
-ghost use Rattle.state.specs.Inner.{frontInRange};
+ghost use Rattle.state.specs.Inner.{isRecord};
 ghost use Rattle.journal.specs.Layout.{formatOf, slotsOf, wrongLength, firstOf, keptOf, wellFormed, placeOf, firstAfter, keptUp, past, emptied, pushed, lowered};
 ghost use Rattle.journal.specs.Record.{restored};
 
@@ -148,15 +148,15 @@ fn newest(j: &[u8]) -> usize
     place(f.slots, first, kept - 1)
 }
 
-// Whether the newest record, over the bytes of a state, spells a state.
+// Whether link and registers of the newest record are in range: over the bytes of any state it then spells a state.
 pub fn is_sound(j: &[u8]) -> bool
     requires { ⌜ wellFormed (now j) ≡ true ⌝ }
     requires { ⌜ 0 < keptOf (now j) ⌝ }
-    ensures { λ r. ⌜ r ≡ frontInRange (past (now (j .entry)) 0) ⌝ }
+    ensures { λ r. ⌜ r ≡ isRecord (past (now (j .entry)) 0) ⌝ }
 {
     let at = newest(j);
     let end = at + SLOT_BYTES;
-    state::is_front(&j[at..end])
+    state::is_record(&j[at..end])
 }
 
 // The newest record over the bytes of a state.
@@ -167,9 +167,9 @@ pub fn restore(j: &[u8], s: &mut [u8])
     ensures { λ _. ⌜ now (s .exit) ≡ restored (now (s .entry)) (past (now (j .entry)) 0) ⌝ }
 {
     let at = newest(j);
-    let end = at + RECORD;
+    let end = at + RECORD_BYTES;
     // By way of bytes of its own, which are copied many at a time: the compiler cannot tell two lent slices apart.
-    let mut bytes = [0u8; RECORD];
+    let mut bytes = [0u8; RECORD_BYTES];
     parts::over(&mut bytes, &j[at..end]);
     parts::store(s, 0, &bytes);
 }

@@ -102,11 +102,12 @@ byte-after p s j line out₀ out count next b h room =
     (written-then 0 next (p .text) out₀ out w (omega arith) _ (q .text) _ refl)
     ∙ ap (feeds 0 out₀) (sym (takes-after (p .text) (handedOver p) b) ∙ ap (λ (r : Player). takes r b) (whole-again p))
 
-pub byte-fed : (p : Player) (s j line block out₀ out : List ℕ) (count next i : ℕ)
+pub byte-fed : (x : Feeding) (p : Player) (s j line block out₀ out : List ℕ) (count next i : ℕ)
+    → x ≡ feeds next out (takes (player s j line count []) (getD block i 0))
     → feeding s j line count next out ≡ feeds 0 out₀ (foldl takes p (take i block)) → i < length block → next ≤ length out₀
-    → feeds next out (takes (player s j line count []) (getD block i 0)) ≡ feeds 0 out₀ (foldl takes p (take (i + 1) block))
-byte-fed p s j line block out₀ out count next i h within room =
-    byte-after (foldl takes p (take i block)) s j line out₀ out count next (getD block i 0) h room ∙ ap (feeds 0 out₀) (sym taken-more)
+    → x ≡ feeds 0 out₀ (foldl takes p (take (i + 1) block))
+byte-fed x p s j line block out₀ out count next i e h within room =
+    e ∙ byte-after (foldl takes p (take i block)) s j line out₀ out count next (getD block i 0) h room ∙ ap (feeds 0 out₀) (sym taken-more)
   where
     taken-more : foldl takes p (take (i + 1) block) ≡ takes (foldl takes p (take i block)) (getD block i 0)
     taken-more = rw (add-one, take-suc block i 0 within, foldl-append takes p (take i block) (getD block i 0 ∷ [])) refl
@@ -125,7 +126,7 @@ module _ (s j line out : List ℕ) (count : ℕ) where
   unfolding closes
   ends-nothing h = simp (eq-eqb count 0 h) (rw h (none-fed s j line out 0))
 
-  pub ends-line : (x : Feeding) → (count ≡ 0 → ⊥) → x ≡ feeds 0 out (takes (player s j line count []) 10)
+  pub ends-line : (x : Feeding) → (count ≡ 0 → ⊥) → x ≡ feeds 0 out (foldl takes (player s j line count []) (10 ∷ []))
       → x ≡ feeds 0 out (closes (player s j line count []))
   unfolding closes
   ends-line x h g = simp (ne-eqb count 0 h) (g ∙ ap (feeds 0 out) (takes-end _ 10 refl))

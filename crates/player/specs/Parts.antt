@@ -85,7 +85,7 @@ unfoldable pub playedIn : Player → List (List ℕ) → List ℕ
 playedIn p [] = closes p .text
 playedIn p (block ∷ blocks) = foldl takes p block .text ++ playedIn (handedOver (foldl takes p block)) blocks
 
--- ---- a block of the input, the text in a lent buffer
+-- ---- a block of the input, the text from a place on in a lent buffer
 
 pub record Feeding : Type 0 where
   pub state : List ℕ

@@ -48,7 +48,7 @@ fn put_reply(
     answer::put_answer(out, at, number, kept, port, reply)
 }
 
-// Plays a line: its output line is written from a place on. The place after it.
+// Plays a line: writes its output line from a place on, and gives the place after it.
 pub fn play_line(state: &mut [u8], journal: &mut [u8], l: &[u8], out: &mut [u8], at: usize) -> usize
     requires { ⌜ at + 48 ≤ length (now out) ⌝ }
     ensures { λ r. ⌜ left r (now (state .exit)) (now (journal .exit)) (now (out .exit)) ≡ leaves at (now (out .entry)) (turn (now (state .entry)) (now (journal .entry)) (now (l .entry))) ⌝ }
@@ -153,5 +153,5 @@ pub fn finish(
     if count == 0 {
         return Fed { count: 0, next: 0 };
     }
-    take_byte(state, count, journal, line, LINE_FEED, out, 0)
+    feed(state, count, journal, line, &[LINE_FEED], out)
 }

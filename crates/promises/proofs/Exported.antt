@@ -1,7 +1,7 @@
 -- Demand 3 of the exports: packing loses nothing, so an export gives what the call of crate `adapter` gives. Assumes nothing.
 use Prim.Native.Nat.{ℕ, _+_, _*_, _/_, _%_, _≤_, _<_}
 use mathlib.Core.Path.{_≡_, refl, sym, ap, _∙_}
-use mathlib.Core.Bool.{Bool, true, false, not, cond}
+use mathlib.Core.Bool.{Bool, true, false, not}
 use mathlib.Core.List.{List, []}
 use mathlib.Core.Logic.{_⊎_, inl, inr}
 use native.Mathlib.Omega.{arith}
@@ -9,10 +9,10 @@ use lib.ListN.{length}
 use lib.Dec.{eqb, ltb, lit<}
 use borrow.Author.Tests.{ltb-false}
 use Rattle.numbers.specs.Numbers as number
+use Rattle.bits.proofs.Tests.{either}
 use Rattle.state.specs.declared.Adapter.{Adapter}
-use Rattle.state.specs.Bytes.{stateSize, stateBytes, stateIn, isState}
-use Rattle.state.specs.State.{powerOn}
-use Rattle.state.proofs.Good.{ranged-port}
+use Rattle.state.specs.Bytes.{stateSize, stateIn, isState}
+use Rattle.state.proofs.Good.{ranges}
 use Rattle.state.proofs.Spelling.{its-range}
 use Rattle.chip.specs.Answer.{Reaction, frontLength}
 use Rattle.chip.specs.Event.{Event, frame}
@@ -20,7 +20,7 @@ use Rattle.chip.specs.Request.{replies}
 use Rattle.chip.specs.Chip.{reaction}
 use Rattle.chip.proofs.Laws.{number-given}
 use Rattle.chip.proofs.Steps.{Shape, dropped, acknowledged, echoed, rejected, replied, quiet, moved-port, shapes}
-use Rattle.journal.specs.Layout.{slotsOf, wrongLength, wellFormed, keptOf, past, emptied}
+use Rattle.journal.specs.Layout.{slotsOf, wrongLength, wellFormed, keptOf, past}
 use Rattle.journal.specs.Record.{sound}
 use Rattle.journal.proofs.Formats.{slots-small}
 use Rattle.journal.proofs.Ring.{of-well}
@@ -29,7 +29,7 @@ use Rattle.adapter.specs.declared.KeptNumber.{KeptNumber}
 use Rattle.adapter.specs.declared.Verdict.{Verdict}
 use Rattle.adapter.specs.declared.Verdict.the-variants.{Refused, Passed}
 use Rattle.adapter.specs.Refusals.{wrongArgument, wrongBody, inOrder, verdict, backVerdict}
-use Rattle.adapter.specs.Calls.{made, created, madeEmpty, keptIn, called, done, judgedBack, steppedBack}
+use Rattle.adapter.specs.Calls.{Made, created, madeEmpty, keptIn, called, done, judgedBack, steppedBack}
 use Rattle.adapter.proofs.Laws.{called-refused, called-done}
 use Rattle.adapter.proofs.Cases.{passing, body-short}
 use Rattle.sca.specs.Adapter.{packAnswer, packKept}
@@ -77,12 +77,9 @@ SmallVerdict Passed = Unit
 
 small-order : (s j o g b : Bool) → SmallVerdict (inOrder s j o g b)
 unfolding inOrder
-small-order true j o g b = lit< tt
-small-order false true o g b = lit< tt
-small-order false false true g b = lit< tt
-small-order false false false true b = lit< tt
-small-order false false false false true = lit< tt
-small-order false false false false false = tt
+small-order s j o g b =
+    either SmallVerdict s _ _ (lit< tt)
+    (either SmallVerdict j _ _ (lit< tt) (either SmallVerdict o _ _ (lit< tt) (either SmallVerdict g _ _ (lit< tt) (either SmallVerdict b _ _ (lit< tt) tt))))
 
 small-given : (n : ℕ) → (n ≡ 0) ⊎ ((11 ≤ n) × (n ≤ 17)) → n < 256
 small-given n (inl z) = omega arith
@@ -124,7 +121,7 @@ called-small s j e o = go (verdict s j e o) refl
     go Passed q =
         let c = called-done s j e o q in
         let p = passing s j e o Passed (sym q) refl in
-        let l = small-frame (stateIn s) e (ranged-port (stateIn s) (its-range s (p .state))) (p .argument) (p .body) in
+        let l = small-frame (stateIn s) e (ranges (stateIn s) (its-range s (p .state)) .2) (p .argument) (p .body) in
         record { number = rw c (small-given _ (number-given (stateIn s) e)); length = rw c (l .length); port = rw c (l .port) }
 
 pub called-number : (s j : List ℕ) (e : Event) (o : List ℕ) → called s j e o .answer .number < 256
@@ -132,31 +129,23 @@ called-number s j e o = called-small s j e o .number
 
 pub back-number : (s j : List ℕ) → steppedBack s j .number < 256
 unfolding steppedBack backVerdict
-back-number s j = go (not (isState s)) (not (wellFormed j)) (eqb (keptOf j) 0) (not (sound s (past j 0)))
+back-number s j =
+    either Small₁ (not (isState s)) _ _ (lit< tt)
+    (either Small₁ (not (wellFormed j)) _ _ (lit< tt)
+    (either Small₁ (eqb (keptOf j) 0) _ _ (lit< tt) (either Small₁ (not (sound s (past j 0))) _ _ (lit< tt) (lit< tt))))
   where
-    go : (x f n d : Bool) → judgedBack (cond x (Refused 6) (cond f (Refused 4) (cond n (Refused 5) (cond d (Refused 4) Passed)))) s j .number < 256
-    go true f n d = lit< tt
-    go false true n d = lit< tt
-    go false false true d = lit< tt
-    go false false false true = lit< tt
-    go false false false false = lit< tt
+    Small₁ : Verdict → Type 0
+    Small₁ v = judgedBack v s j .number < 256
 
 pub empty-number : (j : List ℕ) → madeEmpty j .number < 256
 unfolding madeEmpty
-empty-number j = go (wrongLength j)
-  where
-    go : (b : Bool) → (cond b (made number.badJournal j) (made number.noFrame (emptied j))) .number < 256
-    go true = lit< tt
-    go false = lit< tt
+empty-number j = either (λ (m : Made). m .number < 256) (wrongLength j) _ _ (lit< tt) (lit< tt)
 
 pub create-number : (s : List ℕ) (id : ℕ) → created s id .number < 256
 unfolding created
-create-number s id = go (not (eqb (length s) stateSize)) (ltb 0xFFFFFF id)
-  where
-    go : (a b : Bool) → cond a (made 6 s) (cond b (made 7 s) (made 17 (stateBytes (powerOn id)))) .number < 256
-    go true b = lit< tt
-    go false true = lit< tt
-    go false false = lit< tt
+create-number s id =
+    either (λ (m : Made). m .number < 256) (not (eqb (length s) stateSize)) _ _ (lit< tt)
+    (either (λ (m : Made). m .number < 256) (ltb 0xFFFFFF id) _ _ (lit< tt) (lit< tt))
 
 kept-again : (k n : ℕ) → k ≤ n → n < 256 → ((17 + 256 * k) % 256 ≡ 17) × ((17 + 256 * k) / 256 % 256 ≡ k)
 kept-again k n h l = (omega arith, omega arith)

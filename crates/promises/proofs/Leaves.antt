@@ -2,13 +2,13 @@
 -- unchanged (`Refused`). Assumes nothing.
 use Prim.Native.Nat.{ℕ, _+_, _*_, _≤_, _<_, min}
 use mathlib.Core.Path.{_≡_, refl, sym, ap, _∙_}
-use mathlib.Core.Bool.{Bool, true, false, true≢false}
+use mathlib.Core.Bool.{Bool, true, false, not, cond, true≢false}
 use mathlib.Core.List.{List, [], _∷_, foldl}
 use native.Mathlib.Omega.{arith}
 use borrow.Author.Tests.{leb-true, lt-leb, le-ltb}
 use lib.ListN.{length, take, drop}
 use lib.Seq.{drop-at}
-use lib.Dec.{leb}
+use lib.Dec.{eqb, leb}
 use Rattle.numbers.specs.Numbers as number
 use Rattle.parts.specs.Parts.{put}
 use Rattle.parts.proofs.Laws.{AreBytes, put-none, length-put}
@@ -22,22 +22,23 @@ use Rattle.chip.specs.Answer.{Reaction, frontLength, laid}
 use Rattle.chip.specs.Event.{Event, frame, completion, sample, upset}
 use Rattle.chip.proofs.EventFits.{EventFits}
 use Rattle.chip.specs.Chip.{reaction, acceptedReset}
-use Rattle.state.specs.Bytes.{stateBytes, stateIn}
-use Rattle.state.proofs.Good.{ranged-port}
-use Rattle.state.proofs.Spelling.{its-range, state-again}
-use Rattle.chip.proofs.Laws.{dropped-keeps, accepted-reset, OneFrame, one-frame, sendable}
+use Rattle.state.specs.State.{powerOn}
+use Rattle.state.specs.Bytes.{stateSize, stateBytes, stateIn, isState}
+use Rattle.state.proofs.Good.{ranges, power-on-good}
+use Rattle.state.proofs.Spelling.{its-range, its-good, state-again, state-bytes}
+use Rattle.chip.proofs.Laws.{good-stays, dropped-keeps, accepted-reset, OneFrame, one-frame, sendable}
 use Rattle.chip.proofs.Bodies.{one, none, Every, Framable}
-use Rattle.journal.specs.Layout.{slotsOf, pushed}
-use Rattle.journal.specs.Record.{before}
+use Rattle.journal.specs.Layout.{slotsOf, wellFormed, keptOf, past, pushed}
+use Rattle.journal.specs.Record.{before, sound}
 use Rattle.journal.proofs.Ring.{Well, well-of, of-well}
-use Rattle.adapter.specs.declared.Verdict.the-variants.{Passed}
-use Rattle.adapter.specs.Refusals.{inOrder, verdict}
-use Rattle.adapter.specs.Calls.{Outcome, recorded, done, judged, called, keptIn}
+use Rattle.adapter.specs.declared.Verdict.the-variants.{Refused, Passed}
+use Rattle.adapter.specs.Refusals.{inOrder, verdict, backVerdict}
+use Rattle.adapter.specs.Calls.{created, Outcome, recorded, done, judged, called, keptIn, Stepped, judgedBack, steppedBack}
 use Rattle.adapter.proofs.Cases.{Passing, passing}
 use Rattle.adapter.proofs.Laws.{called-done, unsent, recorded-well, recorded-kept}
 use Rattle.promises.specs.Runs.{event, OfItsTypes, isRefusal}
 use Rattle.promises.specs.Calls.{Accepted}
-use Rattle.promises.proofs.Runs.{fits}
+use Rattle.promises.proofs.Runs.{fits, any-bytes}
 use Rattle.promises.proofs.Refused.{receive-unchanged, event-unchanged}
 use Rattle.promises.proofs.Steps.{split}
 use Rattle.promises.proofs.Readings.{reading-sized}
@@ -182,6 +183,11 @@ module _ (s : List ℕ) (j : List ℕ) (e : Event) (output : List ℕ) where
       let c : called s j e output ≡ done s j e output = called-done s j e output v in
       record { passes = passing s j e output (verdict s j e output) refl v; call = c; answer = ap (λ (x : Outcome). x .answer .number) c }
 
+  of-types : Happened → OfItsTypes (event e output) → EventFits e
+  of-types d types =
+      let p : Passing s j e output = d .passes in
+      fits e output types (rw (le-ltb (length output) 16 (p .room), p .argument, p .body) refl)
+
   -- Every number but 0 leaves every output byte.
   pub event-other : (called s j e output .answer .number ≡ number.hasFrame → ⊥) → called s j e output .output ≡ output
   unfolding done
@@ -199,8 +205,7 @@ module _ (s : List ℕ) (j : List ℕ) (e : Event) (output : List ℕ) where
   event-0 types h =
       let d : Happened = happened (rw h refl) in
       let p : Passing s j e output = d .passes in
-      let f : EventFits e = fits e output types (rw (le-ltb (length output) 16 (p .room), p .argument, p .body) refl) in
-      rw (d .call) (laid-alone (reaction (stateIn s) e) output (one-frame (stateIn s) e) (sym (d .answer) ∙ h) (sendable (stateIn s) e (ranged-port (stateIn s) (its-range s (p .state))) f .1) (p .room))
+      rw (d .call) (laid-alone (reaction (stateIn s) e) output (one-frame (stateIn s) e) (sym (d .answer) ∙ h) (sendable (stateIn s) e (ranges (stateIn s) (its-range s (p .state)) .2) (of-types d types) .1) (p .room))
 
   -- 11 TO 16: OUTPUT AND REGISTERS UNCHANGED, EVENT KEPT. The whole state stays, the event's record joins the journal, and the kept
   -- number goes up by one, to at most the journal's slots.
@@ -230,3 +235,29 @@ module _ (s : List ℕ) (j : List ℕ) (e : Event) (output : List ℕ) where
   -- 17: OUTPUT UNCHANGED.
   pub event-17 : called s j e output .answer .number ≡ number.noFrame → called s j e output .output ≡ output
   event-17 h = event-other (λ z. omega arith)
+
+  -- EVERY EVENT THAT IS NOT REFUSED LEAVES A STATE, one that no call refuses with 6.
+  pub event-leaves-a-state : AreBytes s → OfItsTypes (event e output) → isRefusal (called s j e output .answer .number) ≡ false
+      → isState (called s j e output .state) ≡ true
+  unfolding done
+  event-leaves-a-state b types h =
+      let d : Happened = happened h in
+      rw (d .call) (state-bytes _ (good-stays (stateIn s) e (its-good s (d .passes .state) b) (of-types d types)))
+
+-- So does a step back that is granted, and a creation.
+pub back-leaves-a-state : (s j : List ℕ) → isRefusal (steppedBack s j .number) ≡ false → isState (steppedBack s j .state) ≡ true
+unfolding steppedBack backVerdict sound
+back-leaves-a-state s j h = go (not (isState s)) (not (wellFormed j)) (eqb (keptOf j) 0) (sound s (past j 0)) refl h
+  where
+    by : Bool → Bool → Bool → Bool → Stepped
+    by x f n r = judgedBack (cond x (Refused 6) (cond f (Refused 4) (cond n (Refused 5) (cond (not r) (Refused 4) Passed)))) s j
+
+    go : (x f n r : Bool) → sound s (past j 0) ≡ r → isRefusal (by x f n r .number) ≡ false → isState (by x f n r .state) ≡ true
+    go true f n r e q = absurd (true≢false q)
+    go false true n r e q = absurd (true≢false q)
+    go false false true r e q = absurd (true≢false q)
+    go false false false false e q = absurd (true≢false q)
+    go false false false true e q = e
+
+pub create-leaves-a-state : (s : List ℕ) (id : ℕ) → length s ≡ stateSize → id ≤ number.idMost → isState (created s id .bytes) ≡ true
+create-leaves-a-state s id n h = rw (any-bytes s id n h) (state-bytes (powerOn id) (power-on-good id h))

@@ -433,48 +433,34 @@ module _ (r : Run) where
 
   -- ---- what the text never says
 
-  fine : (n : ℕ) → (n ≡ 0) ⊎ ((11 ≤ n) × (n ≤ 17)) → (n ≡ 4 → ⊥) × (n ≡ 6 → ⊥)
+  abbrev Fine : ℕ → Type 0
+  Fine n = (n ≡ 4 → ⊥) × (n ≡ 6 → ⊥)
+
+  fine : (n : ℕ) → (n ≡ 0) ⊎ ((11 ≤ n) × (n ≤ 17)) → Fine n
   fine n (inl z) = (λ e. omega arith, λ e. omega arith)
   fine n (inr l) = (λ e. omega arith, λ e. omega arith)
 
-  own-number : Bool → Bool → Bool → ℕ
-  own-number short argument body = cond short 1 (cond argument 3 (cond body 2 0))
+  number-fine : (n : ℕ) → eqb n 4 ≡ false → eqb n 6 ≡ false → Fine n
+  number-fine n h k = (eqb-false n 4 h, eqb-false n 6 k)
 
-  own-fine : (short argument body : Bool) → (own-number short argument body ≡ 4 → ⊥) × (own-number short argument body ≡ 6 → ⊥)
-  unfolding own-number
-  own-fine true argument body = (eqb-false 1 4 refl, eqb-false 1 6 refl)
-  own-fine false true body = (eqb-false 3 4 refl, eqb-false 3 6 refl)
-  own-fine false false true = (eqb-false 2 4 refl, eqb-false 2 6 refl)
-  own-fine false false false = (eqb-false 0 4 refl, eqb-false 0 6 refl)
+  own-fine : (short argument body : Bool) → Fine (cond short 1 (cond argument 3 (cond body 2 0)))
+  own-fine short argument body =
+      either Fine short _ _ (number-fine 1 refl refl)
+      (either Fine argument _ _ (number-fine 3 refl refl) (either Fine body _ _ (number-fine 2 refl refl) (number-fine 0 refl refl)))
 
-  never : (k : Call) → (told (r .id) (standing r) k .number ≡ 4 → ⊥) × (told (r .id) (standing r) k .number ≡ 6 → ⊥)
-  unfolding own-number
-  never (event e o) = go (refused e o)
-    where
-      go : (b : Bool) → (cond b (bare (refusal e o) o) (answered (reaction (dueState r) e) o) .number ≡ 4 → ⊥)
-          × (cond b (bare (refusal e o) o) (answered (reaction (dueState r) e) o) .number ≡ 6 → ⊥)
-      go true = own-fine (ltb (length o) 16) (wrongArgument e) (wrongBody e)
-      go false = fine _ (number-given (dueState r) e)
-  never back = go (eqb (standing r .number) 0)
-    where
-      go : (b : Bool) → (cond b (bare 5 []) (bare 17 []) .number ≡ 4 → ⊥) × (cond b (bare 5 []) (bare 17 []) .number ≡ 6 → ⊥)
-      go true = (eqb-false 5 4 refl, eqb-false 5 6 refl)
-      go false = (eqb-false 17 4 refl, eqb-false 17 6 refl)
-  never empty = (eqb-false 17 4 refl, eqb-false 17 6 refl)
+  never : (k : Call) → Fine (told (r .id) (standing r) k .number)
+  never (event e o) =
+      either (λ (g : Given). Fine (g .number)) (refused e o) _ _ (own-fine (ltb (length o) 16) (wrongArgument e) (wrongBody e))
+      (fine _ (number-given (dueState r) e))
+  never back = either (λ (g : Given). Fine (g .number)) (eqb (standing r .number) 0) _ _ (number-fine 5 refl refl) (number-fine 17 refl refl)
+  never empty = number-fine 17 refl refl
 
   -- a refused call's output
   output-same : (k : Call) → refuses (told (r .id) (standing r) k) ≡ true → told (r .id) (standing r) k .output ≡ lent k
-  output-same (event e o) = go (refused e o)
-    where
-      go : (b : Bool) → refuses (cond b (bare (refusal e o) o) (answered (reaction (dueState r) e) o)) ≡ true
-          → cond b (bare (refusal e o) o) (answered (reaction (dueState r) e) o) .output ≡ o
-      go true h = refl
-      go false h = absurd (not-one-to-ten _ (number-given (dueState r) e) h)
-  output-same back = go (eqb (standing r .number) 0)
-    where
-      go : (b : Bool) → refuses (cond b (bare 5 []) (bare 17 [])) ≡ true → cond b (bare 5 []) (bare 17 []) .output ≡ []
-      go true h = refl
-      go false h = refl
+  output-same (event e o) =
+      either (λ (g : Given). refuses g ≡ true → g .output ≡ o) (refused e o) _ _ (λ h. refl)
+      (λ h. absurd (not-one-to-ten _ (number-given (dueState r) e) h))
+  output-same back = either (λ (g : Given). refuses g ≡ true → g .output ≡ []) (eqb (standing r .number) 0) _ _ (λ h. refl) (λ h. refl)
   output-same empty = λ h. refl
 
   -- ---- the sentences

@@ -13,7 +13,7 @@ use Rattle.chip.specs.Event.{Event}
 use Rattle.state.specs.State.{inRange}
 use Rattle.chip.specs.Chip.{reaction}
 use Rattle.chip.proofs.EventFits.{EventFits}
-use Rattle.state.proofs.Good.{ranged-port}
+use Rattle.state.proofs.Good.{ranges}
 use Rattle.chip.proofs.Bodies.{Every, Framable, sendable, frame-bytes}
 use Rattle.promises.specs.Wire.{found}
 use Rattle.promises.specs.Calls.{Gives}
@@ -31,4 +31,4 @@ module _ (cable output : List ℕ) (least : 24 ≤ length cable) (most : length 
 
   pub answer-comes-back : (a : Adapter) (e : Event) → inRange a ≡ true → EventFits e → Every ComesBack (reaction a e .frames)
   answer-comes-back a e ranged typed =
-      every-body (reaction a e .frames) (sendable a e (ranged-port a ranged) typed .1) (frame-bytes a e typed)
+      every-body (reaction a e .frames) (sendable a e (ranges a ranged .2) typed .1) (frame-bytes a e typed)

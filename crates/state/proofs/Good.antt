@@ -5,7 +5,8 @@ use mathlib.Core.List.{List}
 use mathlib.Core.Path.{_≡_}
 use borrow.Author.Tests.{le-leb, leb-true}
 use lib.Dec.{leb, lit≤}
-use Rattle.bits.proofs.Tests.{and-left, and-right}
+use Rattle.bits.proofs.Tests.{both}
+use Rattle.registers.proofs.Laws.{RegistersFit}
 use Rattle.registers.specs.Registers.{within}
 use Rattle.channels.specs.Rows.{allHeld}
 use Rattle.channels.proofs.Laws.{Sound, power-on-sound}
@@ -25,16 +26,26 @@ unfolding inRange
 good-ranged a g =
     simp (le-leb _ _ (g .send), le-leb _ _ (g .receive), le-leb _ _ (g .port), le-leb _ _ (g .id), g .registers .masked) (g .registers .held)
 
--- what an answer needs of a state in range
-pub ranged-port : (a : Adapter) → inRange a ≡ true → a .link .port ≤ 1
+-- document 01's list, one by one
+pub ranges : (a : Adapter) → inRange a ≡ true → (a .link .send .0 ≤ 7) × (a .link .receive .0 ≤ 7) × (a .link .port ≤ 1) × (a .id ≤ 0xFFFFFF)
+    × (within (a .registers) ≡ true) × (allHeld (a .registers) ≡ true)
 unfolding inRange
-ranged-port a h =
-    let numbers : Bool = leb (a .link .send .0) 7 && leb (a .link .receive .0) 7 in
-    let port : Bool = leb (a .link .port) 1 in
-    let id : Bool = leb (a .id) 0xFFFFFF in
-    let masked : Bool = within (a .registers) in
-    leb-true _ _
-    (and-right numbers port (and-left (numbers && port) id (and-left (numbers && port && id) masked (and-left _ (allHeld (a .registers)) h))))
+ranges a h =
+    let s : Bool = leb (a .link .send .0) 7 in
+    let r : Bool = leb (a .link .receive .0) 7 in
+    let p : Bool = leb (a .link .port) 1 in
+    let i : Bool = leb (a .id) 0xFFFFFF in
+    let h5 = both (s && r && p && i && within (a .registers)) (allHeld (a .registers)) h in
+    let h4 = both (s && r && p && i) (within (a .registers)) (h5 .0) in
+    let h3 = both (s && r && p) i (h4 .0) in
+    let h2 = both (s && r) p (h3 .0) in
+    let h1 = both s r (h2 .0) in
+    (leb-true _ _ (h1 .0), leb-true _ _ (h1 .1), leb-true _ _ (h2 .1), leb-true _ _ (h3 .1), h4 .1, h5 .1)
+
+pub good : (a : Adapter) → RegistersFit (a .registers) → inRange a ≡ true → Good a
+good a f h =
+    let g = ranges a h in
+    record { send = g .0; receive = g .1; port = g .2; registers = record { fits = f; masked = g .4; held = g .5 }; id = g .3 }
 
 -- ---- power-on
 

@@ -14,8 +14,8 @@ spell-one κs a x y s t e f = e ∙ sym f
 pub load-one : One 1 this.load.Kinds.ps this.load.Kinds.r this.load.Reads.Post (λ κs x s. x)
 load-one κs a x y s t e f = e ∙ sym f
 
-pub is-front-one : One 1 this.is_front.Kinds.ps this.is_front.Kinds.r this.is_front.Reads.Post (λ κs x s. x)
-is-front-one κs a x y s t e f = e ∙ sym f
+pub is-record-one : One 1 this.is_record.Kinds.ps this.is_record.Kinds.r this.is_record.Reads.Post (λ κs x s. x)
+is-record-one κs a x y s t e f = e ∙ sym f
 
 pub is-state-one : One 1 this.is_state.Kinds.ps this.is_state.Kinds.r this.is_state.Reads.Post (λ κs x s. x)
 is-state-one κs a x y s t e f = e ∙ sym f

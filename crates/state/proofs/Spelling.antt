@@ -13,7 +13,7 @@ use Rattle.bits.proofs.Bits.{bit-zero}
 use Rattle.bits.proofs.Tests.{and-left, and-right, and-true}
 use Rattle.parts.specs.Parts.{part, put}
 use Rattle.parts.specs.Digits.{number, digits}
-use Rattle.parts.proofs.Laws.{AreBytes, bytes-drop, length-put, part-part, part-put-after, put-put, put-all}
+use Rattle.parts.proofs.Laws.{AreBytes, bytes-take, bytes-drop, length-part, length-put, part-part, part-put-after, put-put, put-all}
 use Rattle.parts.proofs.Digits.{length-digits, number-digits, digits-number}
 use Rattle.registers.specs.Registers.{size, within}
 use Rattle.channels.specs.Rows.{allHeld}
@@ -21,8 +21,8 @@ use Rattle.link.specs.declared.Link.{Link}
 use Rattle.state.specs.declared.Adapter.{Adapter}
 use Rattle.state.specs.State.{inRange}
 use Rattle.state.specs.Bytes.{linkBytes, recordBytes, stateSize, flags, linkImage, image, stateBytes, linkOf, stateIn, spelled, isState}
-use Rattle.state.specs.Inner.{frontInRange}
-use Rattle.state.proofs.Good.{Good, good-ranged}
+use Rattle.state.specs.Inner.{isRecord}
+use Rattle.state.proofs.Good.{Good, good, good-ranged}
 
 -- ---- what refuses bytes that spell no state, part by part
 
@@ -39,13 +39,13 @@ in-parts true true true true true false = refl
 in-parts true true true true true true = refl
 
 -- by the length, by link and registers, and by the ID
-by-parts : (s : List ℕ) → isState s ≡ (eqb (length s) stateSize && (frontInRange s && leb (number (part recordBytes 4 s)) 0xFFFFFF))
+by-parts : (s : List ℕ) → isState s ≡ (eqb (length s) stateSize && (isRecord s && leb (number (part recordBytes 4 s)) 0xFFFFFF))
 unfolding isState inRange stateIn
 by-parts s =
     in-parts (eqb (length s) stateSize) (spelled s) (leb (getD s 0 0) 7 && leb (getD s 1 0) 7 && leb (getD s 2 0) 1)
     (leb (number (part recordBytes 4 s)) 0xFFFFFF) (within (part linkBytes size s)) (allHeld (part linkBytes size s))
 
-pub is-a-state : (s : List ℕ) (x : Bool) (id : ℕ) → length s ≡ stateSize → x ≡ frontInRange s → id ≡ number (part recordBytes 4 s)
+pub is-a-state : (s : List ℕ) (x : Bool) (id : ℕ) → length s ≡ stateSize → x ≡ isRecord s → id ≡ number (part recordBytes 4 s)
     → (x && leb id 0xFFFFFF) ≡ isState s
 is-a-state s x id h e f = rw (by-parts s, eq-eqb (length s) stateSize h, e, f) refl
 
@@ -57,7 +57,7 @@ module _ (s : List ℕ) (h : isState s ≡ true) where
   its-length = eqb-true (length s) stateSize (and-left (eqb (length s) stateSize) _ (sym (by-parts s) ∙ h))
 
   its-id : leb (number (part recordBytes 4 s)) 0xFFFFFF ≡ true
-  its-id = and-right (frontInRange s) _ (and-right (eqb (length s) stateSize) _ (sym (by-parts s) ∙ h))
+  its-id = and-right (isRecord s) _ (and-right (eqb (length s) stateSize) _ (sym (by-parts s) ∙ h))
 
   its-spelling : spelled s ≡ true
   unfolding isState
@@ -66,6 +66,14 @@ module _ (s : List ℕ) (h : isState s ≡ true) where
   pub its-range : inRange (stateIn s) ≡ true
   unfolding isState
   its-range = and-right (eqb (length s) stateSize && spelled s) (inRange (stateIn s)) h
+
+  -- what the language's types hold of its bytes holds of its fields
+  pub its-good : AreBytes s → Good (stateIn s)
+  unfolding stateIn part
+  its-good b =
+      let n = its-length in
+      good (stateIn s)
+      (record { long = length-part linkBytes size s (omega arith); bytes = bytes-take size (drop linkBytes s) (bytes-drop linkBytes s b) }) its-range
 
 -- ---- a state is read back
 
@@ -177,9 +185,9 @@ unfolding stateBytes
 whole a = refl
 
 -- link and registers are all in the bytes that a record has
-front-alike : (s t : List ℕ) → take recordBytes s ≡ take recordBytes t → frontInRange s ≡ frontInRange t
+record-alike : (s t : List ℕ) → take recordBytes s ≡ take recordBytes t → isRecord s ≡ isRecord t
 unfolding part
-front-alike s t e =
+record-alike s t e =
     rw (byte 0 (lit< tt), byte 1 (lit< tt), byte 2 (lit< tt), byte 3 (lit< tt), registers) refl
   where
     byte : (i : ℕ) → i < recordBytes → getD s i 0 ≡ getD t i 0
@@ -188,16 +196,16 @@ front-alike s t e =
     registers : part linkBytes size s ≡ part linkBytes size t
     registers = part-part s 0 recordBytes linkBytes size (lit≤ tt) (lit≤ tt) ∙ ap (part linkBytes size) e ∙ sym (part-part t 0 recordBytes linkBytes size (lit≤ tt) (lit≤ tt))
 
-pub front-judges : (s r : List ℕ) → isState s ≡ true → recordBytes ≤ length r → isState (put 0 (take recordBytes r) s) ≡ frontInRange r
+pub record-judges : (s r : List ℕ) → isState s ≡ true → recordBytes ≤ length r → isState (put 0 (take recordBytes r) s) ≡ isRecord r
 unfolding put
-front-judges s r h l =
+record-judges s r h l =
     let n = its-length s h in
     let k = length-take-le recordBytes r l in
     let t : List ℕ = put 0 (take recordBytes r) s in
     let m : length t ≡ stateSize = length-put 0 (take recordBytes r) s (omega arith) ∙ n in
     let f : take recordBytes t ≡ take recordBytes r = take-at (take recordBytes r) _ recordBytes k in
     let i : part recordBytes 4 t ≡ part recordBytes 4 s = part-put-after 0 (take recordBytes r) s recordBytes 4 (omega arith) (omega arith) in
-    rw (by-parts t, eq-eqb (length t) stateSize m, front-alike t r f, i, its-id s h) (and-true (frontInRange r))
+    rw (by-parts t, eq-eqb (length t) stateSize m, record-alike t r f, i, its-id s h) (and-true (isRecord r))
 
 -- a state by its record's bytes, from any other with the same ID
 pub taken-over : (a b : Adapter) → Good a → Good b → b .id ≡ a .id → put 0 (take recordBytes (stateBytes a)) (stateBytes b) ≡ stateBytes a
@@ -240,8 +248,8 @@ pub reads-link : (s : List ℕ)
     (linkOf s)
 reads-link s = rw (bit-zero (getD s 3 0)) refl
 
-pub in-front : (s : List ℕ) (x y : Bool) → x ≡ within (take (recordBytes - linkBytes) (drop linkBytes s))
+pub in-record : (s : List ℕ) (x y : Bool) → x ≡ within (take (recordBytes - linkBytes) (drop linkBytes s))
     → y ≡ allHeld (take (recordBytes - linkBytes) (drop linkBytes s))
-    → (leb (getD s 0 0) 7 && leb (getD s 1 0) 7 && leb (getD s 2 0) 1 && ltb (getD s 3 0) 4 && x && y) ≡ frontInRange s
+    → (leb (getD s 0 0) 7 && leb (getD s 1 0) 7 && leb (getD s 2 0) 1 && ltb (getD s 3 0) 4 && x && y) ≡ isRecord s
 unfolding part
-in-front s x y e f = simp (e, f)
+in-record s x y e f = simp (e, f)

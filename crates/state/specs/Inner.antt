@@ -9,9 +9,9 @@ use Rattle.registers.specs.Registers.{size, within}
 use Rattle.channels.specs.Rows.{allHeld}
 use Rattle.state.specs.Bytes.{linkBytes, spelled}
 
--- link and registers of a state, or of a record, which has no ID: in range, and no bit set that no field has
-abbrev pub frontInRange : List ℕ → Bool
-frontInRange s =
+-- the bytes of a record, at the front of others: link and registers in range, and no bit set that no field has
+abbrev pub isRecord : List ℕ → Bool
+isRecord s =
     leb (getD s 0 0) 7
     && leb (getD s 1 0) 7
     && leb (getD s 2 0) 1

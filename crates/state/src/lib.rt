@@ -12,7 +12,7 @@ ghost use Prim.Native.Nat.{_≤_};
 ghost use lib.ListN.{length};
 ghost use Rattle.state.specs.State.{poweredOn};
 ghost use Rattle.state.specs.Bytes.{linkBytes, recordBytes, stateSize, flags, linkOf, stateBytes, stateIn, isState};
-ghost use Rattle.state.specs.Inner.{frontInRange};
+ghost use Rattle.state.specs.Inner.{isRecord};
 
 pub struct Adapter {
     pub link: Link,
@@ -25,10 +25,10 @@ const LINK: usize = 4;
 const ID: usize = 4;
 
 // The bytes that a record has of a state: all but the ID, which stands behind them.
-pub const RECORD: usize = LINK + SIZE;
+pub const RECORD_BYTES: usize = LINK + SIZE;
 
 // The bytes of a state.
-pub const BYTES: usize = RECORD + ID;
+pub const BYTES: usize = RECORD_BYTES + ID;
 
 const LAST_NUMBER: u8 = 7;
 
@@ -62,7 +62,7 @@ pub fn spell(a: Adapter, s: &mut [u8])
     let registers = a.registers;
     parts::store(s, 0, &front);
     parts::store(s, LINK, &registers);
-    parts::store_number(s, RECORD, Width::Word, a.id);
+    parts::store_number(s, RECORD_BYTES, Width::Word, a.id);
 }
 
 fn link_of(s: &[u8]) -> Link
@@ -89,8 +89,8 @@ pub fn load(s: &[u8]) -> Adapter
 {
     let link = link_of(s);
     let mut registers = [0u8; SIZE];
-    parts::over(&mut registers, &s[LINK..RECORD]);
-    let id = parts::number_at(s, RECORD, Width::Word);
+    parts::over(&mut registers, &s[LINK..RECORD_BYTES]);
+    let id = parts::number_at(s, RECORD_BYTES, Width::Word);
     Adapter {
         link: link,
         registers: registers,
@@ -98,15 +98,15 @@ pub fn load(s: &[u8]) -> Adapter
     }
 }
 
-// Link and registers of a state, or of a record: in range, and no bit set that no field has.
-pub fn is_front(s: &[u8]) -> bool
+// Whether bytes begin with those of a record: link and registers in range, and no bit set that no field has. A state does, before its ID.
+pub fn is_record(s: &[u8]) -> bool
     requires { ⌜ recordBytes ≤ length (now s) ⌝ }
-    ensures { λ r. ⌜ r ≡ frontInRange (now (s .entry)) ⌝ }
+    ensures { λ r. ⌜ r ≡ isRecord (now (s .entry)) ⌝ }
 {
     let numbers = (s[0] <= LAST_NUMBER) & (s[1] <= LAST_NUMBER);
     let link = numbers & (s[2] <= LAST_PORT) & (s[3] < 4);
-    let masked = registers::are_within(&s[LINK..RECORD]);
-    let held = channels::are_held(&s[LINK..RECORD]);
+    let masked = registers::are_within(&s[LINK..RECORD_BYTES]);
+    let held = channels::are_held(&s[LINK..RECORD_BYTES]);
     link & masked & held
 }
 
@@ -115,9 +115,9 @@ pub fn is_state(s: &[u8]) -> bool
     ensures { λ r. ⌜ r ≡ isState (now (s .entry)) ⌝ }
 {
     if s.len() == BYTES {
-        let id = parts::number_at(s, RECORD, Width::Word);
-        let front = is_front(s);
-        return front & (id <= ID_MOST);
+        let id = parts::number_at(s, RECORD_BYTES, Width::Word);
+        let record = is_record(s);
+        return record & (id <= ID_MOST);
     }
     false
 }

@@ -1,6 +1,6 @@
 -- `player::feed` meets its contract. The invariant: what the first i bytes of the block make of the start. Assumes nothing.
 use Prim.Native.Nat.{_≤_, _-_, _*_}
-use mathlib.Core.Path.{_≡_, _∙_}
+use mathlib.Core.Path.{_≡_}
 use mathlib.Core.List.{[], foldl}
 use lib.ListN.{length, take}
 use borrow.Author.Needs.{needs}
@@ -37,7 +37,7 @@ feed-spec =
     (λ c.
     let t = c .before .before .before .before .before .before .before .before in
     let l = t .before .before .before .before .before .before in
-    (search needs, t .take-byte .ensures .0 ∙ byte-fed _ _ _ _ _ _ _ _ _ _ (l .before .loop .inv .1) (l .loop-test .taken) (search needs)))
+    (search needs, byte-fed _ _ _ _ _ _ _ _ _ _ _ (t .take-byte .ensures .0) (l .before .loop .inv .1) (l .loop-test .taken) (search needs)))
     (λ c. search needs)
     (λ c. search needs)
     (λ c. search needs)

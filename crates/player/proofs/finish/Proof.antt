@@ -9,6 +9,7 @@ finish-spec =
     tie.close
     (tie.spec
     (λ c. (search ends-nothing, search needs))
+    (λ c. search needs)
     (λ c κs. search needs)
     (λ c. search needs)
     (λ c. search needs)

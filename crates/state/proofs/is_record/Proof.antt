@@ -1,11 +1,11 @@
--- `is_front` meets its contract. Assumes nothing.
+-- `is_record` meets its contract. Assumes nothing.
 use borrow.Author.Needs.{needs}
-use Rattle.state.proofs.Spelling.{in-front}
-use Rattle.state.proofs.is_front.Statement.{statement}
-use Rattle.state.proofs.is_front.Tie as tie
+use Rattle.state.proofs.Spelling.{in-record}
+use Rattle.state.proofs.is_record.Statement.{statement}
+use Rattle.state.proofs.is_record.Tie as tie
 
-pub is-front-spec : {M : Type 1} → statement M
-is-front-spec =
+pub is-record-spec : {M : Type 1} → statement M
+is-record-spec =
     tie.close
     (tie.spec
     (λ c. search needs)
@@ -20,4 +20,4 @@ is-front-spec =
     (λ c. search needs)
     (λ c. search needs)
     (λ c κs. search needs)
-    (λ c. search in-front))
+    (λ c. search in-record))
