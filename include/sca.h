@@ -96,7 +96,7 @@ enum {
 #define SCA_TRANSFER_BYTES 16   /* the bytes received in an SPI transfer, whatever its length */
 #define SCA_ID_MOST 0xFFFFFF    /* the greatest chip ID */
 #define SCA_RECEIVER_BYTES 24   /* a receiver */
-#define SCA_STATE_BYTES 74      /* an adapter's state */
+#define SCA_STATE_BYTES 75      /* an adapter's state */
 #define SCA_JOURNAL_BYTES 17408 /* a journal */
 #define SCA_KEPT_MOST 64        /* the most events that can be taken back */
 
@@ -302,38 +302,37 @@ uint64_t sca_transmit(const uint8_t *body, size_t body_length, uint8_t *output, 
  *         0         send number                                   0 to 7
  *         1         receive number                                0 to 7
  *         2         active port                                   0 or 1
- *         3         bit 0: port 0 is in loopback
- *                   bit 1: port 1 is in loopback
- *                   bits 7 to 2                                   0
- *         4         CRB                                  0x00     bit 0 is 0
- *         5         CRC                                  0x00
- *         6         CRD                                  0x00     bits 7 to 5 are 0
- *         7 to 10   SEU counter                          0x13
- *         11 to 14  DAC A, B, C, D                       0x15
- *         15, 16    CONTROL                              0x01
- *         17, 18    FREQ                                 0x01
- *         19        SS                                   0x01
- *         20 to 35  DATA, words 0 to 3                   0x01
- *         36        TRN of the open GO; 0: none is open  0x01
- *         37 to 40  DATAOUT                              0x02
- *         41 to 44  DATAIN                               0x02
- *         45 to 48  DIRECTION                            0x02
- *         49 to 52  INTSEL                               0x02
- *         53 to 56  INTTRIG                              0x02
- *         57 to 60  INTS                                 0x02
- *         61 to 64  CLKSEL                               0x02
- *         65 to 68  EDGESEL                              0x02
- *         69        INTENABLE                            0x02     0 or 1
- *         70 to 72  chip ID, byte 70 its bits 7 to 0     0x14
- *         73        chip ID, bits 31 to 24               0x14     0
+ *         3         port 0 is in loopback: 1                      0 or 1
+ *         4         port 1 is in loopback: 1                      0 or 1
+ *         5         CRB                                  0x00     bit 0 is 0
+ *         6         CRC                                  0x00
+ *         7         CRD                                  0x00     bits 7 to 5 are 0
+ *         8 to 11   SEU counter                          0x13
+ *         12 to 15  DAC A, B, C, D                       0x15
+ *         16 to 18  chip ID, byte 16 its bits 7 to 0     0x14
+ *         19        chip ID, bits 31 to 24               0x14     0
+ *         20, 21    CONTROL                              0x01
+ *         22, 23    FREQ                                 0x01
+ *         24        SS                                   0x01
+ *         25 to 40  DATA, words 0 to 3                   0x01
+ *         41        TRN of the open GO; 0: none is open  0x01
+ *         42 to 45  DATAOUT                              0x02
+ *         46 to 49  DATAIN                               0x02
+ *         50 to 53  DIRECTION                            0x02
+ *         54 to 57  INTSEL                               0x02
+ *         58 to 61  INTTRIG                              0x02
+ *         62 to 65  INTS                                 0x02
+ *         66 to 69  CLKSEL                               0x02
+ *         70 to 73  EDGESEL                              0x02
+ *         74        INTENABLE                            0x02     0 or 1
  *
  *     While SPI is disabled (CRB bit 1 is 0), all fields of channel 0x01 are 0,
  *     and while GPIO is disabled (CRB bit 2 is 0), all of channel 0x02. A state
  *     of any other length, or that is not in these ranges, is refused with 6,
  *     and no other is. Every call that is not refused leaves a state in range.
  *
- *     A state that an earlier release left has 76 bytes in another order: 6. Make
- *     a new one with sca_create.
+ *     A state that an earlier release left has 74 or 76 bytes in another order: 6.
+ *     Make a new one with sca_create.
  *
  * THE JOURNAL
  *     It holds what sca_step_back needs. Every event that is not refused is kept
@@ -342,7 +341,8 @@ uint64_t sca_transmit(const uint8_t *body, size_t body_length, uint8_t *output, 
  *
  *     A journal belongs to the state that went with it: hand both in as the last
  *     call left them, or copies of both that were taken at the same moment. A
- *     step back is for such a pair.
+ *     step back is for such a pair: a record holds what its event may change,
+ *     and all else stays as it is in the state handed in.
  *
  *         byte          what
  *         0 to 2        the mark: 0x53 0x43 0x4A, "SCJ"
@@ -356,7 +356,8 @@ uint64_t sca_transmit(const uint8_t *body, size_t body_length, uint8_t *output, 
  *     version may lay them out otherwise. Number 4 means: another length than
  *     SCA_JOURNAL_BYTES, or one of bytes 0 to 6 that is not as the table says.
  *     sca_step_back also gives it where the record that it would take back is
- *     damaged. No journal that the calls themselves left is refused.
+ *     damaged, or would leave the state handed in out of range. No journal that
+ *     the calls themselves left is refused with the state that went with it.
  *
  *     A journal that an earlier release left has the same length and version, but
  *     other records, and no call can tell. Make it empty with sca_empty first.
@@ -522,7 +523,8 @@ uint64_t sca_upset(uint8_t *state, size_t state_length, uint8_t *journal, size_t
  *     6  as by the events
  *     4  as by the events
  *     5  no event is kept
- *     4  the record of that event is damaged
+ *     4  the record of that event is damaged, or the state that it would leave
+ *        is out of range
  */
 uint64_t sca_step_back(uint8_t *state, size_t state_length, uint8_t *journal, size_t journal_length);
 

@@ -20,7 +20,7 @@ pub const ID_MOST: u32 = 0xFF_FFFF;
 /// The bytes of a receiver.
 pub const RECEIVER_BYTES: usize = 24;
 /// The bytes of an adapter's state.
-pub const STATE_BYTES: usize = 74;
+pub const STATE_BYTES: usize = 75;
 /// The bytes of a journal.
 pub const JOURNAL_BYTES: usize = 17_408;
 /// The most events that can be taken back.

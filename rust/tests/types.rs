@@ -117,6 +117,18 @@ fn kept_as_bytes() {
     assert_eq!(Adapter::from_bytes(wrong, &journal[1..]), Err(Refusal::BadState));
 }
 
+/// A journal is for the state that it went with. The upset's record has CRB as it was, off, and nothing of SPI and GPIO: over a
+/// state that has something in them, it would leave none.
+#[test]
+fn a_journal_of_another_state() {
+    let mut other = adapter();
+    other.upset().unwrap();
+    let mut mixed = Adapter::from_bytes(*enabled().state(), other.journal()).unwrap();
+    let before = mixed.clone();
+    assert_eq!(mixed.step_back(), Err(Refusal::BadJournal));
+    assert_eq!(mixed, before);
+}
+
 /// No event is played: not a byte differs, at none kept, at some, and at the most, where an event would push one out.
 #[test]
 fn bytes_are_only_looked_at() {

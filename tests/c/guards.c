@@ -87,7 +87,54 @@ static uint64_t call(enum call call) {
     }
 }
 
-/* The call's number, and whether it left what it must: all where it is refused, else all outside of what it may write. */
+/* A record stands at the front of its slot: its tag, the state's bytes 0 to 15, then those of its tag's group. docs/JOURNAL.md has them. */
+enum { CORE_BYTES = 16, GROUP_AT = 20, GROUP_OF_CRB_BYTES = 55, SLOTS_AT = 1024, SLOT_BYTES = 256 };
+
+static size_t group_bytes(uint8_t tag) { return tag == 1 ? GROUP_OF_CRB_BYTES : 0; }
+
+static uint8_t *slot_of(uint8_t *bytes, unsigned after_first) {
+    return bytes + SLOTS_AT + SLOT_BYTES * (size_t)((bytes[5] + after_first) % SCA_KEPT_MOST);
+}
+
+/* The tag of an event's record: the event alone decides. */
+static uint8_t tag_of(enum call which) {
+    uint8_t channel, command;
+    if (which != FRAME) return which == UPSET ? 0 : 1;
+    if (body.length != 10) return 0;
+    channel = body.at[3], command = body.at[5];
+    if (channel == 0x00) return command == 0x02 ? 1 : command == 0x04 ? 2 : command == 0x06 ? 3 : 0;
+    return channel == 0x01 || channel == 0x02 ? 1 : 0;
+}
+
+static int is_reset(enum call which) {
+    return which == FRAME && body.length == 2 && body.at[0] == 0x00 && (body.at[1] & 0xEF) == 0x8F;
+}
+
+/* Whether the call left the journal's bytes as it must, where it was not refused: each that it has to write, and no other one. */
+static int journal_as_left(enum call which) {
+    static uint8_t expected[SCA_JOURNAL_BYTES];
+    const uint8_t *state_was = state.was + (state.at - state.room);
+    uint8_t *slot, tag = tag_of(which);
+    memcpy(expected, journal.was + (journal.at - journal.room), sizeof expected);
+    slot = slot_of(expected, expected[6]);
+    if (which == STEP_BACK) {
+        expected[6]--;
+    } else if (is_reset(which)) {
+        expected[5] = expected[6] = 0;
+    } else {
+        slot[0] = tag;
+        memcpy(slot + 1, state_was, CORE_BYTES);
+        memcpy(slot + 1 + CORE_BYTES, state_was + GROUP_AT, group_bytes(tag));
+        if (expected[6] == SCA_KEPT_MOST)
+            expected[5] = (expected[5] + 1) % SCA_KEPT_MOST;
+        else
+            expected[6]++;
+    }
+    return memcmp(expected, journal.at, sizeof expected) == 0 && unchanged_after(&journal, SCA_JOURNAL_BYTES);
+}
+
+/* The call's number, and whether it left what it must: all where it is refused, else all outside of what it may write, and of the journal
+ * each byte as it is due. */
 static unsigned number_of(enum call which, int *good) {
     uint64_t result;
     note(&state), note(&journal), note(&output), note(&body), note(&received);
@@ -98,7 +145,7 @@ static unsigned number_of(enum call which, int *good) {
     if (sca_refused(result)) {
         *good &= unchanged(&state) && unchanged(&journal) && unchanged(&output) && result == sca_number(result);
     } else {
-        *good &= unchanged_after(&state, SCA_STATE_BYTES) && unchanged_after(&journal, SCA_JOURNAL_BYTES);
+        *good &= unchanged_after(&state, SCA_STATE_BYTES) && journal_as_left(which);
         *good &= unchanged_after(&output, sca_length(result));
         *good &= sca_length(result) <= SCA_OUTPUT_LEAST && sca_port(result) <= SCA_AUXILIARY;
         *good &= (sca_length(result) > 0) == (sca_number(result) == SCA_HAS_FRAME);
@@ -110,8 +157,9 @@ static unsigned number_of(enum call which, int *good) {
 
 static uint8_t some_state[SCA_STATE_BYTES], some_journal[SCA_JOURNAL_BYTES];
 
-/* Plays requests on a new adapter: none, or enough to have every register, loopback and an open GO. */
-static void reach(int deep) {
+/* Plays requests on a new adapter: none, or enough to have every register, loopback and an open GO. Then the event whose record has this tag: an
+ * upset, a pin sample, a write of CRC, one of CRD. Unwritten slots hold what CRB's group may hold where it is enabled, or what it never may. */
+static void reach(int deep, uint8_t tag) {
     static const char *const requests[] = {
         "\x00\x00\x01\x00\x04\x02\x00\xFF\x00\x00", "\x00\x02\x02\x00\x04\x06\x00\xFF\x00\x00",
         "\x00\x04\x03\x02\x04\x20\x55\x55\x00\x00", "\x00\x06\x04\x02\x04\x30\xFF\xFF\xFF\xFF",
@@ -121,11 +169,19 @@ static void reach(int deep) {
     };
     uint8_t sent[SCA_OUTPUT_LEAST];
     sca_create(some_state, sizeof some_state, deep ? SCA_ID_MOST : 0x00000A);
-    memset(some_journal, 0xEE, sizeof some_journal);
+    memset(some_journal, deep ? 0x01 : 0xEE, sizeof some_journal);
     sca_empty(some_journal, sizeof some_journal);
     for (size_t at = 0; deep && at < sizeof requests / sizeof requests[0]; at++)
         sca_frame(some_state, sizeof some_state, some_journal, sizeof some_journal, 0, (const uint8_t *)requests[at], 10, sent, sizeof sent);
-    sca_upset(some_state, sizeof some_state, some_journal, sizeof some_journal, sent, sizeof sent);
+    if (deep) sca_frame(some_state, sizeof some_state, some_journal, sizeof some_journal, 1, (const uint8_t *)"\x00\xE3", 2, sent, sizeof sent);
+    if (tag == 0) {
+        sca_upset(some_state, sizeof some_state, some_journal, sizeof some_journal, sent, sizeof sent);
+    } else if (tag == 1) {
+        sca_sample(some_state, sizeof some_state, some_journal, sizeof some_journal, 0x12345678, SCA_SYSTEM_CLOCK, sent, sizeof sent);
+    } else {
+        uint8_t written[] = {0x00, (uint8_t)(2 * some_state[1]), 0x0A, 0x00, 0x04, (uint8_t)(2 * tag), 0x00, 0x19, 0x00, 0x00};
+        sca_frame(some_state, sizeof some_state, some_journal, sizeof some_journal, 0, written, sizeof written, sent, sizeof sent);
+    }
 }
 
 /* All as it must be for a call to be granted. */
@@ -144,17 +200,24 @@ static int all_zero(const uint8_t *bytes, size_t from, size_t to) {
     return 1;
 }
 
-/* A record is a state without the chip ID, the first bytes of its slot: docs/JOURNAL.md. */
-enum { RECORD_BYTES = 70, SLOT_BYTES = 256 };
-
-static int record_in_range(const uint8_t *bytes) {
-    int spi = bytes[4] & 0x02, gpio = bytes[4] & 0x04;
-    return bytes[0] <= 7 && bytes[1] <= 7 && bytes[2] <= 1 && bytes[3] <= 3 && !(bytes[4] & 0x01) && !(bytes[6] & 0xE0) &&
-           bytes[69] <= 1 && (spi || all_zero(bytes, 15, 36)) && (gpio || all_zero(bytes, 37, 69));
+/* Number 6, on the bytes as sca.h lists them. */
+static int in_range(const uint8_t *bytes) {
+    int spi = bytes[5] & 0x02, gpio = bytes[5] & 0x04;
+    return bytes[0] <= 7 && bytes[1] <= 7 && bytes[2] <= 1 && bytes[3] <= 1 && bytes[4] <= 1 && !(bytes[5] & 0x01) && !(bytes[7] & 0xE0) &&
+           bytes[19] == 0 && bytes[74] <= 1 && (spi || all_zero(bytes, 20, 41)) && (gpio || all_zero(bytes, 42, 74));
 }
 
-/* Number 6, on the bytes as sca.h lists them. */
-static int in_range(const uint8_t *bytes) { return record_in_range(bytes) && bytes[73] == 0; }
+/* What a step back by a slot's record makes of a state; it stays where the record is damaged. */
+static int restored(const uint8_t *slot, uint8_t *bytes) {
+    uint8_t after[SCA_STATE_BYTES];
+    if (slot[0] > 3) return 0;
+    memcpy(after, bytes, sizeof after);
+    memcpy(after, slot + 1, CORE_BYTES);
+    memcpy(after + GROUP_AT, slot + 1 + CORE_BYTES, group_bytes(slot[0]));
+    if (!in_range(after)) return 0;
+    memcpy(bytes, after, sizeof after);
+    return 1;
+}
 
 /* -------------------------------------------------------------------- tests */
 
@@ -221,7 +284,7 @@ static void headers_of_journals(void) {
 static void bits_of_states(void) {
     int good = 1;
     for (int deep = 0; deep <= 1; deep++) {
-        reach(deep);
+        reach(deep, 0);
         good &= in_range(some_state);
         EACH_CALL(STEP_BACK)
         for (size_t bit = 0; bit < 8 * SCA_STATE_BYTES; bit++) {
@@ -236,28 +299,117 @@ static void bits_of_states(void) {
     check(good, "states with any one bit flipped");
 }
 
-/* A step back on the newest slot with any one bit flipped: 4, or the state that its record now spells, with the chip's own ID. */
-static void bits_of_records(void) {
+/* A step back on the newest slot with one byte altered: the state that its record then restores, or 4. */
+static int altered_back(const uint8_t *handed_in, size_t at, uint8_t byte) {
+    uint8_t expected[SCA_STATE_BYTES], *slot;
     int good = 1;
+    unsigned due, number;
+    lend_all();
+    memcpy(state.at, handed_in, sizeof expected);
+    memcpy(expected, handed_in, sizeof expected);
+    slot = slot_of(journal.at, journal.at[6] - 1u);
+    slot[at] = byte;
+    due = restored(slot, expected) ? SCA_NO_FRAME : SCA_BAD_JOURNAL;
+    number = number_of(STEP_BACK, &good);
+    return good && number == due && memcmp(state.at, expected, sizeof expected) == 0;
+}
+
+/* Records of every tag, over the state that they went with and over one that they did not: nothing or much in its registers. */
+static void altered_records(void) {
+    static uint8_t states[2][SCA_STATE_BYTES];
+    int bits = 1, others = 1, tags = 1;
     for (int deep = 0; deep <= 1; deep++) {
-        size_t newest;
-        reach(deep);
-        newest = 1024 + SLOT_BYTES * (size_t)((some_journal[5] + some_journal[6] - 1) % SCA_KEPT_MOST);
-        good &= record_in_range(some_journal + newest);
-        for (at_end = 0; at_end <= 1; at_end++)
-            for (size_t bit = 0; bit < 8 * SLOT_BYTES; bit++) {
-                unsigned number;
-                int ranged;
-                lend_all();
-                journal.at[newest + bit / 8] ^= (uint8_t)(1 << bit % 8);
-                ranged = record_in_range(journal.at + newest);
-                number = number_of(STEP_BACK, &good);
-                good &= number == (ranged ? SCA_NO_FRAME : SCA_BAD_JOURNAL);
-                good &= !ranged || memcmp(state.at, journal.at + newest, RECORD_BYTES) == 0;
-                good &= memcmp(state.at + RECORD_BYTES, some_state + RECORD_BYTES, SCA_STATE_BYTES - RECORD_BYTES) == 0;
-            }
+        reach(deep, 0);
+        memcpy(states[deep], some_state, sizeof some_state);
     }
-    check(good, "records with any one bit flipped");
+    for (int deep = 0; deep <= 1; deep++)
+        for (uint8_t tag = 0; tag <= 3; tag++) {
+            uint8_t slot[SLOT_BYTES];
+            reach(deep, tag);
+            memcpy(slot, slot_of(some_journal, some_journal[6] - 1u), sizeof slot);
+            bits &= slot[0] == tag;
+            for (at_end = 0; at_end <= 1; at_end++) {
+                for (size_t bit = 0; bit < 8 * SLOT_BYTES; bit++) {
+                    uint8_t byte = (uint8_t)(slot[bit / 8] ^ 1 << bit % 8);
+                    bits &= altered_back(some_state, bit / 8, byte);
+                    if (bit / 8 < 1 + CORE_BYTES + GROUP_OF_CRB_BYTES) others &= altered_back(states[!deep], bit / 8, byte);
+                }
+                for (unsigned other = 0; other <= 0xFF; other++)
+                    tags &= altered_back(some_state, 0, (uint8_t)other) && altered_back(states[!deep], 0, (uint8_t)other);
+            }
+        }
+    check(bits, "records of each tag with any one bit flipped, and their slots");
+    check(others, "and over a state that they did not go with");
+    check(tags, "every tag, over both");
+}
+
+/* The newest record over states that it did not go with. Each expectation is worked out from what was played. */
+static void records_apart(void) {
+    static uint8_t deep[SCA_STATE_BYTES], expected[SCA_STATE_BYTES];
+    int good = 1;
+    reach(1, 0);
+    memcpy(deep, some_state, sizeof deep);
+    for (at_end = 0; at_end <= 1; at_end++) {
+        unsigned number;
+        /* a new adapter's upset: CRB is off, and the registers that it switches, not in the record, are not 0 */
+        reach(0, 0);
+        lend_all();
+        memcpy(state.at, deep, sizeof deep);
+        number = number_of(STEP_BACK, &good);
+        good &= number == SCA_BAD_JOURNAL;
+
+        /* a new adapter's sample: the record has their zeros, so that all is as at power-on but the chip ID */
+        reach(0, 1);
+        lend_all();
+        memcpy(state.at, deep, sizeof deep);
+        number = number_of(STEP_BACK, &good);
+        sca_create(expected, sizeof expected, SCA_ID_MOST);
+        good &= number == SCA_NO_FRAME && memcmp(state.at, expected, sizeof expected) == 0;
+
+        /* the other way round: CRB is on, and the registers stay those of a new adapter */
+        reach(1, 0);
+        lend_all();
+        sca_create(state.at, state.length, 0x123456);
+        number = number_of(STEP_BACK, &good);
+        memcpy(expected, deep, sizeof expected);
+        memset(expected + 8, 0, 4); /* the SEU counter before its upset */
+        memcpy(expected + 16, "\x56\x34\x12\x00", 4);
+        memset(expected + GROUP_AT, 0, GROUP_OF_CRB_BYTES);
+        good &= number == SCA_NO_FRAME && memcmp(state.at, expected, sizeof expected) == 0;
+    }
+    check(good, "what a record has not got is that of the state handed in, and 4 where that is no state");
+}
+
+/* That each leaves the record of its tag, number_of looks at. The bodies stand right before a guard page: a short one has no CH or CMD. */
+static void records_of_frames(void) {
+    static const uint8_t commands[] = {0x01, 0x02, 0x04, 0x06, 0x10, 0x72, 0xF1};
+    static const uint8_t fronts[][2] = {{0x00, 0x02}, {0x00, 0x04}, {0x00, 0x01}, {0x00, 0x2F}, {0x00, 0x8F}, {0xFF, 0x02}};
+    int good = 1;
+    reach(1, 0);
+    at_end = 1;
+    for (unsigned channel = 0; channel <= 0xFF; channel++)
+        for (unsigned at = 0; at < (channel ? sizeof commands : 0x100); at++) {
+            lend_all();
+            lend_bytes(&body, "\x00\x02\x0A\x00\x04\x00\x00\xFE\x00\x00", 10);
+            body.at[3] = (uint8_t)channel, body.at[5] = channel ? commands[at] : (uint8_t)at;
+            unsigned number = number_of(FRAME, &good);
+            good &= !sca_refused(number);
+        }
+    check(good, "the records of requests to every channel");
+    good = 1;
+    for (size_t length = SCA_BODY_LEAST; length <= SCA_BODY_MOST; length++)
+        for (uint8_t channel = 0; channel <= 3; channel++)
+            for (uint8_t command = 0; command <= 7; command++)
+                for (size_t front = 0; front < sizeof fronts / sizeof fronts[0]; front++)
+                    for (uint32_t on = SCA_PRIMARY; on <= SCA_AUXILIARY; on++) {
+                        uint8_t bytes[SCA_BODY_MOST] = {fronts[front][0], fronts[front][1], 0x0A, channel, 0x04, command};
+                        lend_all();
+                        port = on;
+                        lend_bytes(&body, bytes, length);
+                        unsigned number = number_of(FRAME, &good);
+                        good &= !sca_refused(number);
+                    }
+    check(good, "and of frames of every length, whatever comes of them");
 }
 
 static void lengths_of_states(void) {
@@ -484,7 +636,7 @@ static void map_all(void) {
 int main(void) {
     map_all();
     guards();
-    reach(1);
+    reach(1, 0);
     lengths_of_outputs();
     lengths_of_journals();
     headers_of_journals();
@@ -493,7 +645,9 @@ int main(void) {
     order();
     no_buffers();
     bits_of_states();
-    bits_of_records();
+    altered_records();
+    records_apart();
+    records_of_frames();
     receivers();
     transmitters();
     return failures != 0;

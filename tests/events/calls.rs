@@ -66,8 +66,19 @@ pub enum Call {
         length: usize,
         call: Box<Call>,
     },
+    /// The call on another state, which the journal did not go with.
+    OtherState {
+        state: Vec<u8>,
+        call: Box<Call>,
+    },
     /// The call on a copy of the journal with one byte altered.
     AlteredJournal {
+        at: usize,
+        byte: u8,
+        call: Box<Call>,
+    },
+    /// The same, with a byte of the newest record's slot.
+    AlteredRecord {
         at: usize,
         byte: u8,
         call: Box<Call>,
@@ -108,7 +119,16 @@ impl Call {
                 length: *length,
                 call: inner(call),
             },
+            Call::OtherState { state, call } => Call::OtherState {
+                state: state.clone(),
+                call: inner(call),
+            },
             Call::AlteredJournal { at, byte, call } => Call::AlteredJournal {
+                at: *at,
+                byte: *byte,
+                call: inner(call),
+            },
+            Call::AlteredRecord { at, byte, call } => Call::AlteredRecord {
                 at: *at,
                 byte: *byte,
                 call: inner(call),
@@ -138,7 +158,9 @@ impl fmt::Display for Call {
             Call::Adopt { state } => write!(out, "adopt {}", Hex(state)),
             Call::FlippedState { bit, call } => write!(out, "flip {} {}", bit, call),
             Call::StateOfLength { length, call } => write!(out, "state {} {}", length, call),
+            Call::OtherState { state, call } => write!(out, "other {} {}", Hex(state), call),
             Call::AlteredJournal { at, byte, call } => write!(out, "alter {} {} {}", at, byte, call),
+            Call::AlteredRecord { at, byte, call } => write!(out, "record {} {} {}", at, byte, call),
             Call::JournalOfLength { length, call } => write!(out, "journal {} {}", length, call),
         }
     }
@@ -189,7 +211,16 @@ fn call_of(words: &[&str]) -> Option<Call> {
             length: number(length)?,
             call: inner(&words[2..])?,
         }),
+        ["other", state, ..] => Some(Call::OtherState {
+            state: bytes_in(state)?,
+            call: inner(&words[2..])?,
+        }),
         ["alter", at, byte, ..] => Some(Call::AlteredJournal {
+            at: number(at)?,
+            byte: byte.parse().ok()?,
+            call: inner(&words[3..])?,
+        }),
+        ["record", at, byte, ..] => Some(Call::AlteredRecord {
             at: number(at)?,
             byte: byte.parse().ok()?,
             call: inner(&words[3..])?,

@@ -11,7 +11,10 @@ pub enum Fault {
     State,
     RestoredState,
     RefusedState,
+    Tag,
     Record,
+    Group,
+    BehindRecord,
     UnusedJournal,
     RefusedJournal,
     RefusedOutput,
@@ -19,7 +22,7 @@ pub enum Fault {
     Created,
 }
 
-pub const FAULTS: [(Fault, &str); 15] = [
+pub const FAULTS: [(Fault, &str); 18] = [
     (Fault::Number, "an event's number"),
     (Fault::Port, "a frame's port"),
     (Fault::Length, "a frame's length"),
@@ -29,7 +32,10 @@ pub const FAULTS: [(Fault, &str); 15] = [
     (Fault::State, "a bit of the state after an event"),
     (Fault::RestoredState, "a bit of the state after a step back"),
     (Fault::RefusedState, "a bit of the state at a refused call"),
-    (Fault::Record, "a bit of a record"),
+    (Fault::Tag, "a record's tag"),
+    (Fault::Record, "a bit of the core in a record"),
+    (Fault::Group, "a bit of a group in a record"),
+    (Fault::BehindRecord, "a bit of a slot behind its record"),
     (Fault::UnusedJournal, "a bit of the journal that no call uses"),
     (Fault::RefusedJournal, "a bit of the journal at a refused call"),
     (Fault::RefusedOutput, "a byte of output at a refused call"),

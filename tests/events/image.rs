@@ -1,10 +1,7 @@
-//! A state's 74 bytes, field by field, as docs/JOURNAL.md lists them, with the chip ID behind.
+//! A state's 75 bytes, field by field, as docs/JOURNAL.md lists them.
 
 use reference::adapter::{Gpio, Spi, State};
 use sca::STATE_BYTES;
-
-/// The bytes of a record: a state without the ID.
-pub const RECORD_BYTES: usize = 70;
 
 fn word(bytes: &[u8], at: usize) -> u32 {
     u32::from_le_bytes([bytes[at], bytes[at + 1], bytes[at + 2], bytes[at + 3]])
@@ -15,64 +12,56 @@ fn half(bytes: &[u8], at: usize) -> u16 {
 }
 
 /// Whether no bit is set that no field has.
-fn spelled(record: &[u8]) -> bool {
-    record[3] < 4 && record[69] < 2
+fn spelled(bytes: &[u8]) -> bool {
+    [3, 4, 74].iter().all(|at| bytes[*at] < 2)
 }
 
-/// The state that a record's 70 bytes spell, for the chip of this ID; none where a bit is set that no field has.
-pub fn state_in_record(record: &[u8], id: u32) -> Option<State> {
-    if !spelled(record) {
+/// The state that bytes spell; none where they are not 75, or a bit is set that no field has.
+pub fn state_in(bytes: &[u8]) -> Option<State> {
+    if bytes.len() != STATE_BYTES || !spelled(bytes) {
         return None;
     }
-    let words = |at: usize| word(record, at);
+    let words = |at: usize| word(bytes, at);
     Some(State {
-        id,
-        send: record[0],
-        receive: record[1],
-        active: record[2],
-        loopback: [record[3] & 1 != 0, record[3] & 2 != 0],
-        seu: words(7),
-        crb: record[4],
-        crc: record[5],
-        crd: record[6],
+        send: bytes[0],
+        receive: bytes[1],
+        active: bytes[2],
+        loopback: [bytes[3] != 0, bytes[4] != 0],
+        crb: bytes[5],
+        crc: bytes[6],
+        crd: bytes[7],
+        seu: words(8),
+        dac: [bytes[12], bytes[13], bytes[14], bytes[15]],
+        id: words(16),
         spi: Spi {
-            control: half(record, 15),
-            frequency: half(record, 17),
-            slave_select: record[19],
-            data: [words(20), words(24), words(28), words(32)],
-            open_go: Some(record[36]).filter(|transaction| *transaction != 0),
+            control: half(bytes, 20),
+            frequency: half(bytes, 22),
+            slave_select: bytes[24],
+            data: [words(25), words(29), words(33), words(37)],
+            open_go: Some(bytes[41]).filter(|transaction| *transaction != 0),
         },
         gpio: Gpio {
-            dataout: words(37),
-            datain: words(41),
-            direction: words(45),
-            intsel: words(49),
-            inttrig: words(53),
-            ints: words(57),
-            clksel: words(61),
-            edgesel: words(65),
-            intenable: u32::from(record[69]),
+            dataout: words(42),
+            datain: words(46),
+            direction: words(50),
+            intsel: words(54),
+            inttrig: words(58),
+            ints: words(62),
+            clksel: words(66),
+            edgesel: words(70),
+            intenable: u32::from(bytes[74]),
         },
-        dac: [record[11], record[12], record[13], record[14]],
     })
 }
 
-/// The state that bytes spell; none where they are not 74, or a bit is set that no field has.
-pub fn state_in(bytes: &[u8]) -> Option<State> {
-    if bytes.len() != STATE_BYTES {
-        return None;
-    }
-    state_in_record(&bytes[..RECORD_BYTES], word(bytes, RECORD_BYTES))
-}
-
-/// The 70 bytes that a record of a state has.
-pub fn record_of(state: &State) -> Vec<u8> {
+pub fn bytes_of(state: &State) -> Vec<u8> {
     let (spi, gpio) = (&state.spi, &state.gpio);
-    let loopback = u8::from(state.loopback[0]) + 2 * u8::from(state.loopback[1]);
-    let mut bytes = vec![state.send, state.receive, state.active, loopback];
+    let mut bytes = vec![state.send, state.receive, state.active];
+    bytes.extend(state.loopback.map(u8::from));
     bytes.extend([state.crb, state.crc, state.crd]);
     bytes.extend(state.seu.to_le_bytes());
     bytes.extend(state.dac);
+    bytes.extend(state.id.to_le_bytes());
     bytes.extend(spi.control.to_le_bytes());
     bytes.extend(spi.frequency.to_le_bytes());
     bytes.push(spi.slave_select);
@@ -90,11 +79,5 @@ pub fn record_of(state: &State) -> Vec<u8> {
     ];
     bytes.extend(gpios.iter().flat_map(|word| word.to_le_bytes()));
     bytes.push(gpio.intenable as u8);
-    bytes
-}
-
-pub fn bytes_of(state: &State) -> Vec<u8> {
-    let mut bytes = record_of(state);
-    bytes.extend(state.id.to_le_bytes());
     bytes
 }

@@ -16,6 +16,7 @@ mod fault;
 mod harness;
 mod image;
 mod listing;
+mod record;
 mod ring;
 mod run;
 mod shrink;
@@ -88,6 +89,12 @@ fn all_seen(tally: &Tally) -> bool {
             &format!("every number of {} ({})", what, list(counts)),
         )
     };
+    let tags = |what: &str, counts: &[u64]| {
+        say(
+            all(counts, &record::TAGS.map(usize::from)),
+            &format!("records of every tag {} ({})", what, list(counts)),
+        )
+    };
     let some = |what: &str, count: u64| say(count > 0, &format!("{}: {}", what, count));
     let commands = streams::COMMANDS
         .iter()
@@ -105,6 +112,16 @@ fn all_seen(tally: &Tally) -> bool {
         numbers("an upset", &tally.upset, &[1, 4, 6, 17]),
         numbers("a step back", &tally.step_back, &[5, 6, 17]),
         numbers("a step back in a journal altered", &tally.altered_back, &[4, 5, 17]),
+        numbers(
+            "a step back of a state that the journal did not go with",
+            &tally.apart_back,
+            &[4, 6, 17],
+        ),
+        tags("left", &tally.tags),
+        tags("left by a dropped frame", &tally.dropped_tags),
+        tags("taken back", &tally.tags_back),
+        tags("taken back over another state", &tally.tags_back_apart),
+        some("steps back refused for an unknown tag", tally.unknown_tags),
         numbers("a reply's ERR", &tally.errors, &[0, 0x02, 0x04, 0x08, 0x10, 0x20, 0x40]),
         say(
             commands,

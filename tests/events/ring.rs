@@ -1,7 +1,7 @@
 //! A journal's bytes as docs/JOURNAL.md says that the calls leave them.
 
-use crate::image::{record_of, state_in_record, RECORD_BYTES};
-use reference::adapter::{in_range, State};
+use crate::record::{length_of, record_of, restored};
+use reference::adapter::State;
 use sca::JOURNAL_BYTES;
 
 const HEADER: usize = 1_024;
@@ -42,9 +42,11 @@ impl Ring {
         self.0[FIRST..=KEPT].fill(0);
     }
 
-    pub fn push(&mut self, before: &State) {
+    /// The record of an event with this tag, from the state before it.
+    pub fn push(&mut self, tag: u8, before: &State) {
         let (at, kept) = (self.slot(self.kept()), self.kept());
-        self.0[at..at + RECORD_BYTES].copy_from_slice(&record_of(before));
+        let record = record_of(before, tag);
+        self.0[at..at + record.len()].copy_from_slice(&record);
         if kept == SLOTS {
             self.0[FIRST] = ((self.first() + 1) % SLOTS) as u8;
         } else {
@@ -52,23 +54,33 @@ impl Ring {
         }
     }
 
-    /// The state that a step back restores, for the chip of this ID; none where the newest record is damaged.
-    pub fn newest(&self, id: u32) -> Option<State> {
-        self.record(self.kept() - 1, id).filter(in_range)
+    /// What a step back makes of the state handed in; none where the newest record is damaged.
+    pub fn newest(&self, handed_in: &State) -> Option<State> {
+        self.record(0, handed_in)
     }
 
-    /// Where the newest record starts.
+    /// Where the newest record starts: where none is kept, the slot before the first.
     pub fn newest_at(&self) -> usize {
-        self.slot(self.kept() - 1)
+        self.slot(self.kept() + SLOTS - 1)
+    }
+
+    /// The tag of the newest record; none where there is no record.
+    pub fn newest_tag(&self) -> Option<u8> {
+        (self.well_formed() && self.kept() > 0).then(|| self.0[self.newest_at()])
+    }
+
+    /// Where the newest record ends.
+    pub fn newest_end(&self) -> usize {
+        self.newest_at() + self.newest_tag().map_or(0, length_of)
     }
 
     pub fn lower(&mut self) {
         self.0[KEPT] -= 1;
     }
 
-    /// The k-th oldest record.
-    pub fn record(&self, oldest: usize, id: u32) -> Option<State> {
-        let at = self.slot(oldest);
-        state_in_record(&self.0[at..at + RECORD_BYTES], id)
+    /// What a record makes of the state handed in: the newest is 0, and older ones follow.
+    pub fn record(&self, newest: usize, handed_in: &State) -> Option<State> {
+        let at = self.slot(self.kept() + SLOTS - 1 - newest);
+        restored(&self.0[at..at + SLOT], handed_in)
     }
 }

@@ -5,8 +5,9 @@ use crate::calls::Call;
 use crate::fault::Fault;
 use crate::harness::output::Output;
 use crate::image::{bytes_of, state_in};
+use crate::record::{tag_of, CRB};
 use crate::ring::Ring;
-use crate::tally::Tally;
+use crate::tally::{Back, Tally};
 use reference::adapter::{self, Condition, Journal, State};
 use reference::numbers::{BAD_ID, BAD_JOURNAL, DONE, FRAME, NOTHING_KEPT, OUT_OF_RANGE, UNREADABLE};
 use sca::boundary::{self, RawAnswer};
@@ -39,6 +40,9 @@ struct Pair {
     handed_in: Vec<u8>,
     earlier: Journal,
     ring: Ring,
+    /// How many of the newest records are of events since the state was last put in from elsewhere. The journal did not go with
+    /// it further back.
+    together: usize,
     /// The journal's bytes were altered, so that `earlier` does not stand for them.
     altered: bool,
 }
@@ -55,6 +59,7 @@ impl Pair {
             handed_in: Vec::new(),
             earlier: Journal::new(),
             ring,
+            together: 0,
             altered: false,
         }
     }
@@ -63,6 +68,7 @@ impl Pair {
         self.expected = state_in(&bytes);
         self.handed_in = bytes.clone();
         self.state = bytes;
+        self.together = 0;
     }
 
     fn set_journal(&mut self, bytes: Vec<u8>) {
@@ -76,6 +82,51 @@ impl Pair {
         } else {
             Condition::WrongLayout
         };
+    }
+
+    fn empty_ring(&mut self) {
+        self.ring.empty();
+        self.together = 0;
+    }
+
+    fn push(&mut self, tag: u8, before: &State) {
+        self.ring.push(tag, before);
+        self.together = self.ring.kept().min(self.together + 1);
+    }
+
+    fn lower(&mut self) {
+        self.ring.lower();
+        self.together = self.together.saturating_sub(1);
+    }
+
+    /// What a step back is on.
+    fn back(&self) -> Back {
+        if self.altered {
+            Back::Altered
+        } else if self.together == 0 && self.ring.kept() > 0 {
+            Back::Apart
+        } else {
+            Back::Together
+        }
+    }
+
+    /// What the independent implementation makes of a step back. It keeps whole states: over a state that the journal did not
+    /// go with, what the record lacks stays as handed in, and what then is no state is refused.
+    fn by_reference_back(&mut self, state: State) -> (u8, State) {
+        let (mut after, mut earlier) = (state, None);
+        if self.back() == Back::Apart && self.ring.newest_tag() != Some(CRB) {
+            earlier = Some(self.earlier.clone());
+        }
+        let number = adapter::step_back(&mut after, &mut self.earlier);
+        if let (DONE, Some(earlier)) = (number, earlier) {
+            after.spi = state.spi;
+            after.gpio = state.gpio;
+            if !adapter::in_range(&after) {
+                self.earlier = earlier;
+                return (BAD_JOURNAL, state);
+            }
+        }
+        (number, after)
     }
 }
 
@@ -138,13 +189,13 @@ impl<'a> Run<'a> {
                 copy.set_state(bytes);
                 self.on(&mut copy, call)
             }
-            Call::AlteredJournal { at, byte, call } => {
+            Call::OtherState { state, call } => {
                 let mut copy = self.own.clone();
-                let mut bytes = copy.journal.clone();
-                bytes[*at] = *byte;
-                copy.set_journal(bytes);
+                copy.set_state(state.clone());
                 self.on(&mut copy, call)
             }
+            Call::AlteredJournal { at, byte, call } => self.on_altered(*at, *byte, call),
+            Call::AlteredRecord { at, byte, call } => self.on_altered(self.own.ring.newest_at() + at, *byte, call),
             Call::JournalOfLength { length, call } => {
                 let mut copy = self.own.clone();
                 let mut bytes = copy.journal.clone();
@@ -159,6 +210,15 @@ impl<'a> Run<'a> {
                 checked
             }
         }
+    }
+
+    /// A call on a copy of the journal with one byte altered.
+    fn on_altered(&mut self, at: usize, byte: u8, call: &Call) -> Checked {
+        let mut copy = self.own.clone();
+        let mut bytes = copy.journal.clone();
+        bytes[at] = byte;
+        copy.set_journal(bytes);
+        self.on(&mut copy, call)
     }
 
     /// An event, a step back or a counting, on a pair.
@@ -189,7 +249,7 @@ impl<'a> Run<'a> {
             None => (BAD_ID, fill(length)),
         };
         if self.lay(Fault::Created, expected == DONE) {
-            bytes[20] ^= 1;
+            bytes[25] ^= 1;
         }
         self.tally.create[usize::from(expected)] += 1;
         same("the number", number, u64::from(expected))?;
@@ -203,7 +263,7 @@ impl<'a> Run<'a> {
     fn empty(&mut self, length: usize) -> Checked {
         if length == JOURNAL_BYTES {
             let expected = adapter::empty(&mut self.own.earlier);
-            self.own.ring.empty();
+            self.own.empty_ring();
             self.tally.empty[usize::from(expected)] += 1;
             same(
                 "the number",
@@ -240,8 +300,11 @@ impl<'a> Run<'a> {
         let kept = !refused(expected.number);
         if let (true, Some(before)) = (kept, before) {
             match adapter::kept(&pair.earlier) {
-                (_, 0) => pair.ring.empty(),
-                _ => pair.ring.push(&before),
+                (_, 0) => pair.empty_ring(),
+                _ => {
+                    pair.push(tag_of(call), &before);
+                    self.tally.recorded(tag_of(call), expected.number);
+                }
             }
         }
         self.break_event(pair, &mut answer, &mut ours, kept);
@@ -273,14 +336,13 @@ impl<'a> Run<'a> {
             *output.bytes.last_mut().unwrap() ^= 1;
         }
         if self.lay(Fault::State, kept) {
-            pair.state[11] ^= 1;
+            pair.state[12] ^= 1;
         }
         if self.lay(Fault::RefusedState, !kept && !pair.state.is_empty()) {
             pair.state[0] ^= 1;
         }
-        if self.lay(Fault::Record, kept && pair.ring.kept() > 0) {
-            let newest = pair.ring.newest_at();
-            pair.journal[newest] ^= 1;
+        if let (true, Some(tag)) = (kept, pair.ring.newest_tag()) {
+            self.break_record(pair, tag);
         }
         if self.lay(Fault::UnusedJournal, kept) {
             pair.journal[1_000] ^= 1;
@@ -293,6 +355,22 @@ impl<'a> Run<'a> {
         }
     }
 
+    fn break_record(&mut self, pair: &mut Pair, tag: u8) {
+        let (at, end) = (pair.ring.newest_at(), pair.ring.newest_end());
+        if self.lay(Fault::Tag, true) {
+            pair.journal[at] ^= 1;
+        }
+        if self.lay(Fault::Record, true) {
+            pair.journal[at + 1] ^= 1;
+        }
+        if self.lay(Fault::Group, tag == CRB) {
+            pair.journal[end - 1] ^= 1;
+        }
+        if self.lay(Fault::BehindRecord, true) {
+            pair.journal[end] ^= 1;
+        }
+    }
+
     /// What docs/JOURNAL.md says a step back does; where no byte was altered, the independent implementation says it too.
     fn step_back(&mut self, pair: &mut Pair) -> Checked {
         let answer = boundary::sca_step_back(&mut pair.state, &mut pair.journal);
@@ -301,24 +379,24 @@ impl<'a> Run<'a> {
             None => (OUT_OF_RANGE, before),
             Some(_) if !pair.ring.well_formed() => (BAD_JOURNAL, before),
             Some(_) if pair.ring.kept() == 0 => (NOTHING_KEPT, before),
-            Some(state) => match pair.ring.newest(state.id) {
+            Some(state) => match pair.ring.newest(&state) {
                 None => (BAD_JOURNAL, before),
                 restored => (DONE, restored),
             },
         };
-        if let (Some(mut state), false) = (before, pair.altered) {
-            let theirs = adapter::step_back(&mut state, &mut pair.earlier);
+        if let (Some(state), false) = (before, pair.altered) {
+            let (theirs, left) = pair.by_reference_back(state);
             same("docs/JOURNAL.md's number", number, theirs)?;
-            same("docs/JOURNAL.md's state", after, Some(state))?;
+            same("docs/JOURNAL.md's state", after, Some(left))?;
         }
+        self.tally.step_back(number, pair.back(), pair.ring.newest_tag());
         if number == DONE {
-            pair.ring.lower();
+            pair.lower();
         }
         pair.expected = after;
         if self.lay(Fault::RestoredState, number == DONE) {
-            pair.state[7] ^= 1;
+            pair.state[8] ^= 1;
         }
-        self.tally.step_back(number, pair.altered);
         let expected = RawAnswer {
             number,
             length: 0,
@@ -361,10 +439,15 @@ impl<'a> Run<'a> {
         same("the kept number", (ours.number, ours.kept), expected)
     }
 
-    /// The states that the journal's records spell are those that the independent implementation can go back to.
+    /// The records take the state back, one after the other, to those that the independent implementation can go back to. One of
+    /// an event that happened to another state has that state's bytes: it leaves it as it was.
     fn records(&self) -> Checked {
-        for (oldest, state) in self.own.earlier.earlier().enumerate() {
-            same("a record", self.own.ring.record(oldest, state.id), Some(*state))?;
+        let earlier: Vec<&State> = self.own.earlier.earlier().collect();
+        let mut state = self.own.expected.expect("a run's own state is one");
+        for (newest, before) in earlier.into_iter().rev().enumerate() {
+            let handed_in = if newest < self.own.together { &state } else { before };
+            same("a record", self.own.ring.record(newest, handed_in), Some(*before))?;
+            state = *before;
         }
         Ok(())
     }

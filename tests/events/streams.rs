@@ -330,10 +330,17 @@ fn link_command(chance: &mut Chance) -> Call {
     call
 }
 
-/// A frame of any kind: mostly address 0, any control, any length.
+/// A frame of any kind: mostly address 0, any control, any length; or a request behind any address and control, now and then a
+/// byte too short or too long.
 fn any_frame(chance: &mut Chance) -> Call {
     let length = chance.between(2, 16);
     let mut body = chance.bytes(length);
+    if let (Call::Request { information, .. }, true) = (valid_request(chance), chance.once_in(2)) {
+        let length = [10, 10, 9, 11][chance.below(4)];
+        body.truncate(2);
+        body.extend(information);
+        body.resize(length, 0x55);
+    }
     if !chance.once_in(8) {
         body[0] = 0;
     }
@@ -449,7 +456,7 @@ fn damaged(chance: &mut Chance) -> Call {
         0 => Call::Kept,
         _ => event_or_step_back(chance),
     });
-    match chance.below(8) {
+    match chance.below(11) {
         0..=2 => Call::FlippedState {
             bit: chance.below(8 * STATE_BYTES),
             call,
@@ -462,7 +469,7 @@ fn damaged(chance: &mut Chance) -> Call {
             length: other_length(chance, JOURNAL_BYTES),
             call,
         },
-        _ => {
+        5..=7 => {
             let at = match chance.below(3) {
                 0 => chance.below(8),
                 1 => 1_024 + 256 * chance.below(64) + chance.below(80),
@@ -476,11 +483,27 @@ fn damaged(chance: &mut Chance) -> Call {
             };
             Call::AlteredJournal { at, byte, call }
         }
+        8 | 9 => Call::AlteredRecord {
+            at: [0, chance.below(17), chance.below(80)][chance.below(3)],
+            byte: [chance.byte(), chance.below(8) as u8][chance.below(2)],
+            call: Box::new(Call::StepBack),
+        },
+        _ => Call::OtherState {
+            state: other_state(chance),
+            call: Box::new(Call::StepBack),
+        },
     }
 }
 
-/// A state in range, as any other run may have left it.
+/// The run goes on with another state.
 fn adopt(chance: &mut Chance) -> Call {
+    Call::Adopt {
+        state: other_state(chance),
+    }
+}
+
+/// The bytes of a state in range, as any other run may have left it.
+fn other_state(chance: &mut Chance) -> Vec<u8> {
     let mut state = State::power_on(word(chance) & 0xFF_FFFF);
     state.send = chance.below(8) as u8;
     state.receive = chance.below(8) as u8;
@@ -513,7 +536,5 @@ fn adopt(chance: &mut Chance) -> Call {
             intenable: chance.below(2) as u32,
         };
     }
-    Call::Adopt {
-        state: bytes_of(&state),
-    }
+    bytes_of(&state)
 }

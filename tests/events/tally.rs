@@ -1,11 +1,23 @@
 //! How often each thing was seen, over all runs.
 
 use crate::calls::Call;
+use crate::record::CRD;
 use crate::run::refused;
 use reference::adapter::State;
-use reference::numbers::{BAD_ARGUMENT, DONE, FRAME, NOTHING_KEPT};
+use reference::numbers::{BAD_ARGUMENT, BAD_JOURNAL, DONE, FRAME, NOTHING_KEPT, OTHER_ADDRESS, WRONG_INFORMATION};
 use sca::boundary::RawAnswer;
 use std::collections::BTreeSet;
+
+/// What a step back is on.
+#[derive(Clone, Copy, PartialEq, Eq, Debug)]
+pub enum Back {
+    /// A state and the journal that went with it.
+    Together,
+    /// Another state than the one that the newest event happened to.
+    Apart,
+    /// A journal with a byte altered, or of another length.
+    Altered,
+}
 
 const SPI: u8 = 0x01;
 const GO: u8 = 0x72;
@@ -21,8 +33,18 @@ pub struct Tally {
     pub sample: [u64; 256],
     pub upset: [u64; 256],
     pub step_back: [u64; 256],
+    /// Steps back of a state that the journal did not go with.
+    pub apart_back: [u64; 256],
     /// Steps back in journals with a byte altered or of another length.
     pub altered_back: [u64; 256],
+    /// Records by their tag: all, and those of frames that were dropped.
+    pub tags: [u64; 256],
+    pub dropped_tags: [u64; 256],
+    /// Those that took the state which they went with back, and another.
+    pub tags_back: [u64; 256],
+    pub tags_back_apart: [u64; 256],
+    /// Steps back that were refused for a tag that there is not.
+    pub unknown_tags: u64,
     /// The ERR bytes of replies.
     pub errors: [u64; 256],
     /// Ports that are 0 or 1 in their low byte alone, where they were the reason to refuse; edge kinds 0 to 2 likewise.
@@ -58,7 +80,13 @@ impl Tally {
             sample: [0; 256],
             upset: [0; 256],
             step_back: [0; 256],
+            apart_back: [0; 256],
             altered_back: [0; 256],
+            tags: [0; 256],
+            dropped_tags: [0; 256],
+            tags_back: [0; 256],
+            tags_back_apart: [0; 256],
+            unknown_tags: 0,
             errors: [0; 256],
             wide_ports: 0,
             wide_kinds: 0,
@@ -134,15 +162,26 @@ impl Tally {
         }
     }
 
-    pub fn step_back(&mut self, number: u8, altered: bool) {
+    /// An event's record, and what it gave.
+    pub fn recorded(&mut self, tag: u8, number: u8) {
+        self.tags[usize::from(tag)] += 1;
+        self.dropped_tags[usize::from(tag)] += u64::from((OTHER_ADDRESS..=WRONG_INFORMATION).contains(&number));
+    }
+
+    /// A step back, and the tag of the newest record, if there is one.
+    pub fn step_back(&mut self, number: u8, back: Back, tag: Option<u8>) {
         self.events += 1;
-        let counts = if altered {
-            &mut self.altered_back
-        } else {
-            &mut self.step_back
+        let (counts, tags) = match back {
+            Back::Together => (&mut self.step_back, Some(&mut self.tags_back)),
+            Back::Apart => (&mut self.apart_back, Some(&mut self.tags_back_apart)),
+            Back::Altered => (&mut self.altered_back, None),
         };
         counts[usize::from(number)] += 1;
-        if altered {
+        if let (DONE, Some(tags), Some(tag)) = (number, tags, tag) {
+            tags[usize::from(tag)] += 1;
+        }
+        if back == Back::Altered {
+            self.unknown_tags += u64::from(number == BAD_JOURNAL && tag.map_or(false, |tag| tag > CRD));
             return;
         }
         match number {

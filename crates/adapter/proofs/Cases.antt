@@ -2,31 +2,50 @@
 use Prim.Native.Nat.{ℕ, _-_, _≤_, _<_}
 use mathlib.Core.Path.{_≡_, refl, sym, ap, _∙_}
 use mathlib.Core.Bool.{Bool, true, false, not, cond, _||_, true≢false}
-use mathlib.Core.List.{List}
-use native.Mathlib.Nat.{pos-of-ne-zero}
+use mathlib.Core.List.{List, _++_, append-nil}
 use native.Mathlib.Omega.{arith}
-use lib.ListN.{length, take, drop}
+use lib.ListN.{length, take, drop, length-drop, drop-of-length-le}
+use lib.Seq.{drop-at, length-take-le}
 use lib.Dec.{eqb, ltb, lit<}
-use borrow.Author.Tests.{eq-eqb, ne-eqb, lt-ltb, le-ltb, ltb-false, eqb-true, eqb-false, not-false}
-use Rattle.state.specs.declared.Adapter.{Adapter}
-use Rattle.state.specs.State.{powerOn}
-use Rattle.state.specs.Bytes.{recordBytes, stateSize, stateBytes, stateIn, isState}
-use Rattle.state.specs.Inner.{isRecord}
+use borrow.Author.Tests.{eq-eqb, ne-eqb, lt-ltb, le-ltb, ltb-false, eqb-true, not-false}
+use borrow.Rule.Slice.PartMut.{putMid}
+use Rattle.parts.specs.Parts.{part, put}
+use Rattle.registers.specs.Registers.{size}
+use Rattle.channels.specs.declared.groups.Group.{Group}
+use Rattle.channels.proofs.Laws.{power-on-sound}
+use Rattle.link.specs.Link.{freshLink}
+use Rattle.link.specs.declared.Link.{Link}
+use Rattle.state.specs.State.{adapter, blank, poweredOn}
+use Rattle.state.specs.Bytes.{linkBytes, stateSize, linkImage, linkOf, stateBytes, stateIn, isState}
 use Rattle.state.proofs.Spelling.{its-length}
 use Rattle.chip.specs.declared.Response.{Response}
-use Rattle.chip.specs.Event.{Event, frame, upset}
-use Rattle.chip.specs.Answer.{response, Said, said, says}
-use Rattle.chip.specs.Chip.{reaction, onUpset, acceptedReset}
+use Rattle.chip.specs.Event.{Event, frame}
+use Rattle.chip.specs.Answer.{Said, said, says}
+use Rattle.chip.specs.Chip.{reaction, acceptedReset}
+use Rattle.chip.specs.Group.{groupOf}
 use Rattle.journal.specs.Layout.{wrongLength, keptOf, wellFormed, past, emptied, pushed, lowered}
-use Rattle.journal.specs.Record.{sound, restored}
-use Rattle.journal.proofs.Record.{before-bytes, sound-by}
-use Rattle.journal.proofs.Ring.{in-journal, length-past}
+use Rattle.journal.specs.Record.{keptFor, before, sound, restored}
+use Rattle.journal.proofs.Ring.{in-journal}
 use Rattle.adapter.specs.declared.Answer.{Answer}
 use Rattle.adapter.specs.declared.KeptNumber.{KeptNumber}
 use Rattle.adapter.specs.declared.Verdict.{Verdict}
 use Rattle.adapter.specs.declared.Verdict.the-variants.{Refused, Passed}
 use Rattle.adapter.specs.Refusals.{wrongArgument, wrongBody, inOrder, verdict, backVerdict}
-use Rattle.adapter.specs.Calls.{made, created, madeEmpty, keptIn, outcome, plain, shown, joined, done, called, stepped, steppedBack}
+use Rattle.adapter.specs.Calls.{made, created, madeEmpty, keptIn, Outcome, outcome, plain, shown, joined, happened, done, called, Stepped, stepped, judgedBack, steppedBack}
+
+-- ---- a state's bytes, part by part
+
+-- the registers that were lent, and then the link, are all of them
+anew : (s : List ℕ) → length s ≡ stateSize → (rs : List ℕ) → length rs ≡ size → (s₁ s₂ : List ℕ) (l : Link)
+    → s₁ ≡ putMid linkBytes (stateSize - linkBytes) s rs → s₂ ≡ put 0 (linkImage l) s₁ → s₂ ≡ stateBytes (adapter l rs)
+unfolding stateBytes put
+anew s n rs m s₁ s₂ l e f =
+    let k : length (take linkBytes s) ≡ linkBytes = length-take-le linkBytes s (omega arith) in
+    let z : length (drop linkBytes s) ≤ stateSize - linkBytes = rw (length-drop linkBytes s) (omega arith) in
+    rw (f, e)
+    (ap (λ (t : List ℕ). linkImage l ++ t)
+    (drop-at (take linkBytes s) (rs ++ drop (stateSize - linkBytes) (drop linkBytes s)) linkBytes k
+    ∙ ap (λ (t : List ℕ). rs ++ t) (drop-of-length-le (drop linkBytes s) z) ∙ append-nil rs))
 
 -- ---- creation
 
@@ -40,9 +59,12 @@ module _ (s : List ℕ) (id : ℕ) where
     unfolding created
     too-long h = simp (eq-eqb (length s) stateSize n, lt-ltb 0xFFFFFF id h)
 
-    pub in-24-bits : (a : Adapter) (s′ : List ℕ) → id ≤ 0xFFFFFF → a ≡ powerOn id → s′ ≡ stateBytes a → made 17 s′ ≡ created s id
-    unfolding created
-    in-24-bits a s′ h e f = simp (eq-eqb (length s) stateSize n, le-ltb 0xFFFFFF id h, f, e)
+    pub in-24-bits : (rs s₁ s₂ : List ℕ) (l : Link) → id ≤ 0xFFFFFF → rs ≡ blank id → s₁ ≡ putMid linkBytes (stateSize - linkBytes) s rs → l ≡ freshLink 0
+        → s₂ ≡ put 0 (linkImage l) s₁ → made 17 s₂ ≡ created s id
+    unfolding created poweredOn
+    in-24-bits rs s₁ s₂ l h e f g i =
+        let spelled : s₂ ≡ stateBytes (adapter l rs) = anew s n rs (ap length e ∙ power-on-sound id .fits .long) s₁ s₂ l f i in
+        simp (eq-eqb (length s) stateSize n, le-ltb 0xFFFFFF id h, spelled, g, e)
 
 pub ruleset creations = (other-length, too-long, in-24-bits)
 
@@ -108,8 +130,46 @@ module _ (resets : Bool) (j k : List ℕ) where
   pub empties : (r : List ℕ) → resets ≡ true → k ≡ emptied j → k ≡ joined resets r j
   empties r h g = simp h g
 
-  pub pushes : (r s : List ℕ) → resets ≡ false → r ≡ take (recordBytes - 0) (drop 0 s) → k ≡ pushed r j → k ≡ joined resets (take recordBytes s) j
-  pushes r s h e g = simp h (g ∙ ap (λ (x : List ℕ). pushed x j) e)
+  pub pushes : (r : List ℕ) → resets ≡ false → k ≡ pushed r j → k ≡ joined resets r j
+  pushes r h g = simp h g
+
+-- ---- an event on a state's bytes: the chip's reaction to its link and registers, and the link stored
+
+module _ (s : List ℕ) (n : length s ≡ stateSize) (e : Event) (l : Link) (d : l ≡ linkOf s) (r : Response) (rs s₁ s₂ : List ℕ)
+    (m : length rs ≡ length (take (stateSize - linkBytes) (drop linkBytes s))) (u : s₁ ≡ putMid linkBytes (stateSize - linkBytes) s rs) (x : Answer) (w : x ≡ shown r) (v : s₂ ≡ put 0 (linkImage (r .link)) s₁) where
+  long : length rs ≡ size
+  long = let k = length-drop linkBytes s in m ∙ length-take-le size (drop linkBytes s) (omega arith)
+
+  pub happens : (o p : List ℕ) → said r rs p ≡ says (reaction (adapter l (take (stateSize - linkBytes) (drop linkBytes s))) e) o
+      → (j : List ℕ) → outcome x s₂ j p ≡ happened s e o j
+  unfolding stateIn part
+  happens o p h j =
+      rw (w, anew s n rs long s₁ s₂ (r .link) u v)
+      (ap (λ (y : Said). outcome (shown (y .response)) (stateBytes (adapter (y .response .link) (y .registers))) j (y .output))
+      (h ∙ ap (λ (y : Link). says (reaction (adapter y (take (stateSize - linkBytes) (drop linkBytes s))) e) o) d))
+
+  -- without a frame
+  pub happens-silently : ((o : List ℕ) → said r rs o ≡ says (reaction (adapter l (take (stateSize - linkBytes) (drop linkBytes s))) e) o)
+      → (j o : List ℕ) → outcome x s₂ j o ≡ happened s e o j
+  happens-silently h j o = happens o o (h o) j
+
+-- ---- and with its record
+
+module _ (s j k : List ℕ) (e : Event) (x : Answer) (t : List ℕ) where
+  pub kept-and-done : (g : Group) (resets : Bool) (o p : List ℕ) → g ≡ groupOf e → resets ≡ acceptedReset e → k ≡ joined resets (keptFor g s) j
+      → ((i : List ℕ) → outcome x t i p ≡ happened s e o i) → outcome x t k p ≡ done s j e o
+  unfolding done before
+  kept-and-done g resets o p a b c f = f k ∙ ap (happened s e o) (rw (c, a, b) refl)
+
+  -- one that never resets
+  pub done-without-reset : (o p : List ℕ) → acceptedReset e ≡ false → k ≡ joined false (keptFor (groupOf e) s) j
+      → ((i : List ℕ) → outcome x t i p ≡ happened s e o i) → outcome x t k p ≡ done s j e o
+  done-without-reset o p b c f = kept-and-done (groupOf e) false o p refl (sym b) c f
+
+  -- and sends no frame
+  pub done-silently : acceptedReset e ≡ false → k ≡ joined false (keptFor (groupOf e) s) j
+      → ((i p : List ℕ) → outcome x t i p ≡ happened s e p i) → (p : List ℕ) → outcome x t k p ≡ done s j e p
+  done-silently b c f p = done-without-reset p p b c (λ i. f i p)
 
 -- ---- an event's call
 
@@ -139,14 +199,13 @@ module _ (s : List ℕ) (j : List ℕ) (e : Event) (o : List ℕ) (v : Verdict)
   unfolding called verdict
   refuses number x q r = rw (← h, q, r) refl
 
-  -- an event that nothing refuses is done once its frames are laid out, it is recorded, and the state is spelled anew
-  pub passes : (a : Adapter) (r : Response) (x : Answer) (t p k : List ℕ) (resets : Bool) → v ≡ Passed → a ≡ stateIn s
-      → said r p ≡ says (reaction a e) o → resets ≡ acceptedReset e → k ≡ joined resets (take recordBytes s) j
-      → x ≡ shown r → t ≡ stateBytes (r .adapter) → outcome x t k p ≡ called s j e o
-  unfolding called verdict done
-  passes a r x t p k resets q f g i u m n =
-      rw (← h, q, ← i, before-bytes s e, u, m, n, ← f)
-      (ap (λ (y : Said). outcome (shown (y .response)) (stateBytes (y .response .adapter)) (joined resets (take recordBytes s) j) (y .output)) g)
+  pub passes : (x : Outcome) → v ≡ Passed → x ≡ done s j e o → x ≡ called s j e o
+  unfolding called verdict
+  passes x q f = rw (← h, q) f
+
+  -- one that sends no frame
+  pub passes-silently : (x : Answer) (t k : List ℕ) → v ≡ Passed → ((p : List ℕ) → outcome x t k p ≡ done s j e p) → outcome x t k o ≡ called s j e o
+  passes-silently x t k q f = passes (outcome x t k o) q (f o)
 
   pub passing : v ≡ Passed → Passing s j e o
   passing q =
@@ -158,13 +217,6 @@ module _ (s : List ℕ) (j : List ℕ) (e : Event) (o : List ℕ) (v : Verdict)
         argument = p .3;
         body = p .4;
       }
-
--- an upset sends no frame
-pub upset-passes : (s j o : List ℕ) (v : Verdict) → v ≡ inOrder (not (isState s)) (not (wellFormed j)) (ltb (length o) 16) false false
-    → (a : Adapter) (r : Response) (x : Answer) (t k : List ℕ) → v ≡ Passed → a ≡ stateIn s → r ≡ response (reaction a upset)
-    → k ≡ joined false (take recordBytes s) j → x ≡ shown r → t ≡ stateBytes (r .adapter) → outcome x t k o ≡ called s j upset o
-unfolding reaction onUpset
-upset-passes s j o v h a r x t k q f g u m n = passes s j upset o v h a r x t o k false q f (ap (λ (y : Response). said y o) g) refl u m n
 
 or-left : (x y : Bool) → (x || y) ≡ false → x ≡ false
 or-left false y h = refl
@@ -185,8 +237,8 @@ module _ (v : Verdict) (l : List ℕ) (q : v ≡ Passed) where
   passed-state j o g b h = its-length l (not-false _ (no-refusal _ j o g b (sym q ∙ h) .0))
 
   pub passed-both : (k : List ℕ) (o g b : Bool) → v ≡ inOrder (not (isState l)) (not (wellFormed k)) o g b
-      → (length l ≡ stateSize) × (wellFormed k ≡ true)
-  passed-both k o g b h = let n = no-refusal _ _ o g b (sym q ∙ h) in (its-length l (not-false _ (n .0)), not-false _ (n .1))
+      → (wellFormed k ≡ true) × (length l ≡ stateSize)
+  passed-both k o g b h = let n = no-refusal _ _ o g b (sym q ∙ h) in (not-false _ (n .1), its-length l (not-false _ (n .0)))
 
   pub passed-output : (s j g b : Bool) → v ≡ inOrder s j (ltb (length l) 16) g b → 16 ≤ length l
   passed-output s j g b h = ltb-false _ 16 (no-refusal s j _ g b (sym q ∙ h) .2)
@@ -211,68 +263,44 @@ module _ (v : Verdict) (n : ℕ) (q : v ≡ Passed) (s j o b : Bool) where
 -- ---- a step back
 
 module _ (s j : List ℕ) (spelled : Bool) (is-state : spelled ≡ isState s) where
-  pub back-state : not spelled ≡ true → Refused 6 ≡ backVerdict s j
-  unfolding backVerdict
+  pub back-state : not spelled ≡ true → stepped 6 s j ≡ steppedBack s j
+  unfolding steppedBack backVerdict
   back-state h = rw (← is-state, h) refl
 
   module _ (formed : Bool) (well-formed : formed ≡ wellFormed j) (h : not spelled ≡ false) where
-    pub back-journal : not formed ≡ true → Refused 4 ≡ backVerdict s j
-    unfolding backVerdict
+    pub back-journal : not formed ≡ true → stepped 4 s j ≡ steppedBack s j
+    unfolding steppedBack backVerdict
     back-journal g = rw (← is-state, h, ← well-formed, g) refl
 
-    pub back-none : not formed ≡ false → keptOf j ≡ 0 → Refused 5 ≡ backVerdict s j
-    unfolding backVerdict
+    pub back-none : not formed ≡ false → keptOf j ≡ 0 → stepped 5 s j ≡ steppedBack s j
+    unfolding steppedBack backVerdict
     back-none g n = rw (← is-state, h, ← well-formed, g, eq-eqb (keptOf j) 0 n) refl
 
-    module _ (restorable : Bool) (is-sound : restorable ≡ isRecord (past j 0)) (g : not formed ≡ false) (n : keptOf j ≡ 0 → ⊥) where
-      by-record : restorable ≡ sound s (past j 0)
-      by-record =
-          let l = length-past j (sym well-formed ∙ not-false formed g) in
-          is-sound ∙ sym (sound-by s (past j 0) (sym is-state ∙ not-false spelled h) (omega arith))
+    pub back-tried : (x : Stepped) → not formed ≡ false → (keptOf j ≡ 0 → ⊥)
+        → x ≡ cond (sound s (past j 0)) (stepped 17 (restored s (past j 0)) (lowered j)) (stepped 4 s j) → x ≡ steppedBack s j
+    unfolding steppedBack backVerdict
+    back-tried x g n e = rw (← is-state, h, ← well-formed, g, ne-eqb (keptOf j) 0 n) (e ∙ by (sound s (past j 0)))
+      where
+        by : (t : Bool) → cond t (stepped 17 (restored s (past j 0)) (lowered j)) (stepped 4 s j)
+            ≡ judgedBack (cond (not t) (Refused 4) Passed) s j
+        by true = refl
+        by false = refl
 
-      pub back-damaged : not restorable ≡ true → Refused 4 ≡ backVerdict s j
-      unfolding backVerdict
-      back-damaged d = rw (← is-state, h, ← well-formed, g, ne-eqb (keptOf j) 0 n, ← by-record, d) refl
+module _ (s j t : List ℕ) (x : Bool) (judged : x ≡ sound s (past j 0)) (tried : t ≡ cond x (restored s (past j 0)) s) where
+  pub back-damaged : x ≡ false → stepped 4 t j ≡ cond (sound s (past j 0)) (stepped 17 (restored s (past j 0)) (lowered j)) (stepped 4 s j)
+  back-damaged d = rw (← judged, tried, d) refl
 
-      pub back-passed : not restorable ≡ false → Passed ≡ backVerdict s j
-      unfolding backVerdict
-      back-passed d = rw (← is-state, h, ← well-formed, g, ne-eqb (keptOf j) 0 n, ← by-record, d) refl
-
-pub ruleset judging-back = (back-state, back-journal, back-none, back-damaged, back-passed)
+  pub back-restored : (k : List ℕ) → x ≡ true → k ≡ lowered j
+      → stepped 17 t k ≡ cond (sound s (past j 0)) (stepped 17 (restored s (past j 0)) (lowered j)) (stepped 4 s j)
+  back-restored k d f = rw (← judged, tried, d, f) refl
 
 -- what the tests so far tell the next one
 module _ (j : List ℕ) (formed : Bool) (e : formed ≡ wellFormed j) (h : not formed ≡ false) where
   pub back-header : 6 < length j
   back-header = in-journal j 6 (sym e ∙ not-false formed h) (lit< tt)
 
-  pub back-newest : (keptOf j ≡ 0 → ⊥) → (wellFormed j ≡ true) × (0 < keptOf j)
-  back-newest n = (sym e ∙ not-false formed h, pos-of-ne-zero n)
+  pub back-formed : wellFormed j ≡ true
+  back-formed = sym e ∙ not-false formed h
 
-module _ (s j : List ℕ) (v : Verdict) (judged : v ≡ backVerdict s j) where
-  pub back-refuses : (number : ℕ) → v ≡ Refused number → stepped number s j ≡ steppedBack s j
-  unfolding steppedBack
-  back-refuses number q = rw (← judged, q) refl
-
-  pub back-passes : (t k : List ℕ) → v ≡ Passed → t ≡ restored s (past j 0) → k ≡ lowered j → stepped 17 t k ≡ steppedBack s j
-  unfolding steppedBack
-  back-passes t k q r f = rw (← judged, q, r, f) refl
-
--- what a verdict that refuses nothing tells
-pub record PassingBack (s j : List ℕ) : Type 0 where
-  pub long : recordBytes ≤ length s
-  pub formed : wellFormed j ≡ true
-  pub some : 0 < keptOf j
-
-pub passing-back : (s j : List ℕ) → Passed ≡ backVerdict s j → PassingBack s j
-unfolding backVerdict
-passing-back s j h =
-    let p = none-back (not (isState s)) (not (wellFormed j)) (eqb (keptOf j) 0) (not (sound s (past j 0))) h in
-    let n = its-length s (not-false _ (p .0)) in
-    record { long = omega arith; formed = not-false _ (p .1); some = pos-of-ne-zero (eqb-false (keptOf j) 0 (p .2)) }
-  where
-    none-back : (s f n d : Bool) → Passed ≡ cond s (Refused 6) (cond f (Refused 4) (cond n (Refused 5) (cond d (Refused 4) Passed)))
-        → (s ≡ false) × (f ≡ false) × (n ≡ false)
-    none-back false false false d h = (refl, refl, refl)
-    none-back true f n d h = not-passed h
-    none-back false true n d h = not-passed h
-    none-back false false true d h = not-passed h
+pub back-length : (s : List ℕ) (spelled : Bool) → spelled ≡ isState s → not spelled ≡ false → length s ≡ stateSize
+back-length s spelled e h = its-length s (sym e ∙ not-false spelled h)

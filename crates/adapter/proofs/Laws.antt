@@ -8,7 +8,7 @@ use lib.ListN.{length}
 use lib.Dec.{ltb}
 use borrow.Author.Tests.{eq-eqb, ne-eqb}
 use Rattle.bits.proofs.Tests.{either}
-use Rattle.state.specs.declared.Adapter.{Adapter}
+use Rattle.state.specs.State.{Adapter}
 use Rattle.state.specs.Bytes.{stateBytes, isState}
 use Rattle.state.proofs.Good.{Good}
 use Rattle.chip.specs.Answer.{Reaction, laid}
@@ -75,10 +75,10 @@ module _ (a : Adapter) (e : Event) (j : List ℕ) (w : Well j) (kept : acceptedR
   rest = behind (before (stateBytes a) e) j w (length-before (stateBytes a) e)
 
   pub newest-restores : restored (stateBytes (reaction a e .adapter)) (past (recorded (stateBytes a) e j) 0) ≡ stateBytes a
-  newest-restores = rw (newest (stateBytes a) e j w kept) (taken-back a e rest g typed)
+  newest-restores = rw (newest (stateBytes a) e j w kept) (taken-back a e rest g typed kept)
 
   pub newest-sound : sound (stateBytes (reaction a e .adapter)) (past (recorded (stateBytes a) e j) 0) ≡ true
-  newest-sound = rw (newest (stateBytes a) e j w kept) (sound-back a e rest g typed)
+  newest-sound = rw (newest (stateBytes a) e j w kept) (sound-back a e rest g typed kept)
 
 -- ---- a step back
 

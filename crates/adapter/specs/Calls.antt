@@ -10,7 +10,7 @@ use Rattle.state.specs.Bytes.{stateSize, stateBytes, stateIn}
 use Rattle.chip.specs.declared.Response.{Response}
 use Rattle.chip.specs.Event.{Event}
 use Rattle.chip.specs.Chip.{reaction, acceptedReset}
-use Rattle.chip.specs.Answer.{says}
+use Rattle.chip.specs.Answer.{response, laid}
 use Rattle.journal.specs.Layout.{wrongLength, keptOf, wellFormed, past, emptied, pushed, lowered}
 use Rattle.journal.specs.Record.{before, restored}
 use Rattle.adapter.specs.declared.Answer.{Answer}
@@ -60,7 +60,7 @@ outcome answer state journal output = record { answer = answer; state = state; j
 abbrev pub plain : ℕ → Answer
 plain number = record { number = number; port = 0; length = 0 }
 
--- what the chip gives, without the state
+-- what the chip gives, without the link
 abbrev pub shown : Response → Answer
 shown r = record { number = r .number; port = r .port; length = r .length }
 
@@ -72,11 +72,15 @@ joined resets r journal = cond resets (emptied journal) (pushed r journal)
 abbrev pub recorded : List ℕ → Event → List ℕ → List ℕ
 recorded s e journal = joined (acceptedReset e) (before s e) journal
 
--- The event's answer, the state that it leaves, its record in the journal, its frames in the output.
+-- The event's answer, the state that it leaves, its frames in the output; and a journal
+abbrev pub happened : List ℕ → Event → List ℕ → List ℕ → Outcome
+happened s e output journal =
+    let r = reaction (stateIn s) e in
+    outcome (shown (response r)) (stateBytes (r .adapter)) journal (laid (r .frames) output)
+
+-- which then has its record
 unfoldable pub done : List ℕ → List ℕ → Event → List ℕ → Outcome
-done s journal e output =
-    let x = says (reaction (stateIn s) e) output in
-    outcome (shown (x .response)) (stateBytes (x .response .adapter)) (recorded s e journal) (x .output)
+done s journal e output = happened s e output (recorded s e journal)
 
 abbrev pub judged : Verdict → List ℕ → List ℕ → Event → List ℕ → Outcome
 judged (Refused number) s journal e output = outcome (plain number) s journal output

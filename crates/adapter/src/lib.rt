@@ -1,6 +1,7 @@
 // The adapter as its users call it, on the bytes that they lend: every refusal in document 01's order, every event kept in the journal, steps
 // back.
-use chip::Response;
+mod events;
+
 use numbers::BAD_ARGUMENT;
 use numbers::BAD_BODY;
 use numbers::BAD_ID;
@@ -14,17 +15,20 @@ use numbers::NONE_KEPT;
 use numbers::OUTPUT_LEAST;
 use numbers::SHORT_OUTPUT;
 use numbers::TRANSFER_BYTES;
-use state::RECORD_BYTES;
+use state::BYTES;
+use state::LINK;
 ghost use mathlib.Core.Path.{_≡_};
-ghost use mathlib.Core.Bool.{true, not};
+ghost use mathlib.Core.Bool.{true, not, cond};
+ghost use Prim.Native.Nat.{_<_};
 ghost use lib.Dec.{ltb};
-ghost use lib.ListN.{length, take};
+ghost use lib.ListN.{length};
 ghost use Rattle.chip.specs.Event.{Completion, Event};
-ghost use Rattle.state.specs.Bytes.{recordBytes, stateSize, stateBytes, isState};
-ghost use Rattle.numbers.specs.Numbers.{outputLeast};
-ghost use Rattle.journal.specs.Layout.{wellFormed};
-ghost use Rattle.adapter.specs.Refusals.{inOrder, backVerdict};
-ghost use Rattle.adapter.specs.Calls.{made, created, madeEmpty, keptIn, outcome, plain, shown, joined, called, stepped, steppedBack};
+ghost use Rattle.state.specs.Bytes.{stateSize, isState};
+ghost use Rattle.numbers.specs.Numbers.{noFrame, badJournal, outputLeast};
+ghost use Rattle.journal.specs.Layout.{keptOf, wellFormed, past, lowered};
+ghost use Rattle.journal.specs.Record.{restored, sound};
+ghost use Rattle.adapter.specs.Refusals.{inOrder};
+ghost use Rattle.adapter.specs.Calls.{made, created, madeEmpty, keptIn, outcome, plain, called, stepped, steppedBack};
 
 // An event's answer: document 01's number, and with number 0 the port and the length of the frame in the output.
 pub struct Answer {
@@ -49,13 +53,14 @@ pub enum Verdict {
 pub fn create(state: &mut [u8], id: u32) -> u8
     ensures { λ r. ⌜ made r (now (state .exit)) ≡ created (now (state .entry)) id ⌝ }
 {
-    if state.len() != state::BYTES {
+    if state.len() != BYTES {
         return BAD_STATE;
     }
     if ID_MOST < id {
         return BAD_ID;
     }
-    state::spell(state::powered_on(0, id), state);
+    state::power_on(&mut state[LINK..BYTES], id);
+    state::store_link(state, link::fresh(0));
     NO_FRAME
 }
 
@@ -107,22 +112,6 @@ fn in_order(state: bool, journal: bool, output: bool, argument: bool, body: bool
     Verdict::Passed
 }
 
-// The record of an event that happens to a state, the state's bytes but for the ID, joins the journal; an accepted RESET empties it.
-fn record_event(journal: &mut [u8], state: &[u8], resets: bool)
-    requires { ⌜ wellFormed (now journal) ≡ true ⌝ }
-    requires { ⌜ length (now state) ≡ stateSize ⌝ }
-    ensures { λ _. ⌜ now (journal .exit) ≡ joined resets (take recordBytes (now (state .entry))) (now (journal .entry)) ⌝ }
-{
-    if resets {
-        journal::empty(journal);
-    } else {
-        // By way of bytes of its own, as `journal::restore` does.
-        let mut record = [0u8; RECORD_BYTES];
-        parts::over(&mut record, &state[0..RECORD_BYTES]);
-        journal::push(journal, &record);
-    }
-}
-
 // The first refusal of an event that is handed this state, journal and room for output.
 fn judge(state: &[u8], journal: &[u8], room: usize, argument: bool, body: bool) -> Verdict
     ensures { λ r. ⌜ r ≡ inOrder (not (isState (now (state .entry)))) (not (wellFormed (now (journal .entry)))) (ltb room outputLeast) argument body ⌝ }
@@ -140,22 +129,6 @@ pub fn alone(number: u8) -> Answer
         number: number,
         port: 0,
         length: 0,
-    }
-}
-
-// An event that is done: its record in the journal, the state that it leaves, and the chip's answer.
-fn keep(state: &mut [u8], journal: &mut [u8], r: Response, resets: bool) -> Answer
-    requires { ⌜ length (now state) ≡ stateSize ⌝ }
-    requires { ⌜ wellFormed (now journal) ≡ true ⌝ }
-    ensures { λ x. ⌜ (x ≡ shown r) × (now (state .exit) ≡ stateBytes (r .adapter)) × (now (journal .exit) ≡ joined resets (take recordBytes (now (state .entry))) (now (journal .entry))) ⌝ }
-{
-    record_event(journal, state, resets);
-    let after = r.adapter;
-    state::spell(after, state);
-    Answer {
-        number: r.number,
-        port: r.port,
-        length: r.length,
     }
 }
 
@@ -179,10 +152,7 @@ pub fn frame(
     );
     match verdict {
         Verdict::Refused(number) => alone(number),
-        Verdict::Passed => {
-            let r = chip::events::on_frame(state::load(state), port as u8, body, output);
-            keep(state, journal, r, chip::events::is_reset(body))
-        }
+        Verdict::Passed => events::frame(state, journal, port as u8, body, output),
     }
 }
 
@@ -193,10 +163,7 @@ pub fn upset(state: &mut [u8], journal: &mut [u8], output: &mut [u8]) -> Answer
     let verdict = judge(state, journal, output.len(), false, false);
     match verdict {
         Verdict::Refused(number) => alone(number),
-        Verdict::Passed => {
-            let r = chip::events::on_upset(state::load(state));
-            keep(state, journal, r, false)
-        }
+        Verdict::Passed => events::upset(state, journal),
     }
 }
 
@@ -218,10 +185,7 @@ pub fn completion(
     );
     match verdict {
         Verdict::Refused(number) => alone(number),
-        Verdict::Passed => {
-            let r = chip::events::on_spi(state::load(state), received, output);
-            keep(state, journal, r, false)
-        }
+        Verdict::Passed => events::completion(state, journal, received, output),
     }
 }
 
@@ -238,43 +202,36 @@ pub fn sample(
     let verdict = judge(state, journal, output.len(), 2 < kind, false);
     match verdict {
         Verdict::Refused(number) => alone(number),
-        Verdict::Passed => {
-            let r = chip::events::on_sample(state::load(state), levels, kind as u8, output);
-            keep(state, journal, r, false)
-        }
+        Verdict::Passed => events::sample(state, journal, levels, kind as u8, output),
     }
 }
 
-// The first refusal of a step back from a state.
-fn judge_back(state: &[u8], journal: &[u8]) -> Verdict
-    ensures { λ r. ⌜ r ≡ backVerdict (now (state .entry)) (now (journal .entry)) ⌝ }
+// Takes the newest record back, unless it is damaged.
+fn take_back(state: &mut [u8], journal: &mut [u8]) -> u8
+    requires { ⌜ length (now state) ≡ stateSize ⌝ }
+    requires { ⌜ wellFormed (now journal) ≡ true ⌝ }
+    requires { ⌜ 0 < keptOf (now journal) ⌝ }
+    ensures { λ r. ⌜ stepped r (now (state .exit)) (now (journal .exit)) ≡ cond (sound (now (state .entry)) (past (now (journal .entry)) 0)) (stepped noFrame (restored (now (state .entry)) (past (now (journal .entry)) 0)) (lowered (now (journal .entry)))) (stepped badJournal (now (state .entry)) (now (journal .entry))) ⌝ }
 {
-    if !state::is_state(state) {
-        return Verdict::Refused(BAD_STATE);
+    if journal::restore(journal, state) {
+        journal::lower(journal);
+        return NO_FRAME;
     }
-    if !journal::is_well_formed(journal) {
-        return Verdict::Refused(BAD_JOURNAL);
-    }
-    if journal[journal::KEPT] == 0 {
-        return Verdict::Refused(NONE_KEPT);
-    }
-    if !journal::is_sound(journal) {
-        return Verdict::Refused(BAD_JOURNAL);
-    }
-    Verdict::Passed
+    BAD_JOURNAL
 }
 
 // Takes the newest standing event back.
 pub fn step_back(state: &mut [u8], journal: &mut [u8]) -> u8
     ensures { λ r. ⌜ stepped r (now (state .exit)) (now (journal .exit)) ≡ steppedBack (now (state .entry)) (now (journal .entry)) ⌝ }
 {
-    let verdict = judge_back(state, journal);
-    match verdict {
-        Verdict::Refused(number) => number,
-        Verdict::Passed => {
-            journal::restore(journal, state);
-            journal::lower(journal);
-            NO_FRAME
-        }
+    if !state::is_state(state) {
+        return BAD_STATE;
     }
+    if !journal::is_well_formed(journal) {
+        return BAD_JOURNAL;
+    }
+    if journal[journal::KEPT] == 0 {
+        return NONE_KEPT;
+    }
+    take_back(state, journal)
 }

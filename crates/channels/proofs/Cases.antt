@@ -11,7 +11,9 @@ use Rattle.commands.specs.declared.channel.Channel.{Channel}
 use Rattle.commands.specs.declared.command.Command.{Command}
 use Rattle.commands.specs.declared.command.Command.the-variants.{Known, Unknown}
 use Rattle.commands.specs.declared.command.Does.{Does}
-use Rattle.commands.specs.declared.command.Does.the-variants.{Write, Switch, Read, ReadId, Clear, Start}
+use Rattle.commands.specs.declared.command.Control.{Control}
+use Rattle.commands.specs.declared.command.Control.the-variants.{C, D}
+use Rattle.commands.specs.declared.command.Does.the-variants.{Write, Switch, Read, Clear, Start}
 use Rattle.commands.specs.declared.command.Lengths.{Lengths}
 use Rattle.commands.specs.declared.command.Register.{Register}
 use Rattle.commands.specs.declared.request.Reply.{Reply}
@@ -20,9 +22,13 @@ use Rattle.commands.specs.Channels.{channelOf, commandOf}
 use Rattle.commands.specs.Request.{granted, refusal, trnWrong, chUnknown, notEnabled, busy as isBusyBit, cmdUnknown, lenWrong}
 use Rattle.registers.specs.Registers.{size, read, store, shown, written, zeroed, areZero}
 use Rattle.channels.proofs.Owners.{own-inside}
-use Rattle.channels.specs.Rows.{rowOf, isOn, isAtWork, isEnabled, isBusy, held, settled, stillHeld}
+use Rattle.channels.specs.Rows.{rowOf, registerOf, dropping, isOn, isAtWork, isEnabled, isBusy, held, heldAll, settled, stillHeld}
+use Rattle.channels.specs.Groups.{spanOf, byDoes, byCommand, groupFor}
 use Rattle.channels.specs.Errors.{ofCommand, decoded}
 use Rattle.channels.specs.Perform.{told, left, replied, performed}
+use Rattle.channels.specs.declared.groups.Group.{Group}
+use Rattle.channels.specs.declared.groups.Group.the-variants.{Switched}
+use Rattle.channels.specs.declared.groups.Span.{Span}
 use Rattle.channels.specs.declared.rows.Busy.{Busy}
 use Rattle.channels.specs.declared.rows.Busy.the-variants as busy
 use Rattle.channels.specs.declared.rows.Row.{Row}
@@ -36,8 +42,9 @@ use Rattle.channels.specs.declared.errors.Decoded.the-variants.{Wrong, R
 pub row-at : (k which : Channel) (x : Row) → which ≡ k → x ≡ rowOf k → x ≡ rowOf which
 row-at k which x e h = simp (e, h)
 
-pub by-bit : (rs : List ℕ) (s : RowSwitch) (r : Register) (bit v : ℕ) → s ≡ Bit r bit → v ≡ read rs r → not (eqb (bitAnd v bit) 0) ≡ isOn rs s
-by-bit rs s r bit v e h = simp (e, h)
+pub by-bit : (rs : List ℕ) (s : RowSwitch) (c : Control) (r : Register) (bit v : ℕ) → s ≡ Bit c bit → r ≡ registerOf c → v ≡ read rs r
+    → not (eqb (bitAnd v bit) 0) ≡ isOn rs s
+by-bit rs s c r bit v e f h = simp (e, h, f)
 
 pub by-start : (rs : List ℕ) (b : Busy) (r : Register) (v : ℕ) → b ≡ busy.While r → v ≡ read rs r → not (eqb v 0) ≡ isAtWork rs b
 by-start rs b r v e h = simp (e, h)
@@ -69,6 +76,47 @@ module _ (rs : List ℕ) (which : Channel) (on : Bool) (o : on ≡ isEnabled rs 
   pub may-hold : true ≡ stillHeld rs which
   unfolding stillHeld
   may-hold = simp (sym o ∙ t)
+
+-- ---- the groups
+
+pub span-at : (g k : Group) (x : Span) → g ≡ k → x ≡ spanOf k → x ≡ spanOf g
+span-at g k x e h = simp (e, h)
+
+pub span-by : (g : Group) (c k : Control) (x : Span) → g ≡ Switched c → c ≡ k → x ≡ spanOf (Switched k) → x ≡ spanOf g
+span-by g c k x e f h = simp (e, f, h)
+
+pub group-switched : (g : Group) (does : Does) (c : Control) → does ≡ Switch c → Switched c ≡ byDoes g does
+group-switched g does c e = simp e
+
+pub group-known : (g x : Group) (command : Command) (l : Lengths) (does : Does) → command ≡ Known l does → x ≡ byDoes g does → x ≡ byCommand g command
+group-known g x command l does e h = simp (e, h)
+
+pub its-group : (q : Request) (ch : Channel) (x : Row) (command : Command) (g : Group) → ch ≡ channelOf (q .ch) → x ≡ rowOf ch
+    → command ≡ commandOf ch (q .cmd) → g ≡ byCommand (x .group) command → g ≡ groupFor q
+unfolding groupFor
+its-group q ch x command g e f h i = simp (i, f, h, e)
+
+-- ---- a switch
+
+pub register-at : (k control : Control) (x : Register) → control ≡ k → x ≡ registerOf k → x ≡ registerOf control
+register-at k control x e h = simp (e, h)
+
+module _ (rs : List ℕ) (control : Control) where
+  pub settles : (k : Control) (s : List ℕ) → control ≡ k → s ≡ heldAll (dropping k) rs → s ≡ settled control rs
+  settles k s e h = simp (h, e)
+
+  -- nothing is dropped by CRC and CRD
+  pub nothing-by-c : control ≡ C → rs ≡ settled control rs
+  unfolding heldAll
+  nothing-by-c e = simp e
+
+  pub nothing-by-d : control ≡ D → rs ≡ settled control rs
+  unfolding heldAll
+  nothing-by-d e = simp e
+
+pub switches : (rs w s : List ℕ) (c : Control) (r : Register) (v : ℕ) → r ≡ registerOf c → w ≡ written rs r v → s ≡ settled c w
+    → s ≡ settled c (written rs (registerOf c) v)
+switches rs w s c r v e g h = simp (h, g, e)
 
 -- ---- the errors
 
@@ -117,28 +165,25 @@ module _ (rs : List ℕ) (q : Request) where
 
 -- ---- what is performed
 
-module _ (rs : List ℕ) (id given : ℕ) (does : Does) (p : Reply) where
-  pub tells-written : (r : Register) → does ≡ Write r → p ≡ granted given 0 → p ≡ told rs id given does
+module _ (rs : List ℕ) (given : ℕ) (does : Does) (p : Reply) where
+  pub tells-written : (r : Register) → does ≡ Write r → p ≡ granted given 0 → p ≡ told rs given does
   tells-written r e h = simp (h, e)
 
-  pub tells-switched : (r : Register) → does ≡ Switch r → p ≡ granted given 0 → p ≡ told rs id given does
-  tells-switched r e h = simp (h, e)
+  pub tells-switched : (c : Control) → does ≡ Switch c → p ≡ granted given 0 → p ≡ told rs given does
+  tells-switched c e h = simp (h, e)
 
-  pub tells-read : (r : Register) (v : ℕ) → does ≡ Read r → v ≡ shown rs r → p ≡ granted given v → p ≡ told rs id given does
+  pub tells-read : (r : Register) (v : ℕ) → does ≡ Read r → v ≡ shown rs r → p ≡ granted given v → p ≡ told rs given does
   tells-read r v e w h = simp (h, w, e)
 
-  pub tells-id : does ≡ ReadId → p ≡ granted given id → p ≡ told rs id given does
-  tells-id e h = simp (h, e)
-
-  pub tells-cleared : (r : Register) → does ≡ Clear r → p ≡ granted given 0 → p ≡ told rs id given does
+  pub tells-cleared : (r : Register) → does ≡ Clear r → p ≡ granted given 0 → p ≡ told rs given does
   tells-cleared r e h = simp (h, e)
 
 module _ (rs : List ℕ) (q : Request) (does : Does) (s : List ℕ) where
   pub leaves-written : (r : Register) → does ≡ Write r → s ≡ written rs r (q .value) → s ≡ left rs q does
   leaves-written r e h = simp (h, e)
 
-  pub leaves-switched : (r : Register) (w : List ℕ) → does ≡ Switch r → w ≡ written rs r (q .value) → s ≡ settled w → s ≡ left rs q does
-  leaves-switched r w e g h = simp (h, g, e)
+  pub leaves-switched : (c : Control) → does ≡ Switch c → s ≡ settled c (written rs (registerOf c) (q .value)) → s ≡ left rs q does
+  leaves-switched c e h = simp (h, e)
 
   pub leaves-cleared : (r : Register) → does ≡ Clear r → s ≡ store rs r 0 → s ≡ left rs q does
   leaves-cleared r e h = simp (h, e)
@@ -148,8 +193,8 @@ module _ (rs : List ℕ) (q : Request) (does : Does) (s : List ℕ) where
 
 -- ---- every request
 
-module _ (rs : List ℕ) (id : ℕ) (q : Request) (d : Decoded) (e : d ≡ decoded rs q) where
-  pub wrong-reply : (error : ℕ) (p : Reply) → d ≡ Wrong error → p ≡ refusal error → p ≡ replied rs id q
+module _ (rs : List ℕ) (q : Request) (d : Decoded) (e : d ≡ decoded rs q) where
+  pub wrong-reply : (error : ℕ) (p : Reply) → d ≡ Wrong error → p ≡ refusal error → p ≡ replied rs q
   unfolding replied
   wrong-reply error p w g = simp (← e, w, g)
 
@@ -157,7 +202,7 @@ module _ (rs : List ℕ) (id : ℕ) (q : Request) (d : Decoded) (e : d ≡ decod
   unfolding performed
   wrong-left error w = simp (← e, w)
 
-  pub right-reply : (given : ℕ) (does : Does) (p : Reply) → d ≡ Right given does → p ≡ told rs id given does → p ≡ replied rs id q
+  pub right-reply : (given : ℕ) (does : Does) (p : Reply) → d ≡ Right given does → p ≡ told rs given does → p ≡ replied rs q
   unfolding replied
   right-reply given does p r g = simp (← e, r, g)
 

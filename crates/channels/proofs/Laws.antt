@@ -1,15 +1,16 @@
 -- The laws of the channels, for what stands above them. What a command touches is its channel's own; what is left is sound; and a channel is
 -- alone: its answers and its own bytes follow from its enable bit, its own bytes and the request.
 use Prim.Native.Nat.{ℕ, _*_, _-_, _%_, _^_, _≤_, _<_}
-use mathlib.Core.Bool.{Bool, true, false, not, _&&_, _||_, true≢false}
-use mathlib.Core.List.{List, [], _∷_}
+use native.Mathlib.Omega.{arith}
+use mathlib.Core.Bool.{Bool, true, false, not, _&&_, _||_, true≢false, false≢true}
+use mathlib.Core.List.{List, [], _∷_, _++_}
 use mathlib.Core.Logic.{_⊎_, inl, inr}
 use mathlib.Core.Path.{_≡_, refl, sym, ap, ap₂, subst, _∙_}
 use borrow.Author.Tests.{eq-eqb, eqb-true, eqb-false, leb-true, ltb-true, not-false}
 use lib.Bits.{bitAnd, and-zero-l}
 use lib.Dec.{eqb, leb, ltb, lit≤, lit<}
 use lib.ListN.{length, replicate}
-use Rattle.bits.proofs.Tests.{and-left, and-right, both, cond-cases, or-second, le-or-le}
+use Rattle.bits.proofs.Tests.{and-left, and-right, and-assoc, both, cond-cases, or-second}
 use Rattle.parts.specs.Parts.{part, put, allZero}
 use Rattle.parts.specs.Digits.{number, digits}
 use Rattle.parts.proofs.Laws.{Apart, AreBytes, part-part, part-put-inside}
@@ -19,9 +20,11 @@ use Rattle.commands.specs.declared.channel.Channel.the-variants as channel
 use Rattle.commands.specs.declared.command.Command.{Command}
 use Rattle.commands.specs.declared.command.Command.the-variants.{Known, Unknown}
 use Rattle.commands.specs.declared.command.Does.{Does}
-use Rattle.commands.specs.declared.command.Does.the-variants.{Write, Switch, Read, ReadId, Clear, Start}
+use Rattle.commands.specs.declared.command.Control.{Control}
+use Rattle.commands.specs.declared.command.Control.the-variants.{B, C, D}
+use Rattle.commands.specs.declared.command.Does.the-variants.{Write, Switch, Read, Clear, Start}
 use Rattle.commands.specs.declared.command.Register.{Register}
-use Rattle.commands.specs.declared.command.Register.the-variants.{Crb, Crd, SpiGo, SpiData0, SpiData1, SpiData2, SpiData3, Datain, Ints, Intenable, Seu}
+use Rattle.commands.specs.declared.command.Register.the-variants.{Crb, Crd, ChipId, SpiGo, SpiData0, SpiData1, SpiData2, SpiData3, Datain, Ints, Intenable, Seu}
 use Rattle.commands.specs.declared.request.Reply.{Reply}
 use Rattle.commands.specs.declared.request.Reply.the-variants.{Sent, Later}
 use Rattle.commands.specs.declared.request.Request.{Request}
@@ -29,17 +32,21 @@ use Rattle.commands.specs.Channels.{channelOf, commandOf}
 use Rattle.commands.specs.Request.{noTransaction, interruptTransaction, trnWrong, chUnknown, notEnabled, busy, cmdUnknown, lenWrong}
 use Rattle.registers.specs.Registers as registers
 use Rattle.registers.specs.Registers.{size, read, store, written, zeroed, areZero, isWithin, within}
-use Rattle.registers.proofs.Rows.{place, wide}
-use Rattle.registers.proofs.Laws.{RegistersFit, store-fits, length-store, store-within, part-stays, length-zeroed, zeroed-bytes, zeroed-apart}
+use Rattle.registers.proofs.Rows.{place, wide, end, apart}
+use Rattle.registers.proofs.Laws.{RegistersFit, store-fits, length-store, store-within, part-stays, read-other, length-zeroed, zeroed-bytes, zeroed-apart}
 use Rattle.registers.proofs.Laws.{zeroed-zero, read-zero, zero-bytes}
 use Rattle.registers.specs.Pins.{datainAfter, firingLines, interrupts, sampled}
 use Rattle.registers.specs.Transfer.{withData, completed}
-use Rattle.channels.specs.Rows.{rowOf, dropping, isOn, isAtWork, isKnown, isEnabled, isBusy, held, heldAll, settled, stillHeld, areHeld, allHeld}
+use Rattle.channels.specs.Rows.{rowOf, registerOf, dropping, allDropping, isOn, isAtWork, isKnown, isEnabled, isBusy, held, heldAll, settled, stillHeld, areHeld, allHeld}
 use Rattle.channels.proofs.Owners.{first, many, last, isOwn, switches, switchedBy, busyBy, own-inside, switched-by, busy-by}
-use Rattle.channels.proofs.Owners.{one-or-apart, owner, own-first, own-last, apart-own, touches, proper, commands-proper, dropped, all, all-dropped}
+use Rattle.channels.proofs.Owners.{one-or-apart, owner, own-first, own-last, apart-own, touches, changes, proper, commands-proper}
+use Rattle.channels.proofs.Owners.{begins, ends, grouped, behindCore, isBy, droppedBy, all, all-dropped, Dropper, dropper, control-front, one-control}
 pub use Rattle.channels.proofs.Owners.{Own}
+use Rattle.channels.specs.Groups.{coreSize, spanOf, byDoes, byCommand, groupFor}
 use Rattle.channels.specs.Errors.{ofCommand, decoded}
 use Rattle.channels.specs.Perform.{told, left, replyTo, leftBy, replied, performed}
+use Rattle.channels.specs.declared.groups.Group.{Group}
+use Rattle.channels.specs.declared.groups.Group.the-variants.{Core, Switched}
 use Rattle.channels.specs.declared.rows.Busy.{Busy}
 use Rattle.channels.specs.declared.rows.Busy.the-variants as busy-variants
 use Rattle.channels.specs.declared.rows.Switch.{Switch as RowSwitch}
@@ -62,6 +69,7 @@ pub record Granted (rs : List ℕ) (q : Request) (given : ℕ) (does : Does) : T
   pub command : commandOf (channelOf (q .ch)) (q .cmd) ≡ Known (record { asked = q .len; given = given }) does
   pub byte : given < 256
   pub own : touches (channelOf (q .ch)) does ≡ true
+  pub changed : changes (rowOf (channelOf (q .ch)) .group) does ≡ true
 
 bit : (e : ℕ) → (ltb e 256 && not (eqb e 0)) ≡ true → ErrorBit e
 bit e h =
@@ -90,8 +98,9 @@ module _ (rs : List ℕ) (q : Request) (P : Decoded → Type 0) (wrong : (e : �
         idle = idle;
         command =
             e ∙ ap (λ (n : ℕ). Known (record { asked = n; given = l .given }) does) (sym (eqb-true (q .len) (l .asked) (not-false (eqb (q .len) (l .asked)) f)));
-        byte = ltb-true (l .given) 256 (and-left (ltb (l .given) 256) _ h);
-        own = and-right (ltb (l .given) 256) _ h;
+        byte = ltb-true (l .given) 256 (and-left (ltb (l .given) 256) _ (and-left (ltb (l .given) 256 && touches ch does) _ h));
+        own = and-right (ltb (l .given) 256) _ (and-left (ltb (l .given) 256 && touches ch does) _ h);
+        changed = and-right (ltb (l .given) 256 && touches ch does) _ h;
       }))
 
   pub decoded-cases : P (decoded rs q)
@@ -124,7 +133,7 @@ enabled-alike rs ss e ch = by (rowOf ch .switch) (switched-by ch)
     by : (s : RowSwitch) → switchedBy s ≡ true → isOn rs s ≡ isOn ss s
     by Always h = refl
     by Never h = refl
-    by (Bit r bit) h = ap (λ (x : ℕ). not (eqb (bitAnd x bit) 0)) (own-read channel.Controller rs ss e r h)
+    by (Bit c bit) h = ap (λ (x : ℕ). not (eqb (bitAnd x bit) 0)) (own-read channel.Controller rs ss e (registerOf c) h)
 
 -- a store into another channel's own leaves them
 pub own-elsewhere : (ch k : Channel) (rs : List ℕ) (r q : Register) (v : ℕ) → length rs ≡ size → Own ch q → Own k r → Apart (first ch) (many ch) (first k) (many k)
@@ -155,22 +164,52 @@ held-at [] rs h c m = absurd m
 held-at (d ∷ ds) rs h c (inl e) = rw e (and-left (stillHeld rs (channelOf d)) _ h)
 held-at (d ∷ ds) rs h c (inr m) = held-at ds rs (and-right (stillHeld rs (channelOf d)) _ h) c m
 
-module _ (rs ss : List ℕ) (step : (c : ℕ) → dropped c ≡ true → stillHeld rs (channelOf c) ≡ true → stillHeld ss (channelOf c) ≡ true) where
-  all-through : (cs : List ℕ) → all dropped cs ≡ true → areHeld cs rs ≡ true → areHeld cs ss ≡ true
+-- all are those of each register
+held-append : (cs ds rs : List ℕ) → areHeld (cs ++ ds) rs ≡ (areHeld cs rs && areHeld ds rs)
+unfolding areHeld
+held-append [] ds rs = refl
+held-append (c ∷ cs) ds rs =
+    ap (λ (t : Bool). stillHeld rs (channelOf c) && t) (held-append cs ds rs) ∙ and-assoc (stillHeld rs (channelOf c)) (areHeld cs rs) (areHeld ds rs)
+
+all-three : (rs : List ℕ) → allHeld rs ≡ (areHeld (dropping B) rs && (areHeld (dropping C) rs && areHeld (dropping D) rs))
+all-three rs =
+    held-append (dropping B) (dropping C ++ dropping D) rs
+    ∙ ap (λ (t : Bool). areHeld (dropping B) rs && t) (held-append (dropping C) (dropping D) rs)
+
+held-by : (rs : List ℕ) → allHeld rs ≡ true → (d : Control) → areHeld (dropping d) rs ≡ true
+held-by rs h =
+    let b = both (areHeld (dropping B) rs) _ (sym (all-three rs) ∙ h) in
+    let c = both (areHeld (dropping C) rs) (areHeld (dropping D) rs) (b .1) in
+    λ (d : Control). by (b .0) (c .0) (c .1) d
+  where
+    by : areHeld (dropping B) rs ≡ true → areHeld (dropping C) rs ≡ true → areHeld (dropping D) rs ≡ true → (d : Control)
+        → areHeld (dropping d) rs ≡ true
+    by x y z B = x
+    by x y z C = y
+    by x y z D = z
+
+held-each : (rs : List ℕ) → ((d : Control) → areHeld (dropping d) rs ≡ true) → allHeld rs ≡ true
+held-each rs f = all-three rs ∙ ap₂ _&&_ (f B) (ap₂ _&&_ (f C) (f D))
+
+module _ (d : Control) (rs ss : List ℕ) (step : (c : ℕ) → Dropper d c → stillHeld rs (channelOf c) ≡ true → stillHeld ss (channelOf c) ≡ true) where
+  all-through : (cs : List ℕ) → all (droppedBy d) cs ≡ true → areHeld cs rs ≡ true → areHeld cs ss ≡ true
   unfolding areHeld
   all-through [] a h = refl
   all-through (c ∷ cs) a h =
-      let d = both (dropped c) (all dropped cs) a in
+      let k = both (droppedBy d c) (all (droppedBy d) cs) a in
       let e = both (stillHeld rs (channelOf c)) (areHeld cs rs) h in
-      ap₂ _&&_ (step c (d .0) (e .0)) (all-through cs (d .1) (e .1))
+      ap₂ _&&_ (step c (dropper d c (k .0)) (e .0)) (all-through cs (k .1) (e .1))
+
+  through : allHeld rs ≡ true → areHeld (dropping d) ss ≡ true
+  through h = all-through (dropping d) (all-dropped d) (held-by rs h d)
 
 -- A DISABLED CHANNEL THAT DROPS ITS REGISTERS HOLDS THEM ALL AT 0
-pub disabled-holds : (rs : List ℕ) → allHeld rs ≡ true → (c : ℕ) → among c dropping → isEnabled rs (channelOf c) ≡ false
+pub disabled-holds : (rs : List ℕ) → allHeld rs ≡ true → (c : ℕ) → among c allDropping → isEnabled rs (channelOf c) ≡ false
     → (r : Register) → Own (channelOf c) r → read rs r ≡ 0
 unfolding stillHeld
 disabled-holds rs h c m off r o =
     let ch = channelOf c in
-    let zeros = or-second (isEnabled rs ch) (areZero (first ch) (many ch) rs) (held-at dropping rs h c m) off in
+    let zeros = or-second (isEnabled rs ch) (areZero (first ch) (many ch) rs) (held-at allDropping rs h c m) off in
     read-zero (first ch) (many ch) rs r zeros (own-first ch r o) (own-last ch r o)
 
 -- ---- sound registers: bytes, as many as they should be, no bit set that reads 0, and what a channel drops at 0 while it is disabled
@@ -183,7 +222,7 @@ pub record Sound (rs : List ℕ) : Type 0 where
 -- a register that may be stored into: no switch, and of no channel that is disabled and drops it
 pub record Free (rs : List ℕ) (r : Register) : Type 0 where
   pub behind : switches ≤ place r
-  pub apart : (c : ℕ) → dropped c ≡ true
+  pub apart : (c : ℕ) → behindCore ≤ first (channelOf c)
       → (isEnabled rs (channelOf c) ≡ true) ⊎ Apart (first (channelOf c)) (many (channelOf c)) (place r) (wide r)
 
 -- what is stored into a free register leaves sound registers
@@ -193,8 +232,9 @@ stored-sound rs r v f s =
       fits = store-fits rs r v (s .fits);
       masked = store-within rs r v (s .fits .long) (s .masked);
       held =
-          all-through rs (store rs r v)
-          (λ c d h. held-through rs (store rs r v) (channelOf c) (stays (channelOf c)) (same (channelOf c) (f .apart c d)) h) dropping all-dropped (s .held);
+          held-each (store rs r v)
+          (λ d. through d rs (store rs r v)
+          (λ c k h. held-through rs (store rs r v) (channelOf c) (stays (channelOf c)) (same (channelOf c) (f .apart c (k .behind))) h) (s .held));
     }
   where
     stays : (ch : Channel) → isEnabled (store rs r v) ch ≡ isEnabled rs ch
@@ -214,15 +254,14 @@ own-free rs ch r on h =
     decide k (inl e) = inl (rw e on)
     decide k (inr o) = inr (apart-own ch r (and-left (isOwn ch r) _ h) (first k) (many k) o)
 
--- so is the SEU counter, which no channel drops
-pub counter-free : (rs : List ℕ) → Free rs Seu
-counter-free rs =
-    record { behind = lit≤ tt; apart = λ c d. inr (le-or-le _ _ _ _ (and-right (leb switches (first (channelOf c))) _ d)) }
+-- so is what no channel drops: the SEU counter, the DAC, the ID
+core-free : (rs : List ℕ) (r : Register) → switches ≤ place r → end r ≤ behindCore → Free rs r
+core-free rs r b e = record { behind = b; apart = λ c l. inr (inr (omega arith)) }
 
 -- ---- after a switch
 
-behind-switches : (c : ℕ) → dropped c ≡ true → switches ≤ first (channelOf c)
-behind-switches c d = leb-true switches _ (and-left (leb switches (first (channelOf c))) _ d)
+behind-switches : (d : Control) (c : ℕ) → Dropper d c → switches ≤ first (channelOf c)
+behind-switches d c k = let l = k .behind in omega arith
 
 or-true : (t : Bool) → (t || true) ≡ true
 or-true true = refl
@@ -252,11 +291,14 @@ module _ (k : Channel) (rs : List ℕ) (n : length rs ≡ size) where
 
   cleared-within : within rs ≡ true → within cleared ≡ true
   cleared-within h =
-      let front = both (isWithin rs Crb && isWithin rs Crd) (isWithin rs Intenable) h in
-      let two = both (isWithin rs Crb) (isWithin rs Crd) (front .0) in
+      let h3 = both (isWithin rs Crb && isWithin rs Crd && isWithin rs ChipId) (isWithin rs Intenable) h in
+      let h2 = both (isWithin rs Crb && isWithin rs Crd) (isWithin rs ChipId) (h3 .0) in
+      let h1 = both (isWithin rs Crb) (isWithin rs Crd) (h2 .0) in
       ap₂ _&&_
-      (ap₂ _&&_ (stays-within Crb (cleared-read channel.Controller Crb refl) (two .0)) (stays-within Crd (cleared-read channel.Controller Crd refl) (two .1)))
-      (stays-within Intenable (cleared-read channel.Gpio Intenable refl) (front .1))
+      (ap₂ _&&_
+      (ap₂ _&&_ (stays-within Crb (cleared-read channel.Controller Crb refl) (h1 .0)) (stays-within Crd (cleared-read channel.Controller Crd refl) (h1 .1)))
+      (stays-within ChipId (cleared-read channel.Id ChipId refl) (h2 .1)))
+      (stays-within Intenable (cleared-read channel.Gpio Intenable refl) (h3 .1))
 
   -- what holds of registers, and of them with these at 0, holds of them held
   held-cases : (P : List ℕ → Type 0) → P rs → P cleared → P (held rs k)
@@ -292,57 +334,118 @@ module _ (k : Channel) (rs : List ℕ) (n : length rs ≡ size) where
             (inr (held-cases (λ s. SameOwn j s rs) refl (zeroed-apart (first k) (many k) rs room (first j) (many j) a))) h
 
 -- what each one's holding keeps, the holding of all keeps
-module _ (P : List ℕ → Type 0) (step : (k : Channel) (rs : List ℕ) → length rs ≡ size → switches ≤ first k → P rs → P (held rs k)) where
-  all-keep : (cs : List ℕ) → all dropped cs ≡ true → (rs : List ℕ) → length rs ≡ size → P rs → P (heldAll cs rs)
+module _ (d : Control) (P : List ℕ → Type 0) (step : (c : ℕ) (rs : List ℕ) → length rs ≡ size → Dropper d c → P rs → P (held rs (channelOf c))) where
+  all-keep : (cs : List ℕ) → all (droppedBy d) cs ≡ true → (rs : List ℕ) → length rs ≡ size → P rs → P (heldAll cs rs)
   unfolding heldAll
   all-keep [] a rs n p = p
   all-keep (c ∷ cs) a rs n p =
-      let d = both (dropped c) (all dropped cs) a in
-      all-keep cs (d .1) (held rs (channelOf c)) (length-held (channelOf c) rs n) (step (channelOf c) rs n (behind-switches c (d .0)) p)
+      let k = both (droppedBy d c) (all (droppedBy d) cs) a in
+      all-keep cs (k .1) (held rs (channelOf c)) (length-held (channelOf c) rs n) (step c rs n (dropper d c (k .0)) p)
 
-  settled-keeps : (rs : List ℕ) → length rs ≡ size → P rs → P (settled rs)
-  settled-keeps = all-keep dropping all-dropped
+  settled-keeps : (rs : List ℕ) → length rs ≡ size → P rs → P (settled d rs)
+  settled-keeps = all-keep (dropping d) (all-dropped d)
 
-pub length-settled : (rs : List ℕ) → length rs ≡ size → length (settled rs) ≡ size
-length-settled rs n = settled-keeps (λ s. length s ≡ size) (λ k s m _ _. length-held k s m) rs n n
+module _ (d : Control) (rs : List ℕ) (n : length rs ≡ size) where
+  pub length-settled : length (settled d rs) ≡ size
+  length-settled = settled-keeps d (λ s. length s ≡ size) (λ c s m _ _. length-held (channelOf c) s m) rs n n
 
-settled-switches : (rs : List ℕ) → length rs ≡ size → SameOwn channel.Controller (settled rs) rs
-settled-switches rs n = settled-keeps (λ s. SameOwn channel.Controller s rs) (λ k s m b e. held-switches k s m b ∙ e) rs n refl
+  settled-switches : SameOwn channel.Controller (settled d rs) rs
+  settled-switches =
+      settled-keeps d (λ s. SameOwn channel.Controller s rs) (λ c s m k e. held-switches (channelOf c) s m (behind-switches d c k) ∙ e) rs n refl
 
-pub settled-enabled : (rs : List ℕ) → length rs ≡ size → (ch : Channel) → isEnabled (settled rs) ch ≡ isEnabled rs ch
-settled-enabled rs n = enabled-alike (settled rs) rs (settled-switches rs n)
+  pub settled-enabled : (ch : Channel) → isEnabled (settled d rs) ch ≡ isEnabled rs ch
+  settled-enabled = enabled-alike (settled d rs) rs settled-switches
 
--- settling takes nothing from a 0
-pub settled-zero : (rs : List ℕ) → length rs ≡ size → (j : Channel) (r : Register) → Own j r → read rs r ≡ 0 → read (settled rs) r ≡ 0
-settled-zero rs n j r o z = settled-keeps (λ s. read s r ≡ 0) (λ k s m _ e. held-zero k s m j r o e) rs n z
+  -- settling takes nothing from a 0
+  pub settled-zero : (j : Channel) (r : Register) → Own j r → read rs r ≡ 0 → read (settled d rs) r ≡ 0
+  settled-zero j r o z = settled-keeps d (λ s. read s r ≡ 0) (λ c s m _ e. held-zero (channelOf c) s m j r o e) rs n z
 
-all-settled : (cs : List ℕ) → all dropped cs ≡ true → (rs : List ℕ) → length rs ≡ size → areHeld cs (heldAll cs rs) ≡ true
+  settled-still : (ch : Channel) → stillHeld rs ch ≡ true → stillHeld (settled d rs) ch ≡ true
+  settled-still ch h =
+      settled-keeps d (λ s. stillHeld s ch ≡ true) (λ c s m k e. held-others (channelOf c) s m (behind-switches d c k) ch e) rs n h
+
+all-settled : (d : Control) (cs : List ℕ) → all (droppedBy d) cs ≡ true → (rs : List ℕ) → length rs ≡ size → areHeld cs (heldAll cs rs) ≡ true
 unfolding areHeld heldAll
-all-settled [] a rs n = refl
-all-settled (c ∷ cs) a rs n =
-    let d = both (dropped c) (all dropped cs) a in
-    let k = channelOf c in
+all-settled d [] a rs n = refl
+all-settled d (c ∷ cs) a rs n =
+    let e = both (droppedBy d c) (all (droppedBy d) cs) a in
+    let ch = channelOf c in
     ap₂ _&&_
-    (all-keep (λ s. stillHeld s k ≡ true) (λ j s m b h. held-others j s m b k h) cs (d .1) (held rs k) (length-held k rs n)
-    (held-itself k rs n (behind-switches c (d .0))))
-    (all-settled cs (d .1) (held rs k) (length-held k rs n))
+    (all-keep d (λ s. stillHeld s ch ≡ true) (λ j s m k h. held-others (channelOf j) s m (behind-switches d j k) ch h) cs (e .1) (held rs ch)
+    (length-held ch rs n) (held-itself ch rs n (behind-switches d c (dropper d c (e .0)))))
+    (all-settled d cs (e .1) (held rs ch) (length-held ch rs n))
 
-pub settled-held : (rs : List ℕ) → length rs ≡ size → allHeld (settled rs) ≡ true
-settled-held rs n = all-settled dropping all-dropped rs n
+-- WHAT A REGISTER DISABLES DROPS ALL THAT IT HELD
+pub settled-drops : (d : Control) (rs : List ℕ) → length rs ≡ size → (c : ℕ) → among c (dropping d) → isEnabled rs (channelOf c) ≡ false
+    → (r : Register) → Own (channelOf c) r → read (settled d rs) r ≡ 0
+unfolding stillHeld
+settled-drops d rs n c m off r o =
+    let ch = channelOf c in
+    let now = settled-enabled d rs n ch ∙ off in
+    let held = held-at (dropping d) (settled d rs) (all-settled d (dropping d) (all-dropped d) rs n) c m in
+    read-zero (first ch) (many ch) (settled d rs) r (or-second (isEnabled (settled d rs) ch) _ held now) (own-first ch r o) (own-last ch r o)
 
--- whatever was switched, what is left is sound
-settled-sound : (rs : List ℕ) → RegistersFit rs → within rs ≡ true → Sound (settled rs)
-settled-sound rs f h =
-    record {
-      fits =
-          record {
-            long = length-settled rs (f .long);
-            bytes =
-                settled-keeps AreBytes (λ k s n _ b. held-cases k s n AreBytes b (zeroed-bytes (first k) (many k) s b)) rs (f .long) (f .bytes);
-          };
-      masked = settled-keeps (λ s. within s ≡ true) (λ k s n _ w. held-cases k s n (λ s. within s ≡ true) w (cleared-within k s n w)) rs (f .long) h;
-      held = settled-held rs (f .long);
-    }
+-- each is the controller's own
+pub controls-own : (c : Control) → Own channel.Controller (registerOf c)
+controls-own B = refl
+controls-own C = refl
+controls-own D = refl
+
+-- a channel that another register switches does not notice
+other-switch : (d : Control) (s : RowSwitch) (rs ss : List ℕ) → isBy d s ≡ true → read ss (registerOf d) ≡ read rs (registerOf d) → isOn ss s ≡ isOn rs s
+other-switch d Always rs ss h e = refl
+other-switch d Never rs ss h e = refl
+other-switch B (Bit B bit) rs ss h e = ap (λ (x : ℕ). not (eqb (bitAnd x bit) 0)) e
+other-switch B (Bit C bit) rs ss h e = absurd (false≢true h)
+other-switch B (Bit D bit) rs ss h e = absurd (false≢true h)
+other-switch C (Bit B bit) rs ss h e = absurd (false≢true h)
+other-switch C (Bit C bit) rs ss h e = ap (λ (x : ℕ). not (eqb (bitAnd x bit) 0)) e
+other-switch C (Bit D bit) rs ss h e = absurd (false≢true h)
+other-switch D (Bit B bit) rs ss h e = absurd (false≢true h)
+other-switch D (Bit C bit) rs ss h e = absurd (false≢true h)
+other-switch D (Bit D bit) rs ss h e = ap (λ (x : ℕ). not (eqb (bitAnd x bit) 0)) e
+
+-- whatever a register of the controller's is given, what is left is sound
+module _ (c : Control) (rs : List ℕ) (v : ℕ) (s : Sound rs) where
+  abbrev switched : List ℕ
+  switched = written rs (registerOf c) v
+
+  fitting : RegistersFit switched
+  fitting = store-fits rs (registerOf c) _ (s .fits)
+
+  other-held : (d : Control) → apart (registerOf d) (registerOf c) ≡ true → (k : ℕ) → Dropper d k → stillHeld rs (channelOf k) ≡ true
+      → stillHeld (settled c switched) (channelOf k) ≡ true
+  other-held d o k j h =
+      let l = j .behind in
+      let e = control-front c in
+      settled-still c switched (fitting .long) (channelOf k)
+      (held-through rs switched (channelOf k)
+      (other-switch d (rowOf (channelOf k) .switch) rs switched (j .switched) (read-other rs (registerOf c) _ (s .fits .long) (registerOf d) o))
+      (inr (part-stays rs (registerOf c) _ (s .fits .long) (first (channelOf k)) (many (channelOf k)) (inr (omega arith)))) h)
+
+  switched-held : (d : Control) → areHeld (dropping d) (settled c switched) ≡ true
+  switched-held d = by (one-control c d)
+    where
+      by : (d ≡ c) ⊎ (apart (registerOf d) (registerOf c) ≡ true) → areHeld (dropping d) (settled c switched) ≡ true
+      by (inl e) = rw e (all-settled c (dropping c) (all-dropped c) switched (fitting .long))
+      by (inr o) = through d rs (settled c switched) (other-held d o) (s .held)
+
+  switched-sound : Sound (settled c switched)
+  switched-sound =
+      record {
+        fits =
+            record {
+              long = length-settled c switched (fitting .long);
+              bytes =
+                  settled-keeps c AreBytes (λ k s n _ b. held-cases (channelOf k) s n AreBytes b (zeroed-bytes (first (channelOf k)) (many (channelOf k)) s b))
+                  switched (fitting .long) (fitting .bytes);
+            };
+        masked =
+            settled-keeps c (λ s. within s ≡ true)
+            (λ k s n _ w. held-cases (channelOf k) s n (λ s. within s ≡ true) w (cleared-within (channelOf k) s n w)) switched (fitting .long)
+            (store-within rs (registerOf c) _ (s .fits .long) (s .masked));
+        held = held-each (settled c switched) switched-held;
+      }
 
 -- ---- every request leaves sound registers
 
@@ -354,10 +457,8 @@ ReplyBytes Later = Unit
 module _ (rs : List ℕ) (q : Request) (s : Sound rs) where
   left-sound : (given : ℕ) (does : Does) → Granted rs q given does → Sound (left rs q does)
   left-sound given (Write r) g = stored-sound rs r _ (own-free rs (channelOf (q .ch)) r (g .enabled) (g .own)) s
-  left-sound given (Switch r) g =
-      settled-sound (written rs r (q .value)) (store-fits rs r _ (s .fits)) (store-within rs r _ (s .fits .long) (s .masked))
+  left-sound given (Switch c) g = switched-sound c rs (q .value) s
   left-sound given (Read r) g = s
-  left-sound given ReadId g = s
   left-sound given (Clear r) g = stored-sound rs r 0 (own-free rs (channelOf (q .ch)) r (g .enabled) (g .own)) s
   left-sound given (Start r) g = stored-sound rs r (q .trn) (own-free rs (channelOf (q .ch)) r (g .enabled) (g .own)) s
 
@@ -365,24 +466,27 @@ module _ (rs : List ℕ) (q : Request) (s : Sound rs) where
   unfolding performed
   performed-sound = decoded-cases rs q (λ d. Sound (leftBy rs q d)) (λ _ _. s) left-sound
 
-module _ (rs : List ℕ) (id : ℕ) (q : Request) where
-  told-bytes : (given : ℕ) (does : Does) → Granted rs q given does → ReplyBytes (told rs id given does)
+module _ (rs : List ℕ) (q : Request) where
+  told-bytes : (given : ℕ) (does : Does) → Granted rs q given does → ReplyBytes (told rs given does)
   told-bytes given (Write r) g = (lit< tt, g .byte)
-  told-bytes given (Switch r) g = (lit< tt, g .byte)
+  told-bytes given (Switch c) g = (lit< tt, g .byte)
   told-bytes given (Read r) g = (lit< tt, g .byte)
-  told-bytes given ReadId g = (lit< tt, g .byte)
   told-bytes given (Clear r) g = (lit< tt, g .byte)
   told-bytes given (Start r) g = tt
 
-  pub replied-bytes : ReplyBytes (replied rs id q)
+  pub replied-bytes : ReplyBytes (replied rs q)
   unfolding replied
-  replied-bytes = decoded-cases rs q (λ d. ReplyBytes (replyTo rs id d)) (λ e b. (b .byte, lit< tt)) told-bytes
+  replied-bytes = decoded-cases rs q (λ d. ReplyBytes (replyTo rs d)) (λ e b. (b .byte, lit< tt)) told-bytes
 
 -- ---- so do a pin sample, a transfer and an upset, each stored where it may be
 
-pub power-on-sound : Sound (replicate size 0)
+zeros-sound : Sound (replicate size 0)
 unfolding read areHeld stillHeld areZero part number allZero channelOf
-power-on-sound = record { fits = record { long = refl; bytes = zero-bytes size }; masked = refl; held = refl }
+zeros-sound = record { fits = record { long = refl; bytes = zero-bytes size }; masked = refl; held = refl }
+
+-- nothing but an ID
+pub power-on-sound : (id : ℕ) → Sound (store (replicate size 0) ChipId id)
+power-on-sound id = stored-sound (replicate size 0) ChipId id (core-free _ ChipId (lit≤ tt) (lit≤ tt)) zeros-sound
 
 -- sound registers in which a channel is enabled stay so, whatever is stored into its own
 record Working (ch : Channel) (rs : List ℕ) : Type 0 where
@@ -427,7 +531,7 @@ module _ (rs : List ℕ) (s : Sound rs) where
       works channel.Spi _ SpiGo 0 refl w3 .sound
 
   pub upset-sound : (v : ℕ) → Sound (store rs Seu v)
-  upset-sound v = stored-sound rs Seu v (counter-free rs) s
+  upset-sound v = stored-sound rs Seu v (core-free rs Seu (lit≤ tt) (lit≤ tt)) s
 
 -- ---- A CHANNEL ALONE: two states in which it is enabled or not alike, and has the same own bytes, give its request the same reply, and leave its
 -- own bytes the same
@@ -462,28 +566,27 @@ module _ (rs ss : List ℕ) (n : length rs ≡ size) (m : length ss ≡ size) (q
 
   left-alike : (given : ℕ) (does : Does) → Granted rs q given does → SameOwn which (left rs q does) (left ss q does)
   left-alike given (Write r) g = stored-alike r _ (and-left (isOwn which r) _ (g .own))
-  left-alike given (Switch r) g =
+  left-alike given (Switch c) g =
+      let r = registerOf c in
       let mine = and-left (isOwn which r) _ (g .own) in
       let e : which ≡ channel.Controller = owner which channel.Controller r mine (and-right (isOwn which r) _ (g .own)) in
-      let settle : (s : List ℕ) → length s ≡ size → SameOwn which (settled s) s = λ s l. rw e (settled-switches s l) in
+      let settle : (s : List ℕ) → length s ≡ size → SameOwn which (settled c s) s = λ s l. rw e (settled-switches c s l) in
       settle (written rs r (q .value)) (length-store rs r _ n) ∙ stored-alike r _ mine ∙ sym (settle (written ss r (q .value)) (length-store ss r _ m))
   left-alike given (Read r) g = own
-  left-alike given ReadId g = own
   left-alike given (Clear r) g = stored-alike r 0 (and-left (isOwn which r) _ (g .own))
   left-alike given (Start r) g = stored-alike r (q .trn) (and-left (isOwn which r) _ (g .own))
 
-  told-alike : (id given : ℕ) (does : Does) → Granted rs q given does → told rs id given does ≡ told ss id given does
-  told-alike id given (Write r) g = refl
-  told-alike id given (Switch r) g = refl
-  told-alike id given (Read r) g = ap (λ (x : ℕ). Sent 0 given (x * 2 ^ (registers.rowOf r .low) % 2 ^ 32)) (own-read which rs ss own r (g .own))
-  told-alike id given ReadId g = refl
-  told-alike id given (Clear r) g = refl
-  told-alike id given (Start r) g = refl
+  told-alike : (given : ℕ) (does : Does) → Granted rs q given does → told rs given does ≡ told ss given does
+  told-alike given (Write r) g = refl
+  told-alike given (Switch c) g = refl
+  told-alike given (Read r) g = ap (λ (x : ℕ). Sent 0 given (x * 2 ^ (registers.rowOf r .low) % 2 ^ 32)) (own-read which rs ss own r (g .own))
+  told-alike given (Clear r) g = refl
+  told-alike given (Start r) g = refl
 
   -- ERR, LEN and data of the reply
-  pub reply-alike : (id : ℕ) → replied rs id q ≡ replied ss id q
+  pub reply-alike : replied rs q ≡ replied ss q
   unfolding replied
-  reply-alike id = rw (← decoded-alike) (decoded-cases rs q (λ d. replyTo rs id d ≡ replyTo ss id d) (λ _ _. refl) (told-alike id))
+  reply-alike = rw (← decoded-alike) (decoded-cases rs q (λ d. replyTo rs d ≡ replyTo ss d) (λ _ _. refl) told-alike)
 
   -- its own bytes
   pub own-alike : SameOwn which (performed rs q) (performed ss q)
@@ -506,13 +609,101 @@ module _ (rs : List ℕ) (n : length rs ≡ size) (q : Request) (ch : Channel) (
 
   left-elsewhere : (given : ℕ) (does : Does) → Granted rs q given does → SameOwn ch (left rs q does) rs
   left-elsewhere given (Write r) g = stored-elsewhere r _ (and-left (isOwn asked r) _ (g .own))
-  left-elsewhere given (Switch r) g =
+  left-elsewhere given (Switch c) g =
+      let r = registerOf c in
       absurd (no-switch (owner asked channel.Controller r (and-left (isOwn asked r) _ (g .own)) (and-right (isOwn asked r) _ (g .own))))
   left-elsewhere given (Read r) g = refl
-  left-elsewhere given ReadId g = refl
   left-elsewhere given (Clear r) g = stored-elsewhere r 0 (and-left (isOwn asked r) _ (g .own))
   left-elsewhere given (Start r) g = stored-elsewhere r (q .trn) (and-left (isOwn asked r) _ (g .own))
 
   pub others-stay : SameOwn ch (performed rs q) rs
   unfolding performed
   others-stay = decoded-cases rs q (λ d. SameOwn ch (leftBy rs q d) rs) (λ _ _. refl) left-elsewhere
+
+-- ---- A REQUEST CHANGES NOTHING BUT THE CORE AND ITS GROUP, and neither does what happens to a channel
+
+-- every byte behind the core, the ID first, that is not the group's
+abbrev pub Untouched : Group → List ℕ → List ℕ → Type 0
+Untouched g ss rs = (p m : ℕ) → coreSize ≤ p → Apart p m (begins g) (spanOf g .many) → part p m ss ≡ part p m rs
+
+grouped-apart : (g : Group) (r : Register) → grouped g r ≡ true → (p m : ℕ) → coreSize ≤ p → Apart p m (begins g) (spanOf g .many)
+    → Apart p m (place r) (wide r)
+grouped-apart g r h p m l a = by (leb (end r) coreSize) refl h
+  where
+    inside : (begins g ≤ place r) × (end r ≤ ends g) → Apart p m (begins g) (spanOf g .many) → Apart p m (place r) (wide r)
+    inside i (inl b) = let f = i .0 in inl (omega arith)
+    inside i (inr b) = let f = i .1 in inr (omega arith)
+
+    by : (t : Bool) → leb (end r) coreSize ≡ t → (t || leb (begins g) (place r) && leb (end r) (ends g)) ≡ true → Apart p m (place r) (wide r)
+    by true e f = let k = leb-true (end r) coreSize e in inr (omega arith)
+    by false e f =
+        let i = both (leb (begins g) (place r)) (leb (end r) (ends g)) f in
+        inside (leb-true (begins g) (place r) (i .0), leb-true (end r) (ends g) (i .1)) a
+
+module _ (g : Group) (rs : List ℕ) (n : length rs ≡ size) where
+  pub stored-untouched : (r : Register) (v : ℕ) → grouped g r ≡ true → Untouched g (store rs r v) rs
+  stored-untouched r v h p m l a = part-stays rs r v n p m (grouped-apart g r h p m l a)
+
+-- and then a store more
+also-untouched : (g : Group) (rs ss : List ℕ) (r : Register) (v : ℕ) → length ss ≡ size → grouped g r ≡ true → Untouched g ss rs → Untouched g (store ss r v) rs
+also-untouched g rs ss r v n h u p m l a = stored-untouched g ss n r v h p m l a ∙ u p m l a
+
+front-grouped : (c : Control) (g : Group) → grouped g (registerOf c) ≡ true
+front-grouped B g = refl
+front-grouped C g = refl
+front-grouped D g = refl
+
+module _ (rs : List ℕ) (n : length rs ≡ size) where
+  switched-untouched : (c : Control) (v : ℕ) → Untouched (Switched c) (settled c (written rs (registerOf c) v)) rs
+  switched-untouched c v =
+      settled-keeps c (λ s. Untouched (Switched c) s rs)
+      (λ k s m d u p w l a. held-cases (channelOf k) s m (λ t. part p w t ≡ part p w rs) (u p w l a)
+      (zeroed-apart (first (channelOf k)) (many (channelOf k)) s (room (channelOf k) s m) p w (outside k d p w a) ∙ u p w l a))
+      (written rs (registerOf c) v) (length-store rs (registerOf c) _ n) (stored-untouched (Switched c) rs n (registerOf c) _ (front-grouped c (Switched c)))
+    where
+      outside : (k : ℕ) → Dropper c k → (p w : ℕ) → Apart p w (begins (Switched c)) (spanOf (Switched c) .many)
+          → Apart p w (first (channelOf k)) (many (channelOf k))
+      outside k d p w (inl b) = let f = d .from in inl (omega arith)
+      outside k d p w (inr b) = let f = d .to in inr (omega arith)
+
+  module _ (q : Request) where
+    -- what the tables say of it
+    its-group : (given : ℕ) (does : Does) → Granted rs q given does → byDoes (rowOf (channelOf (q .ch)) .group) does ≡ groupFor q
+    unfolding groupFor
+    its-group given does g = ap (byCommand (rowOf (channelOf (q .ch)) .group)) (sym (g .command))
+
+    left-untouched : (given : ℕ) (does : Does) → Granted rs q given does → Untouched (byDoes (rowOf (channelOf (q .ch)) .group) does) (left rs q does) rs
+    left-untouched given (Write r) g = stored-untouched (rowOf (channelOf (q .ch)) .group) rs n r _ (g .changed)
+    left-untouched given (Switch c) g = switched-untouched c (q .value)
+    left-untouched given (Read r) g = λ p m l a. refl
+    left-untouched given (Clear r) g = stored-untouched (rowOf (channelOf (q .ch)) .group) rs n r 0 (g .changed)
+    left-untouched given (Start r) g = stored-untouched (rowOf (channelOf (q .ch)) .group) rs n r (q .trn) (g .changed)
+
+    pub performed-untouched : Untouched (groupFor q) (performed rs q) rs
+    unfolding performed
+    performed-untouched =
+        decoded-cases rs q (λ d. Untouched (groupFor q) (leftBy rs q d) rs) (λ _ _ p m l a. refl)
+        (λ given does g. subst (λ (k : Group). Untouched k (left rs q does) rs) (its-group given does g) (left-untouched given does g))
+
+  pub sampled-untouched : (levels kind : ℕ) → Untouched (Switched B) (sampled rs levels kind) rs
+  unfolding sampled
+  sampled-untouched levels kind =
+      let taken = stored-untouched (Switched B) rs n Datain (datainAfter rs levels kind) refl in
+      cond-cases (λ s. Untouched (Switched B) s rs) (interrupts rs levels kind)
+      (λ _. also-untouched (Switched B) rs _ Ints (firingLines rs (datainAfter rs levels kind)) (length-store rs Datain _ n) refl taken) (λ _. taken)
+
+  pub completed-untouched : (received : List ℕ) → Untouched (Switched B) (completed rs received) rs
+  unfolding completed withData
+  completed-untouched received =
+      let n0 = length-store rs SpiData0 _ n in
+      let n1 = length-store _ SpiData1 _ n0 in
+      let n2 = length-store _ SpiData2 _ n1 in
+      let n3 = length-store _ SpiData3 _ n2 in
+      let u0 = stored-untouched (Switched B) rs n SpiData0 _ refl in
+      let u1 = also-untouched (Switched B) rs _ SpiData1 _ n0 refl u0 in
+      let u2 = also-untouched (Switched B) rs _ SpiData2 _ n1 refl u1 in
+      let u3 = also-untouched (Switched B) rs _ SpiData3 _ n2 refl u2 in
+      also-untouched (Switched B) rs _ SpiGo 0 n3 refl u3
+
+  pub upset-untouched : (v : ℕ) → Untouched Core (store rs Seu v) rs
+  upset-untouched v = stored-untouched Core rs n Seu v refl

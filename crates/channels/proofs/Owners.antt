@@ -1,5 +1,5 @@
 -- What all rows have, computed for each channel: its own bytes stand among the registers, apart from every other channel's; what switches it
--- is a register of the controller's, and what makes it busy its own.
+-- is a register of the controller's, and what makes it busy its own; what its commands change is the core's or its group's.
 use Prim.Native.Nat.{ℕ, _+_, _≤_, _<_}
 use mathlib.Core.Bool.{Bool, true, false, _&&_, _||_, cond}
 use mathlib.Core.List.{List, [], _∷_}
@@ -7,7 +7,7 @@ use mathlib.Core.Logic.{_⊎_, inl, inr}
 use mathlib.Core.Path.{_≡_, refl, sym, _∙_}
 use native.Mathlib.Omega.{arith}
 use borrow.Author.Tests.{leb-true, leb-false, lt-ltb, le-ltb}
-use lib.Dec.{leb, ltb, lit<}
+use lib.Dec.{leb, ltb, lit<, lit≤}
 use Rattle.bits.proofs.Tests.{and-left, and-right, le-or-le}
 use Rattle.parts.proofs.Laws.{Apart}
 use Rattle.commands.specs.declared.channel.Channel.{Channel}
@@ -18,16 +18,20 @@ use Rattle.commands.specs.Command.{codeOf}
 use Rattle.commands.specs.declared.command.Command.{Command}
 use Rattle.commands.specs.declared.command.Command.the-variants as command
 use Rattle.commands.specs.declared.command.Does.{Does}
-use Rattle.commands.specs.declared.command.Does.the-variants.{Write, Switch as Switching, Read, ReadId, Clear, Start}
+use Rattle.commands.specs.declared.command.Control.{Control}
+use Rattle.commands.specs.declared.command.Control.the-variants.{B, C, D}
+use Rattle.commands.specs.declared.command.Does.the-variants.{Write, Switch as Switching, Read, Clear, Start}
 use Rattle.commands.specs.declared.command.Register.{Register}
-use Rattle.commands.specs.declared.command.Register.the-variants as register
 use Rattle.parts.specs.Digits.{bytesIn}
 use Rattle.parts.specs.declared.Width.{Width}
 use Rattle.parts.specs.declared.Width.the-variants.{Byte, Half, Word}
 use Rattle.registers.specs.Registers as registers
 use Rattle.registers.specs.Registers.{size}
-use Rattle.registers.proofs.Rows.{place, wide, end}
-use Rattle.channels.specs.Rows.{rowOf, dropping}
+use Rattle.registers.proofs.Rows.{place, wide, end, apart}
+use Rattle.channels.specs.Rows.{rowOf, registerOf, dropping}
+use Rattle.channels.specs.Groups.{coreSize, spanOf}
+use Rattle.channels.specs.declared.groups.Group.{Group}
+use Rattle.channels.specs.declared.groups.Group.the-variants.{Core, Switched}
 use Rattle.channels.specs.declared.rows.Busy.{Busy}
 use Rattle.channels.specs.declared.rows.Busy.the-variants as busy
 use Rattle.channels.specs.declared.rows.Switch.{Switch}
@@ -57,7 +61,7 @@ switches = 3
 abbrev pub switchedBy : Switch → Bool
 switchedBy Always = true
 switchedBy Never = true
-switchedBy (Bit r bit) = isOwn Controller r
+switchedBy (Bit c bit) = isOwn Controller (registerOf c)
 
 abbrev pub busyBy : Channel → Busy → Bool
 busyBy ch busy.Never = true
@@ -69,8 +73,9 @@ ownerAt p =
     cond (ltb p 3) Controller
     (cond (ltb p 7) Seu
     (cond (ltb p 11) Dac
-    (cond (ltb p 33) Spi
-    Gpio)))
+    (cond (ltb p 15) Id
+    (cond (ltb p 37) Spi
+    Gpio))))
 
 -- ---- channel by channel
 
@@ -91,9 +96,11 @@ owned : (ch : Channel) (p : ℕ) → first ch ≤ p → p < last ch → ownerAt 
 owned Controller p l u = simp (lt-ltb p 3 (omega arith))
 owned Seu p l u = simp (le-ltb p 3 (omega arith), lt-ltb p 7 (omega arith))
 owned Dac p l u = simp (le-ltb p 3 (omega arith), le-ltb p 7 (omega arith), lt-ltb p 11 (omega arith))
-owned Spi p l u = simp (le-ltb p 3 (omega arith), le-ltb p 7 (omega arith), le-ltb p 11 (omega arith), lt-ltb p 33 (omega arith))
-owned Gpio p l u = simp (le-ltb p 3 (omega arith), le-ltb p 7 (omega arith), le-ltb p 11 (omega arith), le-ltb p 33 (omega arith))
-owned Id p l u = absurd (omega arith)
+owned Id p l u = simp (le-ltb p 3 (omega arith), le-ltb p 7 (omega arith), le-ltb p 11 (omega arith), lt-ltb p 15 (omega arith))
+owned Spi p l u =
+    simp (le-ltb p 3 (omega arith), le-ltb p 7 (omega arith), le-ltb p 11 (omega arith), le-ltb p 15 (omega arith), lt-ltb p 37 (omega arith))
+owned Gpio p l u =
+    simp (le-ltb p 3 (omega arith), le-ltb p 7 (omega arith), le-ltb p 11 (omega arith), le-ltb p 15 (omega arith), le-ltb p 37 (omega arith))
 owned Unknown p l u = absurd (omega arith)
 
 -- ---- for every channel
@@ -172,15 +179,32 @@ owner j k r a b =
 
 abbrev pub touches : Channel → Does → Bool
 touches ch (Write r) = isOwn ch r && leb switches (place r)
-touches ch (Switching r) = isOwn ch r && isOwn Controller r
+touches ch (Switching c) = isOwn ch (registerOf c) && isOwn Controller (registerOf c)
 touches ch (Read r) = isOwn ch r
-touches ch ReadId = true
 touches ch (Clear r) = isOwn ch r && leb switches (place r)
 touches ch (Start r) = isOwn ch r && leb switches (place r)
 
+-- a group's first byte, and where another's may start
+abbrev pub begins : Group → ℕ
+begins g = spanOf g .first
+
+abbrev pub ends : Group → ℕ
+ends g = begins g + spanOf g .many
+
+-- a register of the core, but for the ID, or of a group
+abbrev pub grouped : Group → Register → Bool
+grouped g r = leb (end r) coreSize || leb (begins g) (place r) && leb (end r) (ends g)
+
+abbrev pub changes : Group → Does → Bool
+changes g (Write r) = grouped g r
+changes g (Switching c) = true
+changes g (Read r) = true
+changes g (Clear r) = grouped g r
+changes g (Start r) = grouped g r
+
 -- and its reply's LEN is a byte
 abbrev pub proper : Channel → Command → Bool
-proper ch (command.Known l does) = ltb (l .given) 256 && touches ch does
+proper ch (command.Known l does) = ltb (l .given) 256 && touches ch does && changes (rowOf ch .group) does
 proper ch command.Unknown = true
 
 tables : (ch : Channel) → every (proper ch) (commandsOf ch) ≡ true
@@ -196,15 +220,72 @@ pub commands-proper : (ch : Channel) (cmd : ℕ) → proper ch (commandOf ch cmd
 unfolding codeOf
 commands-proper ch cmd = look-every (proper ch) (commandsOf ch) command.Unknown cmd (tables ch) refl
 
--- ---- the channels that drop their registers: these stand behind the switches, and the SEU counter is not among them
+-- ---- the channels that drop their registers: these stand behind the core, in the group that their switch is of
+
+abbrev pub behindCore : ℕ
+behindCore = begins Core
 
 abbrev pub dropped : ℕ → Bool
-dropped c = leb switches (first (channelOf c)) && (leb (last (channelOf c)) (place register.Seu) || leb (end register.Seu) (first (channelOf c)))
+dropped c = leb behindCore (first (channelOf c))
+
+abbrev pub isBy : Control → Switch → Bool
+isBy c Always = false
+isBy c Never = false
+isBy B (Bit B bit) = true
+isBy B (Bit C bit) = false
+isBy B (Bit D bit) = false
+isBy C (Bit B bit) = false
+isBy C (Bit C bit) = true
+isBy C (Bit D bit) = false
+isBy D (Bit B bit) = false
+isBy D (Bit C bit) = false
+isBy D (Bit D bit) = true
+
+abbrev pub droppedBy : Control → ℕ → Bool
+droppedBy d c =
+    dropped c && isBy d (rowOf (channelOf c) .switch) && (leb (begins (Switched d)) (first (channelOf c)) && leb (last (channelOf c)) (ends (Switched d)))
 
 abbrev pub all : (ℕ → Bool) → List ℕ → Bool
 all f [] = true
 all f (c ∷ cs) = f c && all f cs
 
-pub all-dropped : all dropped dropping ≡ true
+pub all-dropped : (d : Control) → all (droppedBy d) (dropping d) ≡ true
 unfolding channelOf
-all-dropped = refl
+all-dropped B = refl
+all-dropped C = refl
+all-dropped D = refl
+
+pub record Dropper (d : Control) (c : ℕ) : Type 0 where
+  pub behind : behindCore ≤ first (channelOf c)
+  pub switched : isBy d (rowOf (channelOf c) .switch) ≡ true
+  pub from : begins (Switched d) ≤ first (channelOf c)
+  pub to : last (channelOf c) ≤ ends (Switched d)
+
+pub dropper : (d : Control) (c : ℕ) → droppedBy d c ≡ true → Dropper d c
+dropper d c h =
+    let ch = channelOf c in
+    let front : Bool = dropped c && isBy d (rowOf ch .switch) in
+    let span = and-right front _ h in
+    record {
+      behind = leb-true behindCore (first ch) (and-left (dropped c) _ (and-left front _ h));
+      switched = and-right (dropped c) _ (and-left front _ h);
+      from = leb-true (begins (Switched d)) (first ch) (and-left (leb (begins (Switched d)) (first ch)) _ span);
+      to = leb-true (last ch) (ends (Switched d)) (and-right (leb (begins (Switched d)) (first ch)) _ span);
+    }
+
+-- the registers of the controller stand in front, one behind the other
+pub control-front : (c : Control) → end (registerOf c) ≤ switches
+control-front B = lit≤ tt
+control-front C = lit≤ tt
+control-front D = lit≤ tt
+
+pub one-control : (c d : Control) → (d ≡ c) ⊎ (apart (registerOf d) (registerOf c) ≡ true)
+one-control B B = inl refl
+one-control B C = inr refl
+one-control B D = inr refl
+one-control C B = inr refl
+one-control C C = inl refl
+one-control C D = inr refl
+one-control D B = inr refl
+one-control D C = inr refl
+one-control D D = inl refl

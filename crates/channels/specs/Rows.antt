@@ -1,15 +1,20 @@
--- A row for each channel: what enables it, what makes it busy, its own bytes among the registers. And what follows from it: what a disabled
--- channel holds.
+-- A row for each channel: what enables it, what makes it busy, the group that its registers are in, its own bytes among the registers. And what
+-- follows from it: what a disabled channel holds.
 use Prim.Native.Nat.{ℕ, _^_}
 use mathlib.Core.Bool.{Bool, true, false, not, _&&_, _||_, cond}
-use mathlib.Core.List.{List, [], _∷_}
+use mathlib.Core.List.{List, [], _∷_, _++_}
 use lib.Bits.{bitAnd}
 use lib.Dec.{eqb}
 use Rattle.commands.specs.Channels.{channelOf}
 use Rattle.commands.specs.declared.channel.Channel.{Channel}
 use Rattle.commands.specs.declared.channel.Channel.the-variants.{Controller, Spi, Gpio, Seu, Id, Dac, Unknown}
-use Rattle.commands.specs.declared.command.Register.the-variants.{Crb, Crd, SpiGo}
+use Rattle.commands.specs.declared.command.Control.{Control}
+use Rattle.commands.specs.declared.command.Control.the-variants.{B, C, D}
+use Rattle.commands.specs.declared.command.Register.{Register}
+use Rattle.commands.specs.declared.command.Register.the-variants.{Crb, Crc, Crd, SpiGo}
 use Rattle.registers.specs.Registers.{read, zeroed, areZero}
+use Rattle.channels.specs.declared.groups.Group.{Group}
+use Rattle.channels.specs.declared.groups.Group.the-variants.{Core, Switched}
 use Rattle.channels.specs.declared.rows.Busy.{Busy}
 use Rattle.channels.specs.declared.rows.Busy.the-variants as busy
 use Rattle.channels.specs.declared.rows.Row.{Row}
@@ -18,30 +23,41 @@ use Rattle.channels.specs.declared.rows.Switch.the-variants.{Always, Nev
 
 -- ---- the rows
 
--- a known channel: its switch, what makes it busy, its own bytes (so many, from a place on)
-abbrev pub row : Switch → Busy → ℕ → ℕ → Row
-row switch busy first many = record { known = true; switch = switch; busy = busy; first = first; many = many }
+-- a known channel: its switch, what makes it busy, its group, its own bytes (so many, from a place on)
+abbrev pub row : Switch → Busy → Group → ℕ → ℕ → Row
+row switch busy group first many = record { known = true; switch = switch; busy = busy; group = group; first = first; many = many }
 
 -- CRB bits 1 SPI, 2 GPIO; CRD bit 3 serves 0x13, bit 4 serves 0x14. The controller and the DAC are always enabled. GO makes SPI busy.
 abbrev pub rowOf : Channel → Row
-rowOf Controller = row Always busy.Never 0 3
-rowOf Spi = row (Bit Crb (2 ^ 1)) (busy.While SpiGo) 11 22
-rowOf Gpio = row (Bit Crb (2 ^ 2)) busy.Never 33 33
-rowOf Seu = row (Bit Crd (2 ^ 3)) busy.Never 3 4
-rowOf Id = row (Bit Crd (2 ^ 4)) busy.Never 0 0
-rowOf Dac = row Always busy.Never 7 4
-rowOf Unknown = record { known = false; switch = Never; busy = busy.Never; first = 0; many = 0 }
+rowOf Controller = row Always busy.Never Core 0 3
+rowOf Spi = row (Bit B (2 ^ 1)) (busy.While SpiGo) (Switched B) 15 22
+rowOf Gpio = row (Bit B (2 ^ 2)) busy.Never (Switched B) 37 33
+rowOf Seu = row (Bit D (2 ^ 3)) busy.Never Core 3 4
+rowOf Id = row (Bit D (2 ^ 4)) busy.Never Core 11 4
+rowOf Dac = row Always busy.Never Core 7 4
+rowOf Unknown = record { known = false; switch = Never; busy = busy.Never; group = Core; first = 0; many = 0 }
 
--- THE CHANNELS THAT HOLD THEIR REGISTERS AT 0 WHILE THEY ARE DISABLED, by number: SPI and GPIO. The SEU counter and ID aren't touched.
-abbrev pub dropping : List ℕ
-dropping = 0x01 ∷ 0x02 ∷ []
+-- THE CHANNELS THAT HOLD THEIR REGISTERS AT 0 WHILE THEY ARE DISABLED, by number, and what switches them: SPI and GPIO. The SEU counter and ID
+-- aren't touched.
+abbrev pub dropping : Control → List ℕ
+dropping B = 0x01 ∷ 0x02 ∷ []
+dropping C = []
+dropping D = []
+
+abbrev pub allDropping : List ℕ
+allDropping = dropping B ++ (dropping C ++ dropping D)
 
 -- ---- what they say of registers
+
+abbrev pub registerOf : Control → Register
+registerOf B = Crb
+registerOf C = Crc
+registerOf D = Crd
 
 abbrev pub isOn : List ℕ → Switch → Bool
 isOn rs Always = true
 isOn rs Never = false
-isOn rs (Bit r bit) = not (eqb (bitAnd (read rs r) bit) 0)
+isOn rs (Bit c bit) = not (eqb (bitAnd (read rs (registerOf c)) bit) 0)
 
 -- a register keeps the TRN of an open start, and no TRN that is answered is 0
 abbrev pub isAtWork : List ℕ → Busy → Bool
@@ -57,7 +73,7 @@ isEnabled rs ch = isOn rs (rowOf ch .switch)
 abbrev pub isBusy : List ℕ → Channel → Bool
 isBusy rs ch = isAtWork rs (rowOf ch .busy)
 
--- ---- after a switch: each of them that is disabled drops what it had, and what it had open
+-- ---- after a switch: each of its channels that is disabled drops what it had, and what it had open
 
 unfoldable pub held : List ℕ → Channel → List ℕ
 held rs ch = cond (isEnabled rs ch) rs (zeroed (rowOf ch .first) (rowOf ch .many) rs)
@@ -66,8 +82,8 @@ unfoldable pub heldAll : List ℕ → List ℕ → List ℕ
 heldAll [] rs = rs
 heldAll (c ∷ cs) rs = heldAll cs (held rs (channelOf c))
 
-abbrev pub settled : List ℕ → List ℕ
-settled rs = heldAll dropping rs
+abbrev pub settled : Control → List ℕ → List ℕ
+settled c rs = heldAll (dropping c) rs
 
 -- ---- in range: each of them is enabled, or its registers are 0
 
@@ -79,4 +95,4 @@ areHeld [] rs = true
 areHeld (c ∷ cs) rs = stillHeld rs (channelOf c) && areHeld cs rs
 
 abbrev pub allHeld : List ℕ → Bool
-allHeld rs = areHeld dropping rs
+allHeld rs = areHeld allDropping rs

@@ -1,6 +1,7 @@
-// The channels: a row each, with what enables it, what makes it busy and its own bytes; the first error of a request; and then what it does,
-// which cannot fail.
+// The channels: a row each, with what enables it, what makes it busy, its group and its own bytes; the first error of a request; and then what
+// it does, which cannot fail.
 mod errors;
+pub mod groups;
 mod perform;
 mod rows;
 
@@ -16,14 +17,14 @@ use commands::request::refusal;
 use errors::Decoded;
 
 // Errors are decided first; what is performed after that cannot fail. Its reply is made before anything is stored.
-pub fn answer(registers: &mut [u8], id: u32, q: Request) -> Reply
+pub fn answer(registers: &mut [u8], q: Request) -> Reply
     requires { ⌜ length (now registers) ≡ size ⌝ }
-    ensures { λ r. ⌜ (r ≡ replied (now (registers .entry)) id q) × (now (registers .exit) ≡ performed (now (registers .entry)) q) ⌝ }
+    ensures { λ r. ⌜ (r ≡ replied (now (registers .entry)) q) × (now (registers .exit) ≡ performed (now (registers .entry)) q) ⌝ }
 {
     match errors::decode(registers, q) {
         Decoded::Wrong(error) => refusal(error),
         Decoded::Right(given, does) => {
-            let told = perform::tell(registers, id, given, does);
+            let told = perform::tell(registers, given, does);
             perform::leave(registers, q, does);
             told
         }

@@ -9,15 +9,14 @@ use commands::request::Reply;
 use commands::request::Request;
 use commands::request::granted;
 
-pub(crate) fn tell(registers: &[u8], id: u32, given: u8, does: Does) -> Reply
+pub(crate) fn tell(registers: &[u8], given: u8, does: Does) -> Reply
     requires { ⌜ length (now registers) ≡ size ⌝ }
-    ensures { λ r. ⌜ r ≡ told (now (registers .entry)) id given does ⌝ }
+    ensures { λ r. ⌜ r ≡ told (now (registers .entry)) given does ⌝ }
 {
     match does {
         Does::Write(_) => granted(given, 0),
         Does::Switch(_) => granted(given, 0),
         Does::Read(which) => granted(given, registers::show(registers, which)),
-        Does::ReadId => granted(given, id),
         Does::Clear(_) => granted(given, 0),
         Does::Start(_) => Reply::Later,
     }
@@ -29,12 +28,8 @@ pub(crate) fn leave(registers: &mut [u8], q: Request, does: Does)
 {
     match does {
         Does::Write(which) => registers::write(registers, which, q.value),
-        Does::Switch(which) => {
-            registers::write(registers, which, q.value);
-            rows::settle(registers);
-        }
+        Does::Switch(control) => rows::switch_by(registers, control, q.value),
         Does::Read(_) => {}
-        Does::ReadId => {}
         Does::Clear(which) => registers::store(registers, which, 0),
         Does::Start(which) => registers::store(registers, which, q.trn as u32),
     }

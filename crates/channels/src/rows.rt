@@ -1,11 +1,13 @@
-// A row for each channel: what enables it, what makes it busy, its own bytes among the registers. And what follows from it: what a disabled
-// channel holds.
+// A row for each channel: what enables it, what makes it busy, the group that its registers are in, its own bytes among the registers. And what
+// follows from it: what a disabled channel holds.
 ghost use mathlib.Core.Path.{_≡_};
 ghost use lib.ListN.{length};
-ghost use Rattle.registers.specs.Registers.{size};
-ghost use Rattle.channels.specs.Rows.{row, rowOf, isOn, isAtWork, isEnabled, isBusy, held, settled, stillHeld, allHeld};
+ghost use Rattle.registers.specs.Registers.{size, written};
+ghost use Rattle.channels.specs.Rows.{row, rowOf, registerOf, isOn, isAtWork, isEnabled, isBusy, held, heldAll, settled, stillHeld, areHeld, allHeld};
+use crate::groups::Group;
 use commands::channel::Channel;
 use commands::channel::channel_of;
+use commands::command::Control;
 use commands::command::Register;
 use registers::read;
 
@@ -13,7 +15,7 @@ use registers::read;
 pub enum Switch {
     Always,
     Never,
-    Bit(Register, u32),
+    Bit(Control, u32),
 }
 
 // What makes a channel busy: a register that keeps the TRN of an open start.
@@ -27,18 +29,20 @@ pub struct Row {
     pub known: bool,
     pub switch: Switch,
     pub busy: Busy,
+    pub group: Group,
     pub first: usize,
     pub many: usize,
 }
 
 // The row of a channel that is known.
-fn known(switch: Switch, busy: Busy, first: usize, many: usize) -> Row
-    ensures { λ r. ⌜ r ≡ row switch busy first many ⌝ }
+fn known(switch: Switch, busy: Busy, group: Group, first: usize, many: usize) -> Row
+    ensures { λ r. ⌜ r ≡ row switch busy group first many ⌝ }
 {
     Row {
         known: true,
         switch: switch,
         busy: busy,
+        group: group,
         first: first,
         many: many,
     }
@@ -48,31 +52,59 @@ pub(crate) fn row_of(which: Channel) -> Row
     ensures { λ r. ⌜ r ≡ rowOf which ⌝ }
 {
     match which {
-        Channel::Controller => known(Switch::Always, Busy::Never, 0, 3),
+        Channel::Controller => known(Switch::Always, Busy::Never, Group::Core, 0, 3),
         Channel::Spi => known(
-            Switch::Bit(Register::Crb, 0x02),
+            Switch::Bit(Control::B, 0x02),
             Busy::While(Register::SpiGo),
-            11,
+            Group::Switched(Control::B),
+            15,
             22,
         ),
-        Channel::Gpio => known(Switch::Bit(Register::Crb, 0x04), Busy::Never, 33, 33),
-        Channel::Seu => known(Switch::Bit(Register::Crd, 0x08), Busy::Never, 3, 4),
-        Channel::Id => known(Switch::Bit(Register::Crd, 0x10), Busy::Never, 0, 0),
-        Channel::Dac => known(Switch::Always, Busy::Never, 7, 4),
+        Channel::Gpio => known(
+            Switch::Bit(Control::B, 0x04),
+            Busy::Never,
+            Group::Switched(Control::B),
+            37,
+            33,
+        ),
+        Channel::Seu => known(
+            Switch::Bit(Control::D, 0x08),
+            Busy::Never,
+            Group::Core,
+            3,
+            4,
+        ),
+        Channel::Id => known(
+            Switch::Bit(Control::D, 0x10),
+            Busy::Never,
+            Group::Core,
+            11,
+            4,
+        ),
+        Channel::Dac => known(Switch::Always, Busy::Never, Group::Core, 7, 4),
         Channel::Unknown => Row {
             known: false,
             switch: Switch::Never,
             busy: Busy::Never,
+            group: Group::Core,
             first: 0,
             many: 0,
         },
     }
 }
 
-// The channels that hold their registers at 0 while they are disabled, by number: SPI, GPIO.
-const DROPPING: [u8; DROPPERS] = [0x01, 0x02];
+// The channels that hold their registers at 0 while they are disabled, by number, and what switches them: SPI, GPIO.
+const DROPPING_B: [u8; 2] = [0x01, 0x02];
 
-const DROPPERS: usize = 2;
+fn register_of(control: Control) -> Register
+    ensures { λ r. ⌜ r ≡ registerOf control ⌝ }
+{
+    match control {
+        Control::B => Register::Crb,
+        Control::C => Register::Crc,
+        Control::D => Register::Crd,
+    }
+}
 
 fn is_on(registers: &[u8], switch: Switch) -> bool
     requires { ⌜ length (now registers) ≡ size ⌝ }
@@ -81,7 +113,7 @@ fn is_on(registers: &[u8], switch: Switch) -> bool
     match switch {
         Switch::Always => true,
         Switch::Never => false,
-        Switch::Bit(which, bit) => read(registers, which) & bit != 0,
+        Switch::Bit(control, bit) => read(registers, register_of(control)) & bit != 0,
     }
 }
 
@@ -124,17 +156,39 @@ fn hold(registers: &mut [u8], which: Channel)
     registers::clear(registers, row.first, row.many);
 }
 
-// A disabled channel drops what it had, and what it had open.
-pub(crate) fn settle(registers: &mut [u8])
+fn hold_all(registers: &mut [u8], numbers: &[u8])
     requires { ⌜ length (now registers) ≡ size ⌝ }
-    ensures { λ _. ⌜ now (registers .exit) ≡ settled (now (registers .entry)) ⌝ }
+    ensures { λ _. ⌜ now (registers .exit) ≡ heldAll (now (numbers .entry)) (now (registers .entry)) ⌝ }
 {
-    let dropping = DROPPING;
     let mut i = 0;
-    while i < DROPPERS {
-        hold(registers, channel_of(dropping[i]));
+    while i < numbers.len() {
+        hold(registers, channel_of(numbers[i]));
         i += 1;
     }
+}
+
+// A disabled channel drops what it had, and what it had open: each that this register switches.
+fn settle(registers: &mut [u8], control: Control)
+    requires { ⌜ length (now registers) ≡ size ⌝ }
+    ensures { λ _. ⌜ now (registers .exit) ≡ settled control (now (registers .entry)) ⌝ }
+{
+    match control {
+        Control::B => {
+            let numbers = DROPPING_B;
+            hold_all(registers, &numbers);
+        }
+        Control::C => {}
+        Control::D => {}
+    }
+}
+
+// A register of the controller's takes what stands for it in D.
+pub(crate) fn switch_by(registers: &mut [u8], control: Control, value: u32)
+    requires { ⌜ length (now registers) ≡ size ⌝ }
+    ensures { λ _. ⌜ now (registers .exit) ≡ settled control (written (now (registers .entry)) (registerOf control) value) ⌝ }
+{
+    registers::write(registers, register_of(control), value);
+    settle(registers, control);
 }
 
 // A channel that is enabled may hold anything; its registers are looked at only where it is not.
@@ -149,16 +203,23 @@ fn still_holds(registers: &[u8], which: Channel) -> bool
     registers::are_zero(registers, row.first, row.many)
 }
 
+fn all_hold(registers: &[u8], numbers: &[u8]) -> bool
+    requires { ⌜ length (now registers) ≡ size ⌝ }
+    ensures { λ r. ⌜ r ≡ areHeld (now (numbers .entry)) (now (registers .entry)) ⌝ }
+{
+    let mut all = true;
+    let mut i = 0;
+    while i < numbers.len() {
+        all = all & still_holds(registers, channel_of(numbers[i]));
+        i += 1;
+    }
+    all
+}
+
 pub(crate) fn are_held(registers: &[u8]) -> bool
     requires { ⌜ length (now registers) ≡ size ⌝ }
     ensures { λ r. ⌜ r ≡ allHeld (now (registers .entry)) ⌝ }
 {
-    let dropping = DROPPING;
-    let mut all = true;
-    let mut i = 0;
-    while i < DROPPERS {
-        all = all & still_holds(registers, channel_of(dropping[i]));
-        i += 1;
-    }
-    all
+    let numbers = DROPPING_B;
+    all_hold(registers, &numbers)
 }

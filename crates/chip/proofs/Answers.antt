@@ -1,36 +1,47 @@
 -- What requests come to. `search` finds the premises in what a need knows, wherever they stand.
 use Prim.Native.Nat.{ℕ}
 use mathlib.Core.List.{List}
-use mathlib.Core.Path.{_≡_, refl}
+use mathlib.Core.Path.{_≡_, refl, ap, ap₂, _∙_}
 use lib.ListN.{length}
 use Rattle.commands.specs.declared.request.Request.{Request}
 use Rattle.commands.specs.declared.request.Reply.{Reply}
 use Rattle.commands.specs.declared.request.Reply.the-variants.{Sent, Later}
 use Rattle.numbers.specs.Numbers.{noFrame}
 use Rattle.parts.specs.Parts.{put}
-use Rattle.packets.specs.Packets.{requestOf}
-use Rattle.channels.specs.Perform.{replied, performed}
-use Rattle.state.specs.State.{withRegisters}
-use Rattle.chip.specs.Answer.{sends, gives, response, Said, said, says}
+use Rattle.packets.specs.Packets.{requestOf, replyBody}
+use Rattle.channels.specs.Perform as channels
+use Rattle.link.specs.Link.{replyControl, sendUp}
+use Rattle.link.specs.declared.Link.{Link}
+use Rattle.state.specs.State.{adapter}
+use Rattle.chip.specs.Answer.{sends, sent, given, said, says}
 use Rattle.chip.specs.Request.{replies, finished, requested}
-use Rattle.state.specs.declared.Adapter.{Adapter}
 use Rattle.chip.specs.declared.Response.{Response}
 
 -- a frame written at the front of the output is the one that is sent
-pub laid-out : (a : Adapter) (port : ℕ) (s o p : List ℕ) → p ≡ put 0 s o
-    → said (record { adapter = a; number = 0; port = port; length = length s }) p ≡ says (sends a port s) o
-laid-out a port s o p e = rw e refl
+pub laid-out : (l : Link) (port : ℕ) (s o p rs : List ℕ) (r : Response) → r ≡ sent l port (length s) → p ≡ put 0 s o
+    → said r rs p ≡ says (sends (adapter l rs) port s) o
+laid-out l port s o p rs r e f = rw (e, f) refl
 
-module _ (a : Adapter) (trn ch : ℕ) (t : Reply) (o : List ℕ) where
-  pub told : (x : Said) (err len d : ℕ) → t ≡ Sent err len d → x ≡ says (replies a trn ch err len d) o → x ≡ says (finished a trn ch t) o
-  told x err len d e p = simp (e, p)
+module _ (l : Link) (trn ch err len d : ℕ) (o p : List ℕ) (r : Response) where
+  pub replied : (m : Link) (k : ℕ) (s : List ℕ) → m ≡ sendUp l → k ≡ replyControl l → s ≡ replyBody k trn ch err len d
+      → r ≡ sent m (l .port) (length s) → p ≡ put 0 s o → (rs : List ℕ) → said r rs p ≡ says (replies (adapter l rs) trn ch err len d) o
+  unfolding replies
+  replied m k s f g b e w rs =
+      laid-out m (l .port) s o p rs r e w ∙ ap₂ (λ (n : Link) (t : List ℕ). says (sends (adapter n rs) (l .port) t) o) f
+      (b ∙ ap (λ (c : ℕ). replyBody c trn ch err len d) g)
 
-  pub later : (r : Response) → t ≡ Later → r ≡ response (gives a noFrame) → said r o ≡ says (finished a trn ch t) o
-  later r e p = simp (e, p)
+module _ (l : Link) (trn ch : ℕ) (t : Reply) (o : List ℕ) (r : Response) where
+  pub told : (p : List ℕ) (err len d : ℕ) → t ≡ Sent err len d
+      → ((rs : List ℕ) → said r rs p ≡ says (replies (adapter l rs) trn ch err len d) o)
+      → (rs : List ℕ) → said r rs p ≡ says (finished (adapter l rs) trn ch t) o
+  told p err len d e f rs = simp (e, f rs)
 
-module _ (a : Adapter) (s o : List ℕ) (x : Said) where
-  pub done : (q : Request) (t : Reply) (after : List ℕ) → q ≡ requestOf s → t ≡ replied (a .registers) (a .id) q → after ≡ performed (a .registers) q
-      → x ≡ says (finished (withRegisters a after) (q .trn) (q .ch) t) o
-      → x ≡ says (requested a s) o
+  pub later : t ≡ Later → r ≡ given l noFrame → (rs : List ℕ) → said r rs o ≡ says (finished (adapter l rs) trn ch t) o
+  later e f rs = simp (e, f)
+
+module _ (l : Link) (rs s o : List ℕ) where
+  pub done : (q : Request) (t : Reply) (after p : List ℕ) (r : Response) → q ≡ requestOf s → t ≡ channels.replied rs q → after ≡ channels.performed rs q
+      → ((ts : List ℕ) → said r ts p ≡ says (finished (adapter l ts) (q .trn) (q .ch) t) o)
+      → said r after p ≡ says (requested (adapter l rs) s) o
   unfolding requested
-  done q t after e p l g = simp (g, p, l, e)
+  done q t after p r e f g h = h after ∙ simp (f, g, e)

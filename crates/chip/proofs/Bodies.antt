@@ -17,7 +17,7 @@ use Rattle.packets.specs.Packets.{replyBody}
 use Rattle.chip.specs.Request.{replies}
 use Rattle.chip.specs.Frame.{controlOf}
 use Rattle.chip.specs.Chip.{reaction}
-use Rattle.state.specs.declared.Adapter.{Adapter}
+use Rattle.state.specs.State.{Adapter}
 use Rattle.chip.proofs.EventFits.{EventFits}
 use Rattle.chip.proofs.Steps.{Shape, dropped, acknowledged, echoed, rejected, replied, quiet, HeaderBytes, moved-port, shapes}
 

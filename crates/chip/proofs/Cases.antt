@@ -2,7 +2,7 @@
 use Prim.Native.Nat.{ℕ, suc, _-_, _≤_}
 use mathlib.Core.Bool.{Bool, true, false}
 use mathlib.Core.List.{List, [], _∷_}
-use mathlib.Core.Path.{_≡_, refl, sym, ap, _∙_}
+use mathlib.Core.Path.{_≡_, refl, sym, _∙_}
 use native.Mathlib.Nat.{le-of-eq}
 use native.Mathlib.Omega.{arith}
 use borrow.Author.Tests.{eq-eqb, ne-eqb}
@@ -12,13 +12,20 @@ use lib.ListN.{length, getD, take, drop, length-drop}
 use lib.Seq.{take-all}
 use Rattle.bits.proofs.Bits.{bit-set, bit-clear}
 use Rattle.numbers.specs.Numbers.{otherAddress, otherPort, otherControl, badInformation}
-use Rattle.packets.specs.Packets.{replyBody}
-use Rattle.state.specs.State.{withLink}
-use Rattle.chip.specs.Answer.{sends, gives, response, Said, said, says}
-use Rattle.link.specs.Link.{acknowledgeControl, rejectControl, replyControl, receiveNumber, receiveUp, sendUp, numberIn, inLoopback}
-use Rattle.chip.specs.Request.{replies, requested}
-use Rattle.chip.specs.Frame.{isConnect, isReset, isResetFrame, isTest, connected, reset, looped, commanded, numbered, carried, addressed, onFrame}
-use Rattle.state.specs.declared.Adapter.{Adapter}
+use Rattle.parts.specs.Parts.{put}
+use Rattle.packets.specs.Packets.{requestOf}
+use Rattle.commands.specs.declared.command.Register.the-variants.{ChipId}
+use Rattle.commands.specs.declared.request.Request.{Request}
+use Rattle.registers.specs.Registers.{read}
+use Rattle.channels.specs.Groups.{groupFor}
+use Rattle.channels.specs.declared.groups.Group.{Group}
+use Rattle.channels.specs.declared.groups.Group.the-variants.{Core}
+use Rattle.state.specs.State.{adapter, blank, poweredOn}
+use Rattle.chip.specs.Answer.{sent, given, Said, said, says}
+use Rattle.link.specs.Link.{acknowledgeControl, rejectControl, receiveNumber, receiveUp, numberIn, freshLink, loopedAt, inLoopback}
+use Rattle.chip.specs.Request.{requested}
+use Rattle.chip.specs.Frame.{isConnect, isReset, isResetFrame, isTest, reset, acknowledges, commanded, numbered, carried, addressed, onFrame}
+use Rattle.chip.specs.Group.{groupOfFrame}
 use Rattle.chip.specs.declared.Response.{Response}
 use Rattle.link.specs.declared.Link.{Link}
 
@@ -32,87 +39,112 @@ information s n m e f = length-drop 2 s ∙ (let g : length s - 2 ≡ m = omega 
 
 -- ---- commands
 
--- the same link is the same state
-pub relinks : (a : Adapter) (l m : Link) → l ≡ m → withLink a l ≡ withLink a m
-relinks a l m e = ap (withLink a) e
+pub acknowledges-on : (l : Link) (port control k : ℕ) (o p : List ℕ) (r : Response) → k ≡ acknowledgeControl control → r ≡ sent l port 2
+    → p ≡ put 0 (0 ∷ k ∷ []) o → (rs : List ℕ) → said r rs p ≡ says (acknowledges (adapter l rs) port control) o
+acknowledges-on l port control k o p r e f g rs = simp (f, g, e)
 
-module _ (a b : Adapter) (port : ℕ) (s o : List ℕ) where
-  pub acknowledged : (x : Said) (k : ℕ) → length s ≡ 2 → k ≡ acknowledgeControl (getD s 1 0) → x ≡ says (sends b port (0 ∷ k ∷ [])) o
-      → x ≡ says (commanded a b port s) o
-  unfolding commanded
-  acknowledged x k l e p = simp (eq-eqb (length (drop 2 s)) 0 (information s 2 0 l refl), p, e)
+module _ (s : List ℕ) where
+  empty : length s ≡ 2 → eqb (length (drop 2 s)) 0 ≡ true
+  empty n = eq-eqb (length (drop 2 s)) 0 (information s 2 0 n refl)
 
-  pub informed : (r : Response) → (length s ≡ 2 → ⊥) → 2 ≤ length s → r ≡ response (gives a badInformation) → said r o ≡ says (commanded a b port s) o
+  full : (length s ≡ 2 → ⊥) → 2 ≤ length s → eqb (length (drop 2 s)) 0 ≡ false
+  full n h = ne-eqb (length (drop 2 s)) 0 (λ e. n (omega (arith, length-drop 2 s)))
+
+module _ (l m : Link) (port : ℕ) (s o p : List ℕ) (r : Response) where
+  pub acknowledged : length s ≡ 2 → ((rs : List ℕ) → said r rs p ≡ says (acknowledges (adapter m rs) port (getD s 1 0)) o)
+      → (rs : List ℕ) → said r rs p ≡ says (commanded (adapter l rs) (adapter m rs) port s) o
   unfolding commanded
-  informed r l h p = simp (ne-eqb (length (drop 2 s)) 0 (λ e. l (omega (arith, length-drop 2 s))), p)
+  acknowledged n e rs = simp (empty s n, e rs)
+
+module _ (l m : Link) (port : ℕ) (s o : List ℕ) (r : Response) where
+  pub informed : (length s ≡ 2 → ⊥) → 2 ≤ length s → r ≡ given l badInformation
+      → (rs : List ℕ) → said r rs o ≡ says (commanded (adapter l rs) (adapter m rs) port s) o
+  unfolding commanded
+  informed n h e rs = simp (full s n h, e)
+
+module _ (l : Link) (rs : List ℕ) (port : ℕ) (s o : List ℕ) (r : Response) where
+  pub reset-done : (m : Link) (id : ℕ) (ss p : List ℕ) → length s ≡ 2 → id ≡ read rs ChipId → ss ≡ blank id → m ≡ freshLink port
+      → ((ts : List ℕ) → said r ts p ≡ says (acknowledges (adapter m ts) port (getD s 1 0)) o)
+      → said r ss p ≡ says (commanded (adapter l rs) (reset (adapter l rs) port) port s) o
+  unfolding commanded poweredOn
+  reset-done m id ss p n e f g h = h ss ∙ simp (empty s n, f, e, g)
+
+  pub reset-informed : (length s ≡ 2 → ⊥) → 2 ≤ length s → r ≡ given l badInformation
+      → said r rs o ≡ says (commanded (adapter l rs) (reset (adapter l rs) port) port s) o
+  unfolding commanded
+  reset-informed n h e = simp (full s n h, e)
 
 -- ---- checks 7 and 8
 
-module _ (a : Adapter) (port control : ℕ) (s o : List ℕ) (x : Said) (n m : ℕ) (p : n ≡ numberIn control) (q : m ≡ receiveNumber (a .link)) where
-  pub next : (l : Link) → n ≡ m → l ≡ receiveUp (a .link) → x ≡ says (requested (withLink a l) s) o → x ≡ says (numbered a port control s) o
+module _ (l : Link) (rs : List ℕ) (port control : ℕ) (s o : List ℕ) (n m : ℕ) (f : n ≡ numberIn control) (g : m ≡ receiveNumber l) where
+  pub next : (x : Said) (k : Link) → n ≡ m → k ≡ receiveUp l → x ≡ says (requested (adapter k rs) s) o → x ≡ says (numbered (adapter l rs) port control s) o
   unfolding numbered
-  next l e f g = simp (eq-eqb _ _ (sym p ∙ e ∙ q), g, f)
+  next x k e h i = simp (eq-eqb _ _ (sym f ∙ e ∙ g), i, h)
 
-  pub rejected : (k : ℕ) → (n ≡ m → ⊥) → k ≡ rejectControl (a .link) → x ≡ says (sends a port (0 ∷ k ∷ [])) o → x ≡ says (numbered a port control s) o
+  pub rejected : (r : Response) (p : List ℕ) (k : ℕ) → (n ≡ m → ⊥) → k ≡ rejectControl l → r ≡ sent l port 2 → p ≡ put 0 (0 ∷ k ∷ []) o
+      → said r rs p ≡ says (numbered (adapter l rs) port control s) o
   unfolding numbered
-  rejected k e f g = simp (ne-eqb _ _ (λ z. e (p ∙ z ∙ sym q)), g, f)
+  rejected r p k e h i w = simp (ne-eqb _ _ (λ z. e (f ∙ z ∙ sym g)), i, w, h)
 
 -- ---- checks 4 to 8
 
-module _ (a : Adapter) (port : ℕ) (s o : List ℕ) (t : Bool) (q : t ≡ inLoopback (a .link) port) where
-  pub echoed : (x : Said) → t ≡ true → x ≡ says (sends a port s) o → x ≡ says (carried a port s) o
+module _ (l : Link) (rs : List ℕ) (port : ℕ) (s o : List ℕ) (t : Bool) (q : t ≡ inLoopback l port) where
+  pub echoed : (r : Response) (p : List ℕ) → t ≡ true → r ≡ sent l port (length s) → p ≡ put 0 s o → said r rs p ≡ says (carried (adapter l rs) port s) o
   unfolding carried
-  echoed x e g = simp (sym q ∙ e, g)
+  echoed r p e g h = simp (sym q ∙ e, g, h)
 
-  pub inactive : (r : Response) → t ≡ false → (port ≡ a .link .port → ⊥) → r ≡ response (gives a otherPort) → said r o ≡ says (carried a port s) o
+  pub inactive : (r : Response) → t ≡ false → (port ≡ l .port → ⊥) → r ≡ given l otherPort → said r rs o ≡ says (carried (adapter l rs) port s) o
   unfolding carried
   inactive r e h g = simp (sym q ∙ e, ne-eqb _ _ h, g)
 
-  pub misfit : (r : Response) → t ≡ false → port ≡ a .link .port → (length s - 2 ≡ 8 → ⊥) → r ≡ response (gives a badInformation)
-      → said r o ≡ says (carried a port s) o
+  pub misfit : (r : Response) → t ≡ false → port ≡ l .port → (length s - 2 ≡ 8 → ⊥) → r ≡ given l badInformation
+      → said r rs o ≡ says (carried (adapter l rs) port s) o
   unfolding carried
-  misfit r e h l g = simp (sym q ∙ e, eq-eqb _ _ h, ne-eqb (length (drop 2 s)) 8 (λ x. l (sym (length-drop 2 s) ∙ x)), g)
+  misfit r e h n g = simp (sym q ∙ e, eq-eqb _ _ h, ne-eqb (length (drop 2 s)) 8 (λ x. n (sym (length-drop 2 s) ∙ x)), g)
 
-  pub fitting : (x : Said) → t ≡ false → port ≡ a .link .port → length s - 2 ≡ 8
-      → x ≡ says (numbered a port (getD s 1 0) (take (length s - 2) (drop 2 s))) o → x ≡ says (carried a port s) o
+  pub fitting : (x : Said) → t ≡ false → port ≡ l .port → length s - 2 ≡ 8
+      → x ≡ says (numbered (adapter l rs) port (getD s 1 0) (take (length s - 2) (drop 2 s))) o → x ≡ says (carried (adapter l rs) port s) o
   unfolding carried
-  fitting x e h l g = simp (sym q ∙ e, eq-eqb _ _ h, eq-eqb (length (drop 2 s)) 8 (length-drop 2 s ∙ l), g, rest)
+  fitting x e h n g = simp (sym q ∙ e, eq-eqb _ _ h, eq-eqb (length (drop 2 s)) 8 (length-drop 2 s ∙ n), g, rest)
 
 -- ---- checks 2 to 8
 
-module _ (a : Adapter) (port : ℕ) (s o : List ℕ) (t : Bool) (p : t ≡ isConnect (getD s 1 0)) where
-  pub connects : (x : Said) (b : Adapter) → t ≡ true → b ≡ connected a port → x ≡ says (commanded a b port s) o → x ≡ says (addressed a port s) o
+module _ (l : Link) (rs : List ℕ) (port : ℕ) (s o : List ℕ) (t : Bool) (f : t ≡ isConnect (getD s 1 0)) where
+  pub connects : (r : Response) (p : List ℕ) (m : Link) → t ≡ true → m ≡ freshLink port
+      → ((ts : List ℕ) → said r ts p ≡ says (commanded (adapter l ts) (adapter m ts) port s) o) → said r rs p ≡ says (addressed (adapter l rs) port s) o
   unfolding addressed
-  connects x b e f g = simp (sym p ∙ e, g, f)
+  connects r p m e g h = simp (sym f ∙ e, h rs, g)
 
   module _ (u : Bool) (q : u ≡ isReset (getD s 1 0)) where
-    pub resets : (x : Said) (b : Adapter) → t ≡ false → u ≡ true → b ≡ reset a port → x ≡ says (commanded a b port s) o → x ≡ says (addressed a port s) o
+    pub resets : (x : Said) → t ≡ false → u ≡ true → x ≡ says (commanded (adapter l rs) (reset (adapter l rs) port) port s) o
+        → x ≡ says (addressed (adapter l rs) port s) o
     unfolding addressed
-    resets x b e f h g = simp (sym p ∙ e, sym q ∙ f, g, h)
+    resets x e g h = simp (sym f ∙ e, sym q ∙ g, h)
 
     module _ (v : Bool) (w : v ≡ isTest (getD s 1 0)) where
-      pub tests : (x : Said) (b : Adapter) → t ≡ false → u ≡ false → v ≡ true → b ≡ looped a port
-          → x ≡ says (commanded a b port s) o → x ≡ says (addressed a port s) o
+      pub tests : (r : Response) (p : List ℕ) (m : Link) → t ≡ false → u ≡ false → v ≡ true → m ≡ loopedAt l port
+          → ((ts : List ℕ) → said r ts p ≡ says (commanded (adapter l ts) (adapter m ts) port s) o) → said r rs p ≡ says (addressed (adapter l rs) port s) o
       unfolding addressed
-      tests x b e f h i g = simp (sym p ∙ e, sym q ∙ f, sym w ∙ h, g, i)
+      tests r p m e g h i k = simp (sym f ∙ e, sym q ∙ g, sym w ∙ h, k rs, i)
 
-      pub odd : (r : Response) → t ≡ false → u ≡ false → v ≡ false → (bitAnd (getD s 1 0) 1 ≡ 0 → ⊥) → r ≡ response (gives a otherControl)
-          → said r o ≡ says (addressed a port s) o
+      pub odd : (r : Response) → t ≡ false → u ≡ false → v ≡ false → (bitAnd (getD s 1 0) 1 ≡ 0 → ⊥) → r ≡ given l otherControl
+          → said r rs o ≡ says (addressed (adapter l rs) port s) o
       unfolding addressed
-      odd r e f h i g = simp (sym p ∙ e, sym q ∙ f, sym w ∙ h, bit-set (getD s 1 0) 0 i, g)
+      odd r e g h i k = simp (sym f ∙ e, sym q ∙ g, sym w ∙ h, bit-set (getD s 1 0) 0 i, k)
 
-      pub carries : (x : Said) → t ≡ false → u ≡ false → v ≡ false → bitAnd (getD s 1 0) 1 ≡ 0 → x ≡ says (carried a port s) o → x ≡ says (addressed a port s) o
+      pub carries : (x : Said) → t ≡ false → u ≡ false → v ≡ false → bitAnd (getD s 1 0) 1 ≡ 0 → x ≡ says (carried (adapter l rs) port s) o
+          → x ≡ says (addressed (adapter l rs) port s) o
       unfolding addressed
-      carries x e f h i g = simp (sym p ∙ e, sym q ∙ f, sym w ∙ h, bit-clear (getD s 1 0) 0 i, g)
+      carries x e g h i k = simp (sym f ∙ e, sym q ∙ g, sym w ∙ h, bit-clear (getD s 1 0) 0 i, k)
 
 -- ---- checks 1 to 8
 
-module _ (a : Adapter) (port : ℕ) (s o : List ℕ) where
-  pub other-chip : (r : Response) → (getD s 0 0 ≡ 0 → ⊥) → r ≡ response (gives a otherAddress) → said r o ≡ says (onFrame a port s) o
+module _ (l : Link) (rs : List ℕ) (port : ℕ) (s o : List ℕ) where
+  pub other-chip : (r : Response) → (getD s 0 0 ≡ 0 → ⊥) → r ≡ given l otherAddress → said r rs o ≡ says (onFrame (adapter l rs) port s) o
   unfolding onFrame
   other-chip r h g = simp (ne-eqb _ _ h, g)
 
-  pub this-chip : (x : Said) → getD s 0 0 ≡ 0 → x ≡ says (addressed a port s) o → x ≡ says (onFrame a port s) o
+  pub this-chip : (x : Said) → getD s 0 0 ≡ 0 → x ≡ says (addressed (adapter l rs) port s) o → x ≡ says (onFrame (adapter l rs) port s) o
   unfolding onFrame
   this-chip x h g = simp (eq-eqb _ _ h, g)
 
@@ -136,12 +168,15 @@ module _ (s : List ℕ) where
   unfolding isResetFrame
   reset-command z t p e h = simp (eq-eqb _ _ z, sym p ∙ e) (emptied s h)
 
--- ---- replies
+-- ---- the group of a frame
 
-module _ (a : Adapter) (trn ch err len d : ℕ) (o : List ℕ) (x : Said) where
-  pub replied : (l : Link) (k : ℕ) (s : List ℕ) → l ≡ sendUp (a .link) → k ≡ replyControl (a .link) → s ≡ replyBody k trn ch err len d
-      → x ≡ says (sends (withLink a l) (a .link .port) s) o → x ≡ says (replies a trn ch err len d) o
-  unfolding replies
-  replied l k s p q b e =
-      e ∙ ap (λ (m : Link). says (sends (withLink a m) (a .link .port) s) o) p
-      ∙ ap (λ (t : List ℕ). says (sends (withLink a (sendUp (a .link))) (a .link .port) t) o) (b ∙ ap (λ (c : ℕ). replyBody c trn ch err len d) q)
+module _ (s : List ℕ) where
+  pub of-request : (q : Request) (g : Group) → length s ≡ 10 → q ≡ requestOf (take (10 - 2) (drop 2 s)) → g ≡ groupFor q → g ≡ groupOfFrame s
+  unfolding groupOfFrame
+  of-request q g n e f =
+      let k : length (drop 2 s) ≡ 8 = information s 10 8 n refl in
+      simp (f, e, take-all 8 (drop 2 s) (le-of-eq k), eq-eqb (length (drop 2 s)) 8 k)
+
+  pub of-no-request : (length s ≡ 10 → ⊥) → 2 ≤ length s → Core ≡ groupOfFrame s
+  unfolding groupOfFrame
+  of-no-request n h = simp (ne-eqb (length (drop 2 s)) 8 (λ e. n (omega (arith, length-drop 2 s))))

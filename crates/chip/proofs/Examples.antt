@@ -15,15 +15,14 @@ use Rattle.channels.specs.Rows.{held, heldAll}
 use Rattle.channels.specs.Errors.{decoded}
 use Rattle.channels.specs.Perform.{replied, performed}
 use Rattle.chip.specs.Event.{spi, Event, frame, completion, sample, upset}
-use Rattle.state.specs.State.{poweredOn, powerOn, withRegisters}
+use Rattle.state.specs.State.{Adapter, poweredOn, powerOn, withRegisters}
 use Rattle.parts.specs.Parts.{part, put}
 use Rattle.parts.specs.Digits.{word as fourBytes, number, digits}
 use Rattle.chip.specs.Answer.{Reaction, laid}
 use Rattle.packets.specs.Packets.{byteOf}
 use Rattle.chip.specs.Request.{replies, requested}
 use Rattle.chip.specs.Frame.{commanded, numbered, carried, addressed, onFrame}
-use Rattle.chip.specs.Chip.{reaction, onSpi, onSample, onUpset}
-use Rattle.state.specs.declared.Adapter.{Adapter}
+use Rattle.chip.specs.Chip.{reaction, transferred, onSpi, onSample, onUpset}
 
 -- the bench's chip
 abbrev fresh : Adapter
@@ -249,7 +248,7 @@ pub record Tables : Type 0 where
 
 pub tables : Tables
 unfolding
-    reaction onFrame addressed commanded carried numbered requested replied performed decoded replies onSpi onSample onUpset put poweredOn word
+    reaction onFrame addressed commanded carried numbered requested replied performed decoded replies onSpi transferred onSample onUpset put poweredOn word
     channelOf codeOf registers.read registers.store registers.zeroed held heldAll completed withData dataAfter completedWord
     interrupts sampled datainAfter firingLines part number digits
 tables =

@@ -1,12 +1,12 @@
 -- Every event keeps a state good: its fields hold what their machine types hold, and it is in the range of document 01's number 6.
 use Prim.Native.Nat.{ℕ, _≤_}
+use mathlib.Core.List.{List}
 use mathlib.Core.Path.{subst}
 use native.Mathlib.Omega.{arith}
 use lib.Dec.{lit≤}
 use Rattle.channels.proofs.Laws.{performed-sound, sampled-sound, completed-sound, upset-sound}
 use Rattle.link.specs.Link.{sendUp}
-use Rattle.state.specs.State.{withLink}
-use Rattle.state.specs.declared.Adapter.{Adapter}
+use Rattle.state.specs.State.{Adapter, withLink}
 use Rattle.state.proofs.Good.{Good, powered-good, relinked, stored}
 use Rattle.chip.specs.Event.{Event}
 use Rattle.chip.specs.Frame.{counted}
@@ -20,13 +20,13 @@ counted-good a g = relinked a _ g (g .send) (omega arith) (g .port)
 raised-good : (a : Adapter) → Good a → Good (withLink a (sendUp (a .link)))
 raised-good a g = relinked a _ g (omega arith) (g .receive) (g .port)
 
-commanded-good : (a : Adapter) (port control : ℕ) (b : Adapter) → Commanded a port control b → Good a → port ≤ 1 → Good b
-commanded-good a port control b (connects _) g p = relinked a _ g (lit≤ tt) (lit≤ tt) p
-commanded-good a port control b (resets _) g p = powered-good port (a .id) p (g .id)
-commanded-good a port control b (tests _) g p = relinked a _ g (g .send) (g .receive) (g .port)
+commanded-good : (a : Adapter) (port : ℕ) (body : List ℕ) (b : Adapter) → Commanded a port body b → Good a → port ≤ 1 → Good b
+commanded-good a port body b (connects _) g p = relinked a _ g (lit≤ tt) (lit≤ tt) p
+commanded-good a port body b (resets _) g p = powered-good port _ p
+commanded-good a port body b (tests _) g p = relinked a _ g (g .send) (g .receive) (g .port)
 
 moved-good : (a : Adapter) (e : Event) (b : Adapter) → Moved a e b → Good a → Good b
-moved-good a e b (requests port body) g =
+moved-good a e b (requests port body _) g =
     stored (counted a) _ (counted-good a g) (performed-sound (a .registers) _ (g .registers))
 moved-good a e b (completes received h) g = stored a _ g (completed-sound (a .registers) (g .registers) received h)
 moved-good a e b (samples levels kind h) g = stored a _ g (sampled-sound (a .registers) (g .registers) levels kind h)

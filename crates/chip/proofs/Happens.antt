@@ -12,48 +12,53 @@ use Rattle.registers.specs.Pins.{interrupts, sampled}
 use Rattle.registers.specs.Transfer.{completed}
 use Rattle.channels.specs.Rows.{isEnabled, isBusy}
 use Rattle.commands.specs.Request.{interruptTransaction}
+use Rattle.link.specs.declared.Link.{Link}
+use Rattle.state.specs.State.{adapter}
 use Rattle.chip.specs.Event.{spi, frame, completion, sample, upset}
 use Rattle.chip.specs.Numbers.{spiChannel, gpioChannel, interruptLength}
-use Rattle.state.specs.State.{withRegisters}
-use Rattle.chip.specs.Answer.{gives, response, Said, said, says}
+use Rattle.chip.specs.Answer.{given, Said, said, says}
 use Rattle.chip.specs.Request.{replies}
 use Rattle.chip.specs.Frame.{onFrame}
-use Rattle.chip.specs.Chip.{onSpi, onSample, onUpset, reaction}
-use Rattle.state.specs.declared.Adapter.{Adapter}
+use Rattle.chip.specs.Chip.{transferred, onSpi, onSample, onUpset, reaction}
 use Rattle.chip.specs.declared.Response.{Response}
 
-pub checked : (a : Adapter) (port : ℕ) (s o : List ℕ) (x : Said) → x ≡ says (onFrame a port s) o → x ≡ says (reaction a (frame port s)) o
+pub checked : (l : Link) (rs : List ℕ) (port : ℕ) (s o : List ℕ) (x : Said) → x ≡ says (onFrame (adapter l rs) port s) o
+    → x ≡ says (reaction (adapter l rs) (frame port s)) o
 unfolding reaction
-checked a port s o x e = e
+checked l rs port s o x e = e
 
-module _ (a : Adapter) (s o : List ℕ) (busy : Bool) (b : busy ≡ isBusy (a .registers) Spi) where
-  pub idle : (r : Response) → busy ≡ false → r ≡ response (gives a notBusy) → said r o ≡ says (reaction a (completion (spi s))) o
+pub transfers : (l : Link) (rs s o p after : List ℕ) (r : Response) (trn d : ℕ) → after ≡ completed rs s → trn ≡ read rs SpiGo → d ≡ read after SpiData0
+    → ((ts : List ℕ) → said r ts p ≡ says (replies (adapter l ts) (trn % 0x100) spiChannel 0 (go .given) d) o)
+    → said r after p ≡ says (transferred (adapter l rs) s) o
+unfolding transferred
+transfers l rs s o p after r trn d c t v g = g after ∙ simp (v, t, c)
+
+module _ (l : Link) (rs s o : List ℕ) (busy : Bool) (b : busy ≡ isBusy rs Spi) where
+  pub idle : (r : Response) → busy ≡ false → r ≡ given l notBusy → said r rs o ≡ says (reaction (adapter l rs) (completion (spi s))) o
   unfolding reaction onSpi
   idle r e g = simp (sym b ∙ e, g)
 
-  pub completes : (x : Said) (after : List ℕ) (trn d : ℕ) → busy ≡ true → after ≡ completed (a .registers) s
-      → trn ≡ read (a .registers) SpiGo → d ≡ read after SpiData0
-      → x ≡ says (replies (withRegisters a after) (trn % 0x100) spiChannel 0 (go .given) d) o → x ≡ says (reaction a (completion (spi s))) o
+  pub completes : (x : Said) → busy ≡ true → x ≡ says (transferred (adapter l rs) s) o → x ≡ says (reaction (adapter l rs) (completion (spi s))) o
   unfolding reaction onSpi
-  completes x after trn d e c t v g = simp (sym b ∙ e, g, v, t, c)
+  completes x e g = simp (sym b ∙ e, g)
 
-module _ (a : Adapter) (levels kind : ℕ) (o : List ℕ) (on : Bool) (e : on ≡ isEnabled (a .registers) Gpio) where
-  pub disabled : (r : Response) → on ≡ false → r ≡ response (gives a linesDisabled) → said r o ≡ says (reaction a (sample levels kind)) o
+module _ (l : Link) (rs : List ℕ) (levels kind : ℕ) (o : List ℕ) (on : Bool) (e : on ≡ isEnabled rs Gpio) where
+  pub disabled : (r : Response) → on ≡ false → r ≡ given l linesDisabled → said r rs o ≡ says (reaction (adapter l rs) (sample levels kind)) o
   unfolding reaction onSample
   disabled r h g = simp (sym e ∙ h, g)
 
-  module _ (h : on ≡ true) (t : Bool) (p : t ≡ interrupts (a .registers) levels kind) (after : List ℕ) (l : after ≡ sampled (a .registers) levels kind) where
-    pub interrupted : (x : Said) (d : ℕ) → t ≡ true → d ≡ read after Ints
-        → x ≡ says (replies (withRegisters a after) interruptTransaction gpioChannel 0 interruptLength d) o
-        → x ≡ says (reaction a (sample levels kind)) o
+  module _ (h : on ≡ true) (t : Bool) (f : t ≡ interrupts rs levels kind) (after : List ℕ) (k : after ≡ sampled rs levels kind) where
+    pub interrupted : (r : Response) (p : List ℕ) (d : ℕ) → t ≡ true → d ≡ read after Ints
+        → ((ts : List ℕ) → said r ts p ≡ says (replies (adapter l ts) interruptTransaction gpioChannel 0 interruptLength d) o)
+        → said r after p ≡ says (reaction (adapter l rs) (sample levels kind)) o
     unfolding reaction onSample
-    interrupted x d i v g = simp (sym e ∙ h, ← l, sym p ∙ i, g, v)
+    interrupted r p d i v g = simp (sym e ∙ h, ← k, sym f ∙ i, g after, v)
 
-    pub taken : (r : Response) → t ≡ false → r ≡ response (gives (withRegisters a after) noFrame) → said r o ≡ says (reaction a (sample levels kind)) o
+    pub taken : (r : Response) → t ≡ false → r ≡ given l noFrame → said r after o ≡ says (reaction (adapter l rs) (sample levels kind)) o
     unfolding reaction onSample
-    taken r i g = simp (sym e ∙ h, ← l, sym p ∙ i, g)
+    taken r i g = simp (sym e ∙ h, ← k, sym f ∙ i, g)
 
-pub upsets : (a : Adapter) (r : Response) (was n : ℕ) (after : List ℕ) → was ≡ read (a .registers) Seu → n ≡ (was + 1) % 2 ^ 32
-    → after ≡ store (a .registers) Seu n → r ≡ response (gives (withRegisters a after) noFrame) → r ≡ response (reaction a upset)
+pub upsets : (l : Link) (rs : List ℕ) (r : Response) (was n : ℕ) (after : List ℕ) → was ≡ read rs Seu → n ≡ (was + 1) % 2 ^ 32
+    → after ≡ store rs Seu n → r ≡ given l noFrame → (o : List ℕ) → said r after o ≡ says (reaction (adapter l rs) upset) o
 unfolding reaction onUpset
-upsets a r was n after w e s g = simp (g, s, e, w)
+upsets l rs r was n after w e s g o = simp (g, s, e, w)

@@ -3,37 +3,42 @@ use Prim.Native.Nat.{ℕ, _≤_}
 use mathlib.Core.Bool.{Bool, true, false, _&&_, _||_}
 use mathlib.Core.List.{List, [], _∷_}
 use mathlib.Core.Logic.{_⊎_, inl, inr}
-use mathlib.Core.Path.{_≡_, refl, sym, ap, subst, _∙_}
+use mathlib.Core.Path.{_≡_, refl, sym, ap, subst}
 use native.Mathlib.Omega.{arith}
 use borrow.Author.Tests.{eqb-true}
 use lib.Dec.{eqb}
 use lib.ListN.{length}
 use Rattle.packets.specs.Packets.{address, requestOf}
 use Rattle.chip.specs.Event.{Event, frame}
-use Rattle.state.specs.State.{poweredOn, withRegisters}
-use Rattle.chip.specs.Answer.{Reaction, sends, gives, response, Said, said, says}
+use Rattle.state.specs.State.{Adapter, adapter, poweredOn, withRegisters}
+use Rattle.chip.specs.Answer.{Reaction, sends, gives, Said, said, says}
 use Rattle.link.specs.Link.{acknowledgeControl}
+use Rattle.link.specs.declared.Link.{Link}
+use Rattle.commands.specs.declared.command.Register.the-variants.{ChipId}
+use Rattle.registers.specs.Registers.{read}
 use Rattle.channels.specs.Perform.{replied as replyDue, performed}
 use Rattle.commands.specs.declared.request.Reply.{Reply}
 use Rattle.commands.specs.declared.request.Reply.the-variants.{Sent, Later}
 use Rattle.chip.specs.Request.{replies, finished, requested}
 use Rattle.chip.specs.Frame.{isConnect, isReset, isResetFrame, addressOf, controlOf, informationOf, commanded, addressed, onFrame}
 use Rattle.chip.specs.Chip.{reaction, acceptedReset}
-use Rattle.state.specs.declared.Adapter.{Adapter}
 use Rattle.chip.specs.declared.Response.{Response}
 use Rattle.bits.proofs.Tests.{and-left, and-right, or-second}
-use Rattle.chip.proofs.Steps.{moved-id, Commanded, connects, resets, tests, moved-send, Shape, dropped, acknowledged, echoed, rejected}
-use Rattle.chip.proofs.Steps.{replied, quiet, shapes, state-cases}
+use Rattle.chip.proofs.Steps.{Commanded, connects, resets, tests, moved-send, Shape, dropped, acknowledged, echoed, rejected}
+use Rattle.chip.proofs.Steps.{replied, quiet, shapes}
 pub use Rattle.chip.proofs.Bodies.{number-given, OneFrame, one-frame, silent, sendable, frame-bytes}
 pub use Rattle.chip.proofs.Good.{good-stays}
+pub use Rattle.chip.proofs.Outside.{outside, id-given, id-stays}
 
 -- ---- the state in what an event leaves
 
-pub state-said : (b : Adapter) (r : Response) (x : Reaction) (o p : List ℕ) → said r p ≡ says x o → b ≡ r .adapter → b ≡ x .adapter
-state-said b r x o p e f = f ∙ ap (λ (y : Said). y .response .adapter) e
+pub event-said : (l : Link) (r : Response) (x : Reaction) (o p rs : List ℕ) → said r rs p ≡ says x o → l ≡ r .link → adapter l rs ≡ x .adapter
+event-said l r x o p rs e f = rw f (ap (λ (y : Said). adapter (y .response .link) (y .registers)) e)
 
-pub state-responded : (b : Adapter) (r : Response) (x : Reaction) → r ≡ response x → b ≡ r .adapter → b ≡ x .adapter
-state-responded b r x e f = f ∙ ap (λ (y : Response). y .adapter) e
+-- without a frame
+pub silently-said : (l : Link) (r : Response) (x : Reaction) (rs : List ℕ) → ((o : List ℕ) → said r rs o ≡ says x o) → l ≡ r .link
+    → adapter l rs ≡ x .adapter
+silently-said l r x rs e f = event-said l r x [] [] rs (e []) f
 
 -- ---- what stays
 
@@ -50,20 +55,9 @@ dropped-keeps a e = by (reaction a e) (shapes a e)
     by r (replied b trn ch err len d m f) l _ = absurd (omega arith)
     by r (quiet b m) _ u = absurd (omega arith)
 
--- the ID
-commanded-id : (a : Adapter) (port control : ℕ) (b : Adapter) → Commanded a port control b → b .id ≡ a .id
-unfolding poweredOn
-commanded-id a port control b (connects _) = refl
-commanded-id a port control b (resets _) = refl
-commanded-id a port control b (tests _) = refl
-
-pub id-stays : (a : Adapter) (e : Event) → reaction a e .adapter .id ≡ a .id
-id-stays a e =
-    state-cases a e (λ (b : Adapter). b .id ≡ a .id) refl (λ port body b _ c. commanded-id a port _ b c) (λ b m. moved-id a e b m) (λ b h. h)
-
 -- CONNECT and RESET
 abbrev pub ZeroesNumbers : List ℕ → Type 0
-ZeroesNumbers body = (isConnect (controlOf body) ≡ true) ⊎ (isReset (controlOf body) ≡ true)
+ZeroesNumbers body = (isConnect (controlOf body) ≡ true) ⊎ (isResetFrame body ≡ true)
 
 -- how the send number moves: it stays; a CONNECT or a RESET zeroes it; or a reply or an interrupt goes out with it, and it goes up
 pub data SendMoves (a : Adapter) (e : Event) : Reaction → Type 0 where
@@ -71,7 +65,7 @@ pub data SendMoves (a : Adapter) (e : Event) : Reaction → Type 0 where
   zeroed : (port : ℕ) (body : List ℕ) → e ≡ frame port body → ZeroesNumbers body → (r : Reaction) → r .adapter .link .send .0 ≡ 0 → SendMoves a e r
   raised : (b : Adapter) (trn ch err len d : ℕ) → b .link .send ≡ a .link .send → SendMoves a e (replies b trn ch err len d)
 
-command-moves : (a : Adapter) (e : Event) (port : ℕ) (body : List ℕ) → e ≡ frame port body → (b : Adapter) → Commanded a port (controlOf body) b
+command-moves : (a : Adapter) (e : Event) (port : ℕ) (body : List ℕ) → e ≡ frame port body → (b : Adapter) → Commanded a port body b
     → (s : List ℕ) → SendMoves a e (sends b port s)
 unfolding poweredOn
 command-moves a e port body h b (connects c) s = zeroed port body h (inl c) _ refl
@@ -98,11 +92,11 @@ pub record SameAnswer (r t : Reaction) : Type 0 where
   pub frames : r .frames ≡ t .frames
 
 abbrev pub judged : Adapter → List ℕ → Reaction
-judged a info = let q = requestOf info in finished a (q .trn) (q .ch) (replyDue (a .registers) (a .id) q)
+judged a info = let q = requestOf info in finished a (q .trn) (q .ch) (replyDue (a .registers) q)
 
 pub judging : (a : Adapter) (info : List ℕ) → SameAnswer (requested a info) (judged a info)
 unfolding requested replies
-judging a info = by (replyDue (a .registers) (a .id) (requestOf info))
+judging a info = by (replyDue (a .registers) (requestOf info))
   where
     by : (p : Reply)
         → SameAnswer (finished (withRegisters a (performed (a .registers) (requestOf info))) (requestOf info .trn) (requestOf info .ch) p)
@@ -125,7 +119,7 @@ not-connect c h = either c 0x8F 0x9F h (λ (n : ℕ). isConnect n ≡ false) ref
 
 -- an accepted RESET acknowledges on its port and leaves power-on with that port active; only the ID stays
 pub accepted-reset : (a : Adapter) (port : ℕ) (body : List ℕ) → acceptedReset (frame port body) ≡ true
-    → reaction a (frame port body) ≡ sends (poweredOn port (a .id)) port (address ∷ acknowledgeControl (controlOf body) ∷ [])
+    → reaction a (frame port body) ≡ sends (poweredOn port (read (a .registers) ChipId)) port (address ∷ acknowledgeControl (controlOf body) ∷ [])
 unfolding reaction onFrame addressed commanded isResetFrame
 accepted-reset a port body h =
     let h1 = and-left (eqb (addressOf body) address && isReset (controlOf body)) (eqb (length (informationOf body)) 0) h in

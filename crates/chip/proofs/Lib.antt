@@ -5,6 +5,7 @@ pub mod Happens
 pub mod Steps
 pub mod Bodies
 pub mod Good
+pub mod Outside
 pub mod Laws
 pub mod OneOutcome
 pub mod Examples

@@ -1,9 +1,9 @@
 -- What an event comes to: the shape of its answer, and beside it what changed of the state. A law about answers goes through the shapes
 -- (`shapes`), a law about the state through what can move it (`state-cases`).
 use Prim.Native.Nat.{ℕ, _+_, _%_, _^_, _≤_, _<_}
-use mathlib.Core.Bool.{true, not}
+use mathlib.Core.Bool.{true, not, _&&_}
 use mathlib.Core.List.{List, [], _∷_}
-use mathlib.Core.Path.{_≡_, refl}
+use mathlib.Core.Path.{_≡_, refl, ap₂}
 use borrow.Author.Tests.{not-false}
 use native.Mathlib.Nat.{mod-lt}
 use lib.Dec.{eqb, lit≤, lit<}
@@ -25,22 +25,21 @@ use Rattle.parts.proofs.Laws.{bytes-drop}
 use Rattle.chip.proofs.EventFits.{EventFits}
 use Rattle.numbers.specs.Numbers.{otherAddress, otherPort, otherControl, badInformation, noFrame, notBusy, linesDisabled}
 use Rattle.packets.specs.Packets.{address, requestOf}
-use Rattle.state.specs.State.{withLink, withRegisters}
+use Rattle.state.specs.State.{Adapter, withLink, withRegisters}
 use Rattle.chip.specs.Answer.{Reaction, sends, gives}
 use Rattle.link.specs.Link.{rejectControl, acknowledgeControl, receiveNumber, sendUp, numberIn, inLoopback}
 use Rattle.chip.specs.Request.{replies, finished, requested}
-use Rattle.chip.specs.Frame.{isConnect, isReset, isTest, controlOf, informationOf, connected, reset, looped, counted, commanded, numbered}
+use Rattle.chip.specs.Frame.{isConnect, isReset, isResetFrame, isTest, addressOf, controlOf, informationOf, connected, reset, looped, counted, commanded, numbered}
 use Rattle.chip.specs.Frame.{carried, addressed, onFrame}
-use Rattle.chip.specs.Chip.{onSpi, onSample, onUpset, reaction}
-use Rattle.state.specs.declared.Adapter.{Adapter}
+use Rattle.chip.specs.Chip.{transferred, onSpi, onSample, onUpset, reaction}
 
 -- ---- how an event can change the state, but for the send number of a reply
 
 -- CONNECT, RESET and TEST
-pub data Commanded (a : Adapter) (port control : ℕ) : Adapter → Type 0 where
-  connects : isConnect control ≡ true → Commanded a port control (connected a port)
-  resets : isReset control ≡ true → Commanded a port control (reset a port)
-  tests : isTest control ≡ true → Commanded a port control (looped a port)
+pub data Commanded (a : Adapter) (port : ℕ) (body : List ℕ) : Adapter → Type 0 where
+  connects : isConnect (controlOf body) ≡ true → Commanded a port body (connected a port)
+  resets : isResetFrame body ≡ true → Commanded a port body (reset a port)
+  tests : isTest (controlOf body) ≡ true → Commanded a port body (looped a port)
 
 -- the registers that a request leaves
 abbrev pub leftBy : Adapter → List ℕ → List ℕ
@@ -48,30 +47,24 @@ leftBy a body = perform.performed (a .registers) (requestOf (informationOf body)
 
 -- the registers anew, by a request, a completion, a pin sample or an upset
 pub data Moved (a : Adapter) : Event → Adapter → Type 0 where
-  requests : (port : ℕ) (body : List ℕ) → Moved a (frame port body) (withRegisters (counted a) (leftBy a body))
+  requests : (port : ℕ) (body : List ℕ) → eqb (length (informationOf body)) 8 ≡ true → Moved a (frame port body) (withRegisters (counted a) (leftBy a body))
   completes : (received : List ℕ) → isBusy (a .registers) Spi ≡ true
       → Moved a (completion (spi received)) (withRegisters a (completed (a .registers) received))
   samples : (levels kind : ℕ) → isEnabled (a .registers) Gpio ≡ true → Moved a (sample levels kind) (withRegisters a (sampled (a .registers) levels kind))
   counts : Moved a upset (withRegisters a (store (a .registers) Seu ((read (a .registers) Seu + 1) % 2 ^ 32)))
 
--- none of these moves the send number, the active port or the ID
+-- none of these moves the send number or the active port
 pub moved-send : (a : Adapter) (e : Event) (b : Adapter) → Moved a e b → b .link .send ≡ a .link .send
-moved-send a e b (requests port body) = refl
+moved-send a e b (requests port body h) = refl
 moved-send a e b (completes received h) = refl
 moved-send a e b (samples levels kind h) = refl
 moved-send a e b counts = refl
 
 pub moved-port : (a : Adapter) (e : Event) (b : Adapter) → Moved a e b → b .link .port ≡ a .link .port
-moved-port a e b (requests port body) = refl
+moved-port a e b (requests port body h) = refl
 moved-port a e b (completes received h) = refl
 moved-port a e b (samples levels kind h) = refl
 moved-port a e b counts = refl
-
-pub moved-id : (a : Adapter) (e : Event) (b : Adapter) → Moved a e b → b .id ≡ a .id
-moved-id a e b (requests port body) = refl
-moved-id a e b (completes received h) = refl
-moved-id a e b (samples levels kind h) = refl
-moved-id a e b counts = refl
 
 -- ---- the shapes of an answer
 
@@ -86,7 +79,7 @@ pub data Shape (a : Adapter) (e : Event) : Reaction → Type 0 where
   -- 11 to 16
   dropped : (n : ℕ) → 11 ≤ n → n ≤ 16 → Shape a e (gives a n)
   -- the answer of a command
-  acknowledged : (port : ℕ) (body : List ℕ) → e ≡ frame port body → (b : Adapter) → Commanded a port (controlOf body) b
+  acknowledged : (port : ℕ) (body : List ℕ) → e ≡ frame port body → (b : Adapter) → Commanded a port body b
       → Shape a e (sends b port (address ∷ acknowledgeControl (controlOf body) ∷ []))
   -- a loopback's, and SREJ
   echoed : (port : ℕ) (body : List ℕ) → e ≡ frame port body → Shape a e (sends a port body)
@@ -98,28 +91,28 @@ pub data Shape (a : Adapter) (e : Event) : Reaction → Type 0 where
   quiet : (b : Adapter) → Moved a e b → Shape a e (gives b noFrame)
 
 module _ (a : Adapter) (port : ℕ) (body : List ℕ) where
-  of-command : (b : Adapter) → Commanded a port (controlOf body) b → Shape a (frame port body) (commanded a b port body)
+  of-command : (b : Adapter) → (eqb (length (informationOf body)) 0 ≡ true → Commanded a port body b) → Shape a (frame port body) (commanded a b port body)
   unfolding commanded
   of-command b c =
       cond-cases (Shape a (frame port body)) (not (eqb (length (drop 2 body)) 0)) (λ _. dropped badInformation (lit≤ tt) (lit≤ tt))
-      (λ _. acknowledged port body refl b c)
+      (λ h. acknowledged port body refl b (c (not-false (eqb (length (drop 2 body)) 0) h)))
 
-  of-reply : (r : Reply) → ReplyBytes r
+  of-reply : eqb (length (informationOf body)) 8 ≡ true → (r : Reply) → ReplyBytes r
       → Shape a (frame port body)
       (finished (withRegisters (counted a) (leftBy a body)) (requestOf (informationOf body) .trn) (requestOf (informationOf body) .ch) r)
-  of-reply (Sent err len d) t =
-      replied _ _ _ err len d (requests port body)
+  of-reply h (Sent err len d) t =
+      replied _ _ _ err len d (requests port body h)
       (λ f. record { trn = bytes-drop 2 body (f .bytes) 0; ch = bytes-drop 2 body (f .bytes) 1; err = t .0; len = t .1 })
-  of-reply Later t = quiet _ (requests port body)
+  of-reply h Later t = quiet _ (requests port body h)
 
-  of-request : Shape a (frame port body) (requested (counted a) (drop 2 body))
+  of-request : eqb (length (informationOf body)) 8 ≡ true → Shape a (frame port body) (requested (counted a) (drop 2 body))
   unfolding requested
-  of-request = of-reply (perform.replied (a .registers) (a .id) (requestOf (drop 2 body))) (replied-bytes (a .registers) (a .id) (requestOf (drop 2 body)))
+  of-request h = of-reply h (perform.replied (a .registers) (requestOf (drop 2 body))) (replied-bytes (a .registers) (requestOf (drop 2 body)))
 
-  of-order : Shape a (frame port body) (numbered a port (controlOf body) (drop 2 body))
+  of-order : eqb (length (informationOf body)) 8 ≡ true → Shape a (frame port body) (numbered a port (controlOf body) (drop 2 body))
   unfolding numbered
-  of-order =
-      cond-cases (Shape a (frame port body)) (not (eqb (numberIn (controlOf body)) (receiveNumber (a .link)))) (λ _. rejected port body refl) (λ _. of-request)
+  of-order h =
+      cond-cases (Shape a (frame port body)) (not (eqb (numberIn (controlOf body)) (receiveNumber (a .link)))) (λ _. rejected port body refl) (λ _. of-request h)
 
   of-carried : Shape a (frame port body) (carried a port body)
   unfolding carried
@@ -127,25 +120,31 @@ module _ (a : Adapter) (port : ℕ) (body : List ℕ) where
       cond-cases (Shape a (frame port body)) (inLoopback (a .link) port) (λ _. echoed port body refl)
       (λ _. cond-cases (Shape a (frame port body)) (not (eqb port (a .link .port))) (λ _. dropped otherPort (lit≤ tt) (lit≤ tt))
       (λ _. cond-cases (Shape a (frame port body)) (not (eqb (length (drop 2 body)) 8)) (λ _. dropped badInformation (lit≤ tt) (lit≤ tt))
-      (λ _. of-order)))
+      (λ h. of-order (not-false (eqb (length (drop 2 body)) 8) h))))
 
-  of-addressed : Shape a (frame port body) (addressed a port body)
+  of-reset : eqb (addressOf body) address ≡ true → isReset (controlOf body) ≡ true → eqb (length (informationOf body)) 0 ≡ true
+      → Commanded a port body (reset a port)
+  unfolding isResetFrame
+  of-reset here h empty = resets (ap₂ _&&_ (ap₂ _&&_ here h) empty)
+
+  of-addressed : eqb (addressOf body) address ≡ true → Shape a (frame port body) (addressed a port body)
   unfolding addressed
-  of-addressed =
-      cond-cases (Shape a (frame port body)) (isConnect (controlOf body)) (λ h. of-command _ (connects h))
-      (λ _. cond-cases (Shape a (frame port body)) (isReset (controlOf body)) (λ h. of-command _ (resets h))
-      (λ _. cond-cases (Shape a (frame port body)) (isTest (controlOf body)) (λ h. of-command _ (tests h))
+  of-addressed here =
+      cond-cases (Shape a (frame port body)) (isConnect (controlOf body)) (λ h. of-command _ (λ _. connects h))
+      (λ _. cond-cases (Shape a (frame port body)) (isReset (controlOf body)) (λ h. of-command _ (of-reset here h))
+      (λ _. cond-cases (Shape a (frame port body)) (isTest (controlOf body)) (λ h. of-command _ (λ _. tests h))
       (λ _. cond-cases (Shape a (frame port body)) (bitOf (controlOf body) 0) (λ _. dropped otherControl (lit≤ tt) (lit≤ tt))
       (λ _. of-carried))))
 
   of-frame : Shape a (frame port body) (onFrame a port body)
   unfolding onFrame
   of-frame =
-      cond-cases (Shape a (frame port body)) (not (eqb (getD body 0 0) 0x00)) (λ _. dropped otherAddress (lit≤ tt) (lit≤ tt)) (λ _. of-addressed)
+      cond-cases (Shape a (frame port body)) (not (eqb (getD body 0 0) 0x00)) (λ _. dropped otherAddress (lit≤ tt) (lit≤ tt))
+      (λ h. of-addressed (not-false (eqb (getD body 0 0) 0x00) h))
 
 -- every event's answer has one of them
 pub shapes : (a : Adapter) (e : Event) → Shape a e (reaction a e)
-unfolding reaction onSpi onSample onUpset
+unfolding reaction onSpi transferred onSample onUpset
 shapes a (frame port body) = of-frame a port body
 shapes a (completion (spi received)) =
     cond-cases (Shape a (completion (spi received))) (not (isBusy (a .registers) Spi)) (λ _. dropped notBusy (lit≤ tt) (lit≤ tt))
@@ -162,7 +161,7 @@ shapes a upset = quiet _ counts
 -- ---- the state after an event
 
 module _ (a : Adapter) (e : Event) (P : Adapter → Type 0) (stays : P a)
-    (commands : (port : ℕ) (body : List ℕ) (b : Adapter) → e ≡ frame port body → Commanded a port (controlOf body) b → P b)
+    (commands : (port : ℕ) (body : List ℕ) (b : Adapter) → e ≡ frame port body → Commanded a port body b → P b)
     (moves : (b : Adapter) → Moved a e b → P b) (raises : (b : Adapter) → P b → P (withLink b (sendUp (b .link)))) where
   of-shape : (r : Reaction) → Shape a e r → P (r .adapter)
   unfolding replies

@@ -13,19 +13,21 @@ use Rattle.channels.specs.Rows.{isEnabled, isBusy}
 use Rattle.commands.specs.Request.{interruptTransaction}
 use Rattle.chip.specs.Event.{Completion, spi, Event, frame, completion, sample, upset}
 use Rattle.chip.specs.Numbers.{spiChannel, gpioChannel, interruptLength}
-use Rattle.state.specs.State.{withRegisters}
+use Rattle.state.specs.State.{Adapter, withRegisters}
 use Rattle.chip.specs.Answer.{Reaction, gives}
 use Rattle.chip.specs.Request.{replies}
 use Rattle.chip.specs.Frame.{onFrame, isResetFrame}
-use Rattle.state.specs.declared.Adapter.{Adapter}
 
--- Completion when not busy: 15. Else the GO's reply, with its own TRN, carries DATA[31:0]. Byte 0 of the received ones holds bits 7 to 0.
+-- The GO's reply, with its own TRN, carries DATA[31:0]. Byte 0 of the received ones holds bits 7 to 0.
 -- (A TRN is a byte: in a state in range the remainder takes nothing away.)
+unfoldable pub transferred : Adapter → List ℕ → Reaction
+transferred a received =
+    let after = completed (a .registers) received in
+    replies (withRegisters a after) (read (a .registers) SpiGo % 0x100) spiChannel 0 (go .given) (read after SpiData0)
+
+-- Completion when not busy: 15.
 unfoldable pub onSpi : Adapter → List ℕ → Reaction
-onSpi a received =
-    cond (not (isBusy (a .registers) Spi)) (gives a notBusy)
-    (let after = completed (a .registers) received in
-    replies (withRegisters a after) (read (a .registers) SpiGo % 0x100) spiChannel 0 (go .given) (read after SpiData0))
+onSpi a received = cond (not (isBusy (a .registers) Spi)) (gives a notBusy) (transferred a received)
 
 abbrev pub onCompletion : Adapter → Completion → Reaction
 onCompletion a (spi received) = onSpi a received

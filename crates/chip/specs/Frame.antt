@@ -7,11 +7,12 @@ use lib.ListN.{length, getD, drop}
 use Rattle.numbers.specs.Numbers.{otherAddress, otherPort, otherControl, badInformation}
 use Rattle.packets.specs.Packets.{address}
 use Rattle.bits.specs.Bits.{bitOf}
-use Rattle.state.specs.State.{withLink, poweredOn}
+use Rattle.commands.specs.declared.command.Register.the-variants.{ChipId}
+use Rattle.registers.specs.Registers.{read}
+use Rattle.state.specs.State.{Adapter, withLink, poweredOn}
 use Rattle.chip.specs.Answer.{Reaction, sends, gives}
 use Rattle.link.specs.Link.{receiveNumber, receiveUp, numberIn, rejectControl, acknowledgeControl, freshLink, loopedAt, inLoopback}
 use Rattle.chip.specs.Request.{requested}
-use Rattle.state.specs.declared.Adapter.{Adapter}
 
 -- The body is address, control and information.
 abbrev pub addressOf : List ℕ → ℕ
@@ -43,17 +44,19 @@ connected a port = withLink a (freshLink port)
 
 -- RESET does the same and sets all registers and the SEU counter to power-on; the ID stays.
 abbrev pub reset : Adapter → ℕ → Adapter
-reset a port = poweredOn port (a .id)
+reset a port = poweredOn port (read (a .registers) ChipId)
 
 -- TEST puts its own port in loopback.
 abbrev pub looped : Adapter → ℕ → Adapter
 looped a port = withLink a (loopedAt (a .link) port)
 
--- 2. Information not empty is 14; else the command is done, b being the state after it, and acknowledged on the same port.
+-- a command's answer, on the same port
+abbrev pub acknowledges : Adapter → ℕ → ℕ → Reaction
+acknowledges b port control = sends b port (address ∷ acknowledgeControl control ∷ [])
+
+-- 2. Information not empty is 14; else the command is done, b being the state after it, and acknowledged.
 unfoldable pub commanded : Adapter → Adapter → ℕ → List ℕ → Reaction
-commanded a b port body =
-    cond (not (eqb (length (informationOf body)) 0)) (gives a badInformation)
-    (sends b port (address ∷ acknowledgeControl (controlOf body) ∷ []))
+commanded a b port body = cond (not (eqb (length (informationOf body)) 0)) (gives a badInformation) (acknowledges b port (controlOf body))
 
 -- the receive number up by one
 abbrev pub counted : Adapter → Adapter

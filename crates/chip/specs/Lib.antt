@@ -5,3 +5,4 @@ pub mod Answer
 pub mod Request
 pub mod Frame
 pub mod Chip
+pub mod Group

@@ -7,9 +7,8 @@ use Rattle.numbers.specs.Numbers.{noFrame}
 use Rattle.packets.specs.Packets.{requestOf, replyBody}
 use Rattle.channels.specs.Perform.{replied, performed}
 use Rattle.link.specs.Link.{replyControl, sendUp}
-use Rattle.state.specs.State.{withLink, withRegisters}
+use Rattle.state.specs.State.{Adapter, withLink, withRegisters}
 use Rattle.chip.specs.Answer.{Reaction, sends, gives}
-use Rattle.state.specs.declared.Adapter.{Adapter}
 
 -- A reply or an interrupt leaves on the active port; the send number then goes up by one modulo 8.
 unfoldable pub replies : Adapter → ℕ → ℕ → ℕ → ℕ → ℕ → Reaction
@@ -24,4 +23,4 @@ finished a trn ch Later = gives a noFrame
 unfoldable pub requested : Adapter → List ℕ → Reaction
 requested a info =
     let q = requestOf info in
-    finished (withRegisters a (performed (a .registers) q)) (q .trn) (q .ch) (replied (a .registers) (a .id) q)
+    finished (withRegisters a (performed (a .registers) q)) (q .trn) (q .ch) (replied (a .registers) q)

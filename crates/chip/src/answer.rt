@@ -3,19 +3,20 @@ ghost use mathlib.Core.Path.{_≡_};
 ghost use Prim.Native.Nat.{_≤_};
 ghost use lib.ListN.{length};
 ghost use Rattle.numbers.specs.Numbers.{bodyMost, outputLeast};
-ghost use Rattle.chip.specs.Answer.{sends, gives, response, said, says};
+ghost use Rattle.parts.specs.Parts.{put};
+ghost use Rattle.chip.specs.Answer.{sent, given};
 use crate::Response;
-use state::Adapter;
+use link::Link;
 
 // An answer with a frame.
-pub(crate) fn send(a: Adapter, port: u8, body: &[u8], output: &mut [u8]) -> Response
+pub(crate) fn send(link: Link, port: u8, body: &[u8], output: &mut [u8]) -> Response
     requires { ⌜ length (now body) ≤ bodyMost ⌝ }
     requires { ⌜ outputLeast ≤ length (now output) ⌝ }
-    ensures { λ r. ⌜ said r (now (output .exit)) ≡ says (sends a port (now (body .entry))) (now (output .entry)) ⌝ }
+    ensures { λ r. ⌜ (r ≡ sent link port (length (now (body .entry)))) × (now (output .exit) ≡ put 0 (now (body .entry)) (now (output .entry))) ⌝ }
 {
     parts::store(output, 0, body);
     Response {
-        adapter: a,
+        link: link,
         number: numbers::HAS_FRAME,
         port: port,
         length: body.len() as u8,
@@ -23,11 +24,11 @@ pub(crate) fn send(a: Adapter, port: u8, body: &[u8], output: &mut [u8]) -> Resp
 }
 
 // An answer without a frame.
-pub(crate) fn give(a: Adapter, number: u8) -> Response
-    ensures { λ r. ⌜ r ≡ response (gives a number) ⌝ }
+pub(crate) fn give(link: Link, number: u8) -> Response
+    ensures { λ r. ⌜ r ≡ given link number ⌝ }
 {
     Response {
-        adapter: a,
+        link: link,
         number: number,
         port: 0,
         length: 0,

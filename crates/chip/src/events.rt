@@ -1,22 +1,29 @@
 // The four events, each as one step of the chip.
 ghost use mathlib.Core.Path.{_≡_};
-ghost use Prim.Native.Nat.{_≤_};
+ghost use mathlib.Core.List.{List};
+ghost use Prim.Native.Nat.{ℕ, _≤_};
 ghost use lib.ListN.{length};
 ghost use Rattle.numbers.specs.Numbers.{bodyLeast, bodyMost, outputLeast, transferBytes};
+ghost use Rattle.registers.specs.Registers.{size};
+ghost use Rattle.state.specs.State.{adapter};
 ghost use Rattle.chip.specs.Event.{Completion, Event};
-ghost use Rattle.chip.specs.Answer.{response, said, says};
-ghost use Rattle.chip.specs.Chip.{reaction, acceptedReset};
+ghost use Rattle.chip.specs.Answer.{said, says};
+ghost use Rattle.chip.specs.Chip.{transferred, reaction, acceptedReset};
+ghost use Rattle.chip.specs.Group.{groupOf};
 use crate::Response;
 use crate::answer;
 use crate::frame;
 use crate::request;
+use channels::groups;
+use channels::groups::Group;
 use commands::channel::Channel;
+use commands::command::Control;
 use commands::command::Register;
 use commands::request::INTERRUPT;
 use commands::spi::GO;
+use link::Link;
 use registers::gpio;
 use registers::spi;
-use state::Adapter;
 
 // The channels of a GO's reply and of an interrupt; an interrupt's LEN.
 const SPI_CHANNEL: u8 = 0x01;
@@ -25,13 +32,26 @@ const GPIO_CHANNEL: u8 = 0x02;
 
 const INTERRUPT_LENGTH: u8 = 4;
 
+// The bytes of a body that carries a request.
+const REQUEST_BODY: usize = 10;
+
+// What a completion and a pin sample may change besides the core; an upset changes the core alone.
+pub const LINES_AND_SPI: Group = Group::Switched(Control::B);
+
 // A frame body on a port.
-pub fn on_frame(a: Adapter, port: u8, body: &[u8], output: &mut [u8]) -> Response
+pub fn on_frame(
+    link: Link,
+    registers: &mut [u8],
+    port: u8,
+    body: &[u8],
+    output: &mut [u8],
+) -> Response
+    requires { ⌜ length (now registers) ≡ size ⌝ }
     requires { ⌜ (bodyLeast ≤ length (now body)) × (length (now body) ≤ bodyMost) ⌝ }
     requires { ⌜ outputLeast ≤ length (now output) ⌝ }
-    ensures { λ r. ⌜ said r (now (output .exit)) ≡ says (reaction a (Event.frame port (now (body .entry)))) (now (output .entry)) ⌝ }
+    ensures { λ r. ⌜ said r (now (registers .exit)) (now (output .exit)) ≡ says (reaction (adapter link (now (registers .entry))) (Event.frame port (now (body .entry)))) (now (output .entry)) ⌝ }
 {
-    frame::check(a, port, body, output)
+    frame::check(link, registers, port, body, output)
 }
 
 // Whether a frame body is a RESET that every state accepts.
@@ -42,43 +62,60 @@ pub fn is_reset(body: &[u8]) -> bool
     frame::resets(body)
 }
 
-// An SPI completion with 16 received bytes: the GO's reply, with its own TRN.
-pub fn on_spi(a: Adapter, received: &[u8], output: &mut [u8]) -> Response
+// What a frame body may change besides the core.
+pub fn group_of(body: &[u8]) -> Group
+    requires { ⌜ bodyLeast ≤ length (now body) ⌝ }
+    ensures { λ r. ⌜ r ≡ groupOf (Event.frame 0 (now (body .entry))) ⌝ }
+{
+    if body.len() == REQUEST_BODY {
+        return groups::group_for(packets::request_of(&body[2..REQUEST_BODY]));
+    }
+    Group::Core
+}
+
+// The GO's reply, with its own TRN.
+fn transfer(link: Link, registers: &mut [u8], received: &[u8], output: &mut [u8]) -> Response
+    requires { ⌜ length (now registers) ≡ size ⌝ }
     requires { ⌜ length (now received) ≡ transferBytes ⌝ }
     requires { ⌜ outputLeast ≤ length (now output) ⌝ }
-    ensures { λ r. ⌜ said r (now (output .exit)) ≡ says (reaction a (Event.completion (Completion.spi (now (received .entry))))) (now (output .entry)) ⌝ }
+    ensures { λ r. ⌜ said r (now (registers .exit)) (now (output .exit)) ≡ says (transferred (adapter link (now (registers .entry))) (now (received .entry))) (now (output .entry)) ⌝ }
 {
-    let mut registers = a.registers;
-    if channels::is_busy(&registers, Channel::Spi) {
-        let go = (registers::read(&registers, Register::SpiGo) % 0x100) as u8;
-        spi::complete(&mut registers, received);
-        let value = registers::read(&registers, Register::SpiData0);
-        let b = Adapter {
-            registers: registers,
-            ..a
-        };
-        request::reply(b, go, SPI_CHANNEL, 0, GO.given, value, output)
+    let go = (registers::read(registers, Register::SpiGo) % 0x100) as u8;
+    let value = spi::complete(registers, received);
+    request::reply(link, go, SPI_CHANNEL, 0, GO.given, value, output)
+}
+
+// An SPI completion with 16 received bytes.
+pub fn on_spi(link: Link, registers: &mut [u8], received: &[u8], output: &mut [u8]) -> Response
+    requires { ⌜ length (now registers) ≡ size ⌝ }
+    requires { ⌜ length (now received) ≡ transferBytes ⌝ }
+    requires { ⌜ outputLeast ≤ length (now output) ⌝ }
+    ensures { λ r. ⌜ said r (now (registers .exit)) (now (output .exit)) ≡ says (reaction (adapter link (now (registers .entry))) (Event.completion (Completion.spi (now (received .entry))))) (now (output .entry)) ⌝ }
+{
+    if channels::is_busy(registers, Channel::Spi) {
+        transfer(link, registers, received, output)
     } else {
-        answer::give(a, numbers::NOT_BUSY)
+        answer::give(link, numbers::NOT_BUSY)
     }
 }
 
 // A pin sample with 32 levels and an edge kind.
-pub fn on_sample(a: Adapter, levels: u32, kind: u8, output: &mut [u8]) -> Response
+pub fn on_sample(
+    link: Link,
+    registers: &mut [u8],
+    levels: u32,
+    kind: u8,
+    output: &mut [u8],
+) -> Response
+    requires { ⌜ length (now registers) ≡ size ⌝ }
     requires { ⌜ outputLeast ≤ length (now output) ⌝ }
-    ensures { λ r. ⌜ said r (now (output .exit)) ≡ says (reaction a (Event.sample levels kind)) (now (output .entry)) ⌝ }
+    ensures { λ r. ⌜ said r (now (registers .exit)) (now (output .exit)) ≡ says (reaction (adapter link (now (registers .entry))) (Event.sample levels kind)) (now (output .entry)) ⌝ }
 {
-    let mut registers = a.registers;
-    if channels::is_enabled(&registers, Channel::Gpio) {
-        let interrupt = gpio::sample(&mut registers, levels, kind);
-        let b = Adapter {
-            registers: registers,
-            ..a
-        };
-        if interrupt {
-            let ints = registers::read(&registers, Register::Ints);
+    if channels::is_enabled(registers, Channel::Gpio) {
+        if gpio::sample(registers, levels, kind) {
+            let ints = registers::read(registers, Register::Ints);
             request::reply(
-                b,
+                link,
                 INTERRUPT,
                 GPIO_CHANNEL,
                 0,
@@ -87,23 +124,19 @@ pub fn on_sample(a: Adapter, levels: u32, kind: u8, output: &mut [u8]) -> Respon
                 output,
             )
         } else {
-            answer::give(b, numbers::NO_FRAME)
+            answer::give(link, numbers::NO_FRAME)
         }
     } else {
-        answer::give(a, numbers::LINES_DISABLED)
+        answer::give(link, numbers::LINES_DISABLED)
     }
 }
 
 // An upset: a 32-bit counter that wraps to 0. No frame is ever sent.
-pub fn on_upset(a: Adapter) -> Response
-    ensures { λ r. ⌜ r ≡ response (reaction a Event.upset) ⌝ }
+pub fn on_upset(link: Link, registers: &mut [u8]) -> Response
+    requires { ⌜ length (now registers) ≡ size ⌝ }
+    ensures { λ r. ⌜ ((output : List ℕ) → said r (now (registers .exit)) output ≡ says (reaction (adapter link (now (registers .entry))) Event.upset) output) ⌝ }
 {
-    let mut registers = a.registers;
-    let count = std::num::wrapping_add_u32(registers::read(&registers, Register::Seu), 1);
-    registers::store(&mut registers, Register::Seu, count);
-    let b = Adapter {
-        registers: registers,
-        ..a
-    };
-    answer::give(b, numbers::NO_FRAME)
+    let count = std::num::wrapping_add_u32(registers::read(registers, Register::Seu), 1);
+    registers::store(registers, Register::Seu, count);
+    answer::give(link, numbers::NO_FRAME)
 }

@@ -1,14 +1,18 @@
 // A frame body on a port: document 01's checks 1 to 8, in order.
 ghost use mathlib.Core.Path.{_≡_};
-ghost use Prim.Native.Nat.{_≤_};
+ghost use mathlib.Core.List.{List};
+ghost use Prim.Native.Nat.{ℕ, _≤_};
 ghost use lib.ListN.{length};
 ghost use Rattle.numbers.specs.Numbers.{bodyLeast, bodyMost, outputLeast};
+ghost use Rattle.registers.specs.Registers.{size};
+ghost use Rattle.state.specs.State.{adapter};
 ghost use Rattle.chip.specs.Answer.{said, says};
-ghost use Rattle.chip.specs.Frame.{isConnect, isReset, isResetFrame, isTest, connected, looped, commanded, numbered, carried, addressed, onFrame};
+ghost use Rattle.chip.specs.Frame.{isConnect, isReset, isResetFrame, isTest, reset, acknowledges, commanded, numbered, carried, addressed, onFrame};
 use crate::Response;
 use crate::answer;
 use crate::request;
-use state::Adapter;
+use commands::command::Register;
+use link::Link;
 
 // Each command without and with its bit 4.
 const CONNECT: u8 = 0x2F;
@@ -74,103 +78,129 @@ pub(crate) fn resets(body: &[u8]) -> bool
     }
 }
 
-// CONNECT's state.
-fn connect(a: Adapter, port: u8) -> Adapter
-    ensures { λ r. ⌜ r ≡ connected a port ⌝ }
+// A command's acknowledgement, on the same port.
+fn acknowledge(link: Link, port: u8, control: u8, output: &mut [u8]) -> Response
+    requires { ⌜ outputLeast ≤ length (now output) ⌝ }
+    ensures { λ r. ⌜ ((rs : List ℕ) → said r rs (now (output .exit)) ≡ says (acknowledges (adapter link rs) port control) (now (output .entry))) ⌝ }
 {
-    let link = link::fresh(port);
-    Adapter { link: link, ..a }
+    let body = [packets::ADDRESS, link::acknowledge_control(control)];
+    answer::send(link, port, &body, output)
 }
 
-// TEST's state.
-fn loop_back(a: Adapter, port: u8) -> Adapter
-    ensures { λ r. ⌜ r ≡ looped a port ⌝ }
-{
-    let link = a.link;
-    let looped = link::loop_back(link, port);
-    Adapter { link: looped, ..a }
-}
-
-// A command on state a that leaves b, unless it carries information.
-fn command(a: Adapter, b: Adapter, port: u8, body: &[u8], output: &mut [u8]) -> Response
+// A command that leaves another link, unless it carries information. The registers stay.
+fn command(link: Link, after: Link, port: u8, body: &[u8], output: &mut [u8]) -> Response
     requires { ⌜ bodyLeast ≤ length (now body) ⌝ }
     requires { ⌜ outputLeast ≤ length (now output) ⌝ }
-    ensures { λ r. ⌜ said r (now (output .exit)) ≡ says (commanded a b port (now (body .entry))) (now (output .entry)) ⌝ }
+    ensures { λ r. ⌜ ((rs : List ℕ) → said r rs (now (output .exit)) ≡ says (commanded (adapter link rs) (adapter after rs) port (now (body .entry))) (now (output .entry))) ⌝ }
 {
     if body.len() == 2 {
-        let acknowledgement = [packets::ADDRESS, link::acknowledge_control(body[1])];
-        answer::send(b, port, &acknowledgement, output)
+        acknowledge(after, port, body[1], output)
     } else {
-        answer::give(a, numbers::BAD_INFORMATION)
+        answer::give(link, numbers::BAD_INFORMATION)
+    }
+}
+
+// RESET, unless it carries information.
+fn reset(link: Link, registers: &mut [u8], port: u8, body: &[u8], output: &mut [u8]) -> Response
+    requires { ⌜ length (now registers) ≡ size ⌝ }
+    requires { ⌜ bodyLeast ≤ length (now body) ⌝ }
+    requires { ⌜ outputLeast ≤ length (now output) ⌝ }
+    ensures { λ r. ⌜ said r (now (registers .exit)) (now (output .exit)) ≡ says (let a = adapter link (now (registers .entry)) in commanded a (reset a port) port (now (body .entry))) (now (output .entry)) ⌝ }
+{
+    if body.len() == 2 {
+        let id = registers::read(registers, Register::ChipId);
+        state::power_on(registers, id);
+        acknowledge(link::fresh(port), port, body[1], output)
+    } else {
+        answer::give(link, numbers::BAD_INFORMATION)
     }
 }
 
 // Checks 7 and 8.
-fn in_order(a: Adapter, port: u8, control: u8, info: &[u8], output: &mut [u8]) -> Response
+fn in_order(
+    link: Link,
+    registers: &mut [u8],
+    port: u8,
+    control: u8,
+    info: &[u8],
+    output: &mut [u8],
+) -> Response
+    requires { ⌜ length (now registers) ≡ size ⌝ }
     requires { ⌜ length (now info) ≡ 8 ⌝ }
     requires { ⌜ outputLeast ≤ length (now output) ⌝ }
-    ensures { λ r. ⌜ said r (now (output .exit)) ≡ says (numbered a port control (now (info .entry))) (now (output .entry)) ⌝ }
+    ensures { λ r. ⌜ said r (now (registers .exit)) (now (output .exit)) ≡ says (numbered (adapter link (now (registers .entry))) port control (now (info .entry))) (now (output .entry)) ⌝ }
 {
-    let link = a.link;
     if link::number_in(control) == link::receive_number(link) {
-        let counted = link::receive_up(link);
-        let after = Adapter { link: counted, ..a };
-        request::request(after, info, output)
+        request::request(link::receive_up(link), registers, info, output)
     } else {
         let reject = [packets::ADDRESS, link::reject_control(link)];
-        answer::send(a, port, &reject, output)
+        answer::send(link, port, &reject, output)
     }
 }
 
 // Checks 4 to 8.
-fn carry(a: Adapter, port: u8, body: &[u8], output: &mut [u8]) -> Response
+fn carry(link: Link, registers: &mut [u8], port: u8, body: &[u8], output: &mut [u8]) -> Response
+    requires { ⌜ length (now registers) ≡ size ⌝ }
     requires { ⌜ (bodyLeast ≤ length (now body)) × (length (now body) ≤ bodyMost) ⌝ }
     requires { ⌜ outputLeast ≤ length (now output) ⌝ }
-    ensures { λ r. ⌜ said r (now (output .exit)) ≡ says (carried a port (now (body .entry))) (now (output .entry)) ⌝ }
+    ensures { λ r. ⌜ said r (now (registers .exit)) (now (output .exit)) ≡ says (carried (adapter link (now (registers .entry))) port (now (body .entry))) (now (output .entry)) ⌝ }
 {
-    let link = a.link;
     if link::in_loopback(link, port) {
-        return answer::send(a, port, body, output);
+        return answer::send(link, port, body, output);
     }
     if port != link.port {
-        return answer::give(a, numbers::OTHER_PORT);
+        return answer::give(link, numbers::OTHER_PORT);
     }
     if body.len() - 2 != INFORMATION {
-        return answer::give(a, numbers::BAD_INFORMATION);
+        return answer::give(link, numbers::BAD_INFORMATION);
     }
-    in_order(a, port, body[1], &body[2..], output)
+    in_order(link, registers, port, body[1], &body[2..], output)
 }
 
 // Checks 2 to 8.
-fn check_control(a: Adapter, port: u8, body: &[u8], output: &mut [u8]) -> Response
+fn check_control(
+    link: Link,
+    registers: &mut [u8],
+    port: u8,
+    body: &[u8],
+    output: &mut [u8],
+) -> Response
+    requires { ⌜ length (now registers) ≡ size ⌝ }
     requires { ⌜ (bodyLeast ≤ length (now body)) × (length (now body) ≤ bodyMost) ⌝ }
     requires { ⌜ outputLeast ≤ length (now output) ⌝ }
-    ensures { λ r. ⌜ said r (now (output .exit)) ≡ says (addressed a port (now (body .entry))) (now (output .entry)) ⌝ }
+    ensures { λ r. ⌜ said r (now (registers .exit)) (now (output .exit)) ≡ says (addressed (adapter link (now (registers .entry))) port (now (body .entry))) (now (output .entry)) ⌝ }
 {
     let control = body[1];
     if is_connect(control) {
-        return command(a, connect(a, port), port, body, output);
+        return command(link, link::fresh(port), port, body, output);
     }
     if is_reset(control) {
-        return command(a, state::powered_on(port, a.id), port, body, output);
+        return reset(link, registers, port, body, output);
     }
     if is_test(control) {
-        return command(a, loop_back(a, port), port, body, output);
+        return command(link, link::loop_back(link, port), port, body, output);
     }
     if control & UNNUMBERED != 0 {
-        return answer::give(a, numbers::OTHER_CONTROL);
+        return answer::give(link, numbers::OTHER_CONTROL);
     }
-    carry(a, port, body, output)
+    carry(link, registers, port, body, output)
 }
 
 // Checks 1 to 8.
-pub(crate) fn check(a: Adapter, port: u8, body: &[u8], output: &mut [u8]) -> Response
+pub(crate) fn check(
+    link: Link,
+    registers: &mut [u8],
+    port: u8,
+    body: &[u8],
+    output: &mut [u8],
+) -> Response
+    requires { ⌜ length (now registers) ≡ size ⌝ }
     requires { ⌜ (bodyLeast ≤ length (now body)) × (length (now body) ≤ bodyMost) ⌝ }
     requires { ⌜ outputLeast ≤ length (now output) ⌝ }
-    ensures { λ r. ⌜ said r (now (output .exit)) ≡ says (onFrame a port (now (body .entry))) (now (output .entry)) ⌝ }
+    ensures { λ r. ⌜ said r (now (registers .exit)) (now (output .exit)) ≡ says (onFrame (adapter link (now (registers .entry))) port (now (body .entry))) (now (output .entry)) ⌝ }
 {
     if body[0] != packets::ADDRESS {
-        return answer::give(a, numbers::OTHER_ADDRESS);
+        return answer::give(link, numbers::OTHER_ADDRESS);
     }
-    check_control(a, port, body, output)
+    check_control(link, registers, port, body, output)
 }

@@ -1,18 +1,21 @@
 // A request answered, and its reply.
 ghost use mathlib.Core.Path.{_≡_};
-ghost use Prim.Native.Nat.{_≤_};
+ghost use mathlib.Core.List.{List};
+ghost use Prim.Native.Nat.{ℕ, _≤_};
 ghost use lib.ListN.{length};
 ghost use Rattle.numbers.specs.Numbers.{outputLeast};
+ghost use Rattle.registers.specs.Registers.{size};
+ghost use Rattle.state.specs.State.{adapter};
 ghost use Rattle.chip.specs.Answer.{said, says};
 ghost use Rattle.chip.specs.Request.{replies, finished, requested};
 use crate::Response;
 use crate::answer;
 use commands::request::Reply;
-use state::Adapter;
+use link::Link;
 
-// A reply or an interrupt, on the active port; the send number then goes up.
+// A reply or an interrupt, on the active port; the send number then goes up. It is the same whatever the registers are.
 pub(crate) fn reply(
-    a: Adapter,
+    link: Link,
     trn: u8,
     ch: u8,
     err: u8,
@@ -21,46 +24,34 @@ pub(crate) fn reply(
     output: &mut [u8],
 ) -> Response
     requires { ⌜ outputLeast ≤ length (now output) ⌝ }
-    ensures { λ r. ⌜ said r (now (output .exit)) ≡ says (replies a trn ch err len value) (now (output .entry)) ⌝ }
+    ensures { λ r. ⌜ ((rs : List ℕ) → said r rs (now (output .exit)) ≡ says (replies (adapter link rs) trn ch err len value) (now (output .entry))) ⌝ }
 {
-    let link = a.link;
     let body = packets::reply_body(link::reply_control(link), trn, ch, err, len, value);
-    let raised = link::send_up(link);
-    let after = Adapter { link: raised, ..a };
-    answer::send(after, link.port, &body, output)
+    answer::send(link::send_up(link), link.port, &body, output)
 }
 
 // A reply that is sent, or none yet.
-pub(crate) fn finish(a: Adapter, trn: u8, ch: u8, told: Reply, output: &mut [u8]) -> Response
+fn finish(link: Link, trn: u8, ch: u8, told: Reply, output: &mut [u8]) -> Response
     requires { ⌜ outputLeast ≤ length (now output) ⌝ }
-    ensures { λ r. ⌜ said r (now (output .exit)) ≡ says (finished a trn ch told) (now (output .entry)) ⌝ }
+    ensures { λ r. ⌜ ((rs : List ℕ) → said r rs (now (output .exit)) ≡ says (finished (adapter link rs) trn ch told) (now (output .entry))) ⌝ }
 {
     match told {
         Reply::Sent {
             error,
             length,
             value,
-        } => reply(a, trn, ch, error, length, value, output),
-        Reply::Later => answer::give(a, numbers::NO_FRAME),
+        } => reply(link, trn, ch, error, length, value, output),
+        Reply::Later => answer::give(link, numbers::NO_FRAME),
     }
 }
 
-pub(crate) fn request(a: Adapter, info: &[u8], output: &mut [u8]) -> Response
+pub(crate) fn request(link: Link, registers: &mut [u8], info: &[u8], output: &mut [u8]) -> Response
+    requires { ⌜ length (now registers) ≡ size ⌝ }
     requires { ⌜ length (now info) ≡ 8 ⌝ }
     requires { ⌜ outputLeast ≤ length (now output) ⌝ }
-    ensures { λ r. ⌜ said r (now (output .exit)) ≡ says (requested a (now (info .entry))) (now (output .entry)) ⌝ }
+    ensures { λ r. ⌜ said r (now (registers .exit)) (now (output .exit)) ≡ says (requested (adapter link (now (registers .entry))) (now (info .entry))) (now (output .entry)) ⌝ }
 {
     let q = packets::request_of(info);
-    let mut registers = a.registers;
-    let told = channels::answer(&mut registers, a.id, q);
-    finish(
-        Adapter {
-            registers: registers,
-            ..a
-        },
-        q.trn,
-        q.ch,
-        told,
-        output,
-    )
+    let told = channels::answer(registers, q);
+    finish(link, q.trn, q.ch, told, output)
 }

@@ -27,16 +27,23 @@ pub enum Register {
     DacB,
     DacC,
     DacD,
+    ChipId,
+}
+
+// The controller's registers: each switches the channels of one group on and off.
+pub enum Control {
+    B,
+    C,
+    D,
 }
 
 pub enum Does {
     // D goes into a register.
     Write(Register),
-    // The same, into a register that switches channels on and off.
-    Switch(Register),
-    // A register, or the chip ID, comes back in D.
+    // The same, into a register of the controller's.
+    Switch(Control),
+    // A register comes back in D.
     Read(Register),
-    ReadId,
     // A register becomes 0.
     Clear(Register),
     // What takes its time: the request's TRN is kept in a register until its completion, and no reply goes out yet.

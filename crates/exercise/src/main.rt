@@ -5,174 +5,181 @@
 mod print;
 mod requests;
 
+use link::Link;
+use registers::SIZE;
 use requests::ask;
 use requests::completion;
 use requests::frame;
 use requests::sample;
 use requests::upset;
-use state::Adapter;
 
 // The controller is always enabled. A register stands in D[31:24], the second byte of data.
-fn controller(a: Adapter) -> Adapter {
+fn controller(l: Link, registers: &mut [u8; SIZE]) -> Link {
     // s 0 r 1: 20. LEN 4/2. SPI (bit 1) and the parallel lines (bit 2) are enabled; bit 0 reads 0.
-    let a = ask(a, 0x00, 4, 0x02, 0x07000000);
+    let l = ask(l, registers, 0x00, 4, 0x02, 0x07000000);
     // s 1 r 2: 42. LEN 2/4. CRB is 06: 00 06 00 00.
-    let a = ask(a, 0x00, 2, 0x03, 0);
+    let l = ask(l, registers, 0x00, 2, 0x03, 0);
     // s 2 r 3: 64. LEN 4/2.
-    let a = ask(a, 0x00, 4, 0x04, 0x80000000);
+    let l = ask(l, registers, 0x00, 4, 0x04, 0x80000000);
     // s 3 r 4: 86. LEN 2/4. CRC is 80, its bit 7 is I2CC and is kept: 00 80 00 00.
-    let a = ask(a, 0x00, 2, 0x05, 0);
+    let l = ask(l, registers, 0x00, 2, 0x05, 0);
     // s 4 r 5: A8. LEN 4/2. 0x13 (bit 3) and 0x14 (bit 4) are enabled; bits 7 to 5 read 0.
-    let a = ask(a, 0x00, 4, 0x06, 0xF8000000);
+    let l = ask(l, registers, 0x00, 4, 0x06, 0xF8000000);
     // s 5 r 6: CA. LEN 2/4. CRD is 18: 00 18 00 00.
-    ask(a, 0x00, 2, 0x07, 0)
+    ask(l, registers, 0x00, 2, 0x07, 0)
 }
 
 // CONTROL and FREQ stand in D[15:0], SS in D[7:0].
-fn spi_settings(a: Adapter) -> Adapter {
+fn spi_settings(l: Link, registers: &mut [u8; SIZE]) -> Link {
     // s 6 r 7: EC. LEN 6/2. A length of 8 bits (bits 6 to 0); bit 15 is kept too.
-    let a = ask(a, 0x01, 6, 0x40, 0x00008008);
+    let l = ask(l, registers, 0x01, 6, 0x40, 0x00008008);
     // s 7 r 0, since 7 is followed by 0: 0E. LEN 2/6. CONTROL is 8008: 00 00 08 80.
-    let a = ask(a, 0x01, 2, 0x41, 0);
+    let l = ask(l, registers, 0x01, 2, 0x41, 0);
     // s 0 r 1: 20. LEN 6/2.
-    let a = ask(a, 0x01, 6, 0x50, 0x00001234);
+    let l = ask(l, registers, 0x01, 6, 0x50, 0x00001234);
     // s 1 r 2: 42. LEN 2/6. FREQ is 1234: 00 00 34 12.
-    let a = ask(a, 0x01, 2, 0x51, 0);
+    let l = ask(l, registers, 0x01, 2, 0x51, 0);
     // s 2 r 3: 64. LEN 6/2. D[15:8] is not read.
-    let a = ask(a, 0x01, 6, 0x60, 0x000001A5);
+    let l = ask(l, registers, 0x01, 6, 0x60, 0x000001A5);
     // s 3 r 4: 86. LEN 2/6. SS is A5: 00 00 A5 00.
-    ask(a, 0x01, 2, 0x61, 0)
+    ask(l, registers, 0x01, 2, 0x61, 0)
 }
 
-fn spi_data(a: Adapter) -> Adapter {
+fn spi_data(l: Link, registers: &mut [u8; SIZE]) -> Link {
     // s 4 r 5: A8. LEN 6/2.
-    let a = ask(a, 0x01, 6, 0x00, 0x11223344);
+    let l = ask(l, registers, 0x01, 6, 0x00, 0x11223344);
     // s 5 r 6: CA. LEN 2/6. Word 0 is 11223344: 22 11 44 33.
-    let a = ask(a, 0x01, 2, 0x01, 0);
+    let l = ask(l, registers, 0x01, 2, 0x01, 0);
     // s 6 r 7: EC. LEN 6/2.
-    let a = ask(a, 0x01, 6, 0x10, 0x55667788);
+    let l = ask(l, registers, 0x01, 6, 0x10, 0x55667788);
     // s 7 r 0: 0E. LEN 2/6. Word 1 is 55667788: 66 55 88 77.
-    let a = ask(a, 0x01, 2, 0x11, 0);
+    let l = ask(l, registers, 0x01, 2, 0x11, 0);
     // s 0 r 1: 20. LEN 6/2.
-    let a = ask(a, 0x01, 6, 0x20, 0x99AABBCC);
+    let l = ask(l, registers, 0x01, 6, 0x20, 0x99AABBCC);
     // s 1 r 2: 42. LEN 2/6. Word 2 is 99AABBCC: AA 99 CC BB.
-    let a = ask(a, 0x01, 2, 0x21, 0);
+    let l = ask(l, registers, 0x01, 2, 0x21, 0);
     // s 2 r 3: 64. LEN 6/2.
-    let a = ask(a, 0x01, 6, 0x30, 0xDDEEFF00);
+    let l = ask(l, registers, 0x01, 6, 0x30, 0xDDEEFF00);
     // s 3 r 4: 86. LEN 2/6. Word 3 is DDEEFF00: EE DD 00 FF.
-    ask(a, 0x01, 2, 0x31, 0)
+    ask(l, registers, 0x01, 2, 0x31, 0)
 }
 
-fn spi_transfer(a: Adapter) -> Adapter {
+fn spi_transfer(l: Link, registers: &mut [u8; SIZE]) -> Link {
     // 17: GO gives no reply yet. It was accepted, so r is 5; s stays 4.
-    let a = ask(a, 0x01, 2, 0x72, 0);
+    let l = ask(l, registers, 0x01, 2, 0x72, 0);
     // s 4 r 6: C8. SPI is busy: ERR 40, and as in every error reply LEN 2.
-    let a = ask(a, 0x01, 2, 0x01, 0);
+    let l = ask(l, registers, 0x01, 2, 0x01, 0);
     // s 5 r 6: CA. The GO's reply, LEN 6: of 11223344 the low 8 bits become the received 5A. DATA[31:0] is 1122335A: 22 11 5A 33.
     let received = [0x5A, 0xFF, 0, 0, 0, 0, 0, 0, 0, 0, 0, 0, 0, 0, 0, 0];
-    let a = completion(a, &received);
+    let l = completion(l, registers, &received);
     // 15: SPI is not busy any more.
-    completion(a, &received)
+    completion(l, registers, &received)
 }
 
-fn lines(a: Adapter) -> Adapter {
+fn lines(l: Link, registers: &mut [u8; SIZE]) -> Link {
     // s 6 r 7: EC. LEN 4/2.
-    let a = ask(a, 0x02, 4, 0x10, 0x01020304);
+    let l = ask(l, registers, 0x02, 4, 0x10, 0x01020304);
     // s 7 r 0: 0E. LEN 1/4. DATAOUT is 01020304: 02 01 04 03.
-    let a = ask(a, 0x02, 1, 0x11, 0);
+    let l = ask(l, registers, 0x02, 1, 0x11, 0);
     // s 0 r 1: 20. LEN 4/2. Lines 31 to 16 are outputs.
-    let a = ask(a, 0x02, 4, 0x20, 0xFFFF0000);
+    let l = ask(l, registers, 0x02, 4, 0x20, 0xFFFF0000);
     // s 1 r 2: 42. LEN 1/4. DIRECTION is FFFF0000: FF FF 00 00.
-    let a = ask(a, 0x02, 1, 0x21, 0);
+    let l = ask(l, registers, 0x02, 1, 0x21, 0);
     // s 2 r 3: 64. LEN 4/2. Lines 0, 1 and 16 may interrupt.
-    let a = ask(a, 0x02, 4, 0x30, 0x00010003);
+    let l = ask(l, registers, 0x02, 4, 0x30, 0x00010003);
     // s 3 r 4: 86. LEN 1/4. INTSEL is 00010003: 01 00 03 00.
-    let a = ask(a, 0x02, 1, 0x31, 0);
+    let l = ask(l, registers, 0x02, 1, 0x31, 0);
     // s 4 r 5: A8. LEN 4/2. Line 1 fires on falling, the others on rising.
-    let a = ask(a, 0x02, 4, 0x40, 0x00000002);
+    let l = ask(l, registers, 0x02, 4, 0x40, 0x00000002);
     // s 5 r 6: CA. LEN 1/4. INTTRIG is 00000002: 00 00 02 00.
-    let a = ask(a, 0x02, 1, 0x41, 0);
+    let l = ask(l, registers, 0x02, 1, 0x41, 0);
     // s 6 r 7: EC. LEN 4/2.
-    let a = ask(a, 0x02, 4, 0x70, 0x00000080);
+    let l = ask(l, registers, 0x02, 4, 0x70, 0x00000080);
     // s 7 r 0: 0E. LEN 1/4. INTS is 00000080: 00 00 80 00.
-    let a = ask(a, 0x02, 1, 0x71, 0);
+    let l = ask(l, registers, 0x02, 1, 0x71, 0);
     // s 0 r 1: 20. LEN 4/2. Line 8 goes by the strobe.
-    let a = ask(a, 0x02, 4, 0x80, 0x00000100);
+    let l = ask(l, registers, 0x02, 4, 0x80, 0x00000100);
     // s 1 r 2: 42. LEN 1/4. CLKSEL is 00000100: 00 00 00 01.
-    let a = ask(a, 0x02, 1, 0x81, 0);
+    let l = ask(l, registers, 0x02, 1, 0x81, 0);
     // s 2 r 3: 64. LEN 4/2. Line 8 goes by the strobe's falling edge.
-    let a = ask(a, 0x02, 4, 0x90, 0x00000100);
+    let l = ask(l, registers, 0x02, 4, 0x90, 0x00000100);
     // s 3 r 4: 86. LEN 1/4. EDGESEL is 00000100: 00 00 00 01.
-    ask(a, 0x02, 1, 0x91, 0)
+    ask(l, registers, 0x02, 1, 0x91, 0)
 }
 
-fn samples(a: Adapter) -> Adapter {
+fn samples(l: Link, registers: &mut [u8; SIZE]) -> Link {
     // 17: lines 0 and 1 take 1, line 8 waits for the strobe, line 16 is an output. Line 0 fires, but INTENABLE is 0.
-    let a = sample(a, 0x00010103, 0);
+    let l = sample(l, registers, 0x00010103, 0);
     // s 4 r 5: A8. LEN 4/2. D[0] alone is read.
-    let a = ask(a, 0x02, 4, 0x60, 0xFFFFFFFF);
+    let l = ask(l, registers, 0x02, 4, 0x60, 0xFFFFFFFF);
     // s 5 r 6: CA. LEN 1/4. INTENABLE is 1: 00 00 01 00.
-    let a = ask(a, 0x02, 1, 0x61, 0);
+    let l = ask(l, registers, 0x02, 1, 0x61, 0);
     // s 6 r 6: CC. Lines 0 and 1 fall, line 1 fires: an interrupt, TRN FF, CH 02, LEN 4. INTS becomes 00000002: 00 00 02 00.
-    let a = sample(a, 0x00000000, 0);
+    let l = sample(l, registers, 0x00000000, 0);
     // s 7 r 7: EE. LEN 1/4. INTS is 00000002: 00 00 02 00.
-    let a = ask(a, 0x02, 1, 0x71, 0);
+    let l = ask(l, registers, 0x02, 1, 0x71, 0);
     // 17: the strobe falls, line 8 alone takes 1; INTSEL does not have it.
-    let a = sample(a, 0x00000103, 2);
+    let l = sample(l, registers, 0x00000103, 2);
     // s 0 r 0: 00. LEN 1/4. DATAIN is 00000100: 00 00 00 01.
-    ask(a, 0x02, 1, 0x01, 0)
+    ask(l, registers, 0x02, 1, 0x01, 0)
 }
 
-fn upsets_and_id(a: Adapter) -> Adapter {
+fn upsets_and_id(l: Link, registers: &mut [u8; SIZE]) -> Link {
     // 17: the counter is 1.
-    let a = upset(a);
+    let l = upset(l, registers);
     // s 1 r 1: 22. LEN 4/4. The counter, low byte in D[7:0]: 00 00 01 00.
-    let a = ask(a, 0x13, 4, 0xF1, 0);
+    let l = ask(l, registers, 0x13, 4, 0xF1, 0);
     // s 2 r 2: 44. LEN 4/2.
-    let a = ask(a, 0x13, 4, 0xF0, 0);
+    let l = ask(l, registers, 0x13, 4, 0xF0, 0);
     // s 3 r 3: 66. LEN 4/4. The ID is 00000A: 00 00 0A 00.
-    ask(a, 0x14, 4, 0xD1, 0)
+    ask(l, registers, 0x14, 4, 0xD1, 0)
 }
 
 // The DAC is always enabled; an output stands in D[7:0].
-fn outputs(a: Adapter) -> Adapter {
+fn outputs(l: Link, registers: &mut [u8; SIZE]) -> Link {
     // s 4 r 4: 88. LEN 4/1.
-    let a = ask(a, 0x15, 4, 0x10, 0x11);
+    let l = ask(l, registers, 0x15, 4, 0x10, 0x11);
     // s 5 r 5: AA. LEN 1/4. A is 11: 00 00 11 00.
-    let a = ask(a, 0x15, 1, 0x11, 0);
+    let l = ask(l, registers, 0x15, 1, 0x11, 0);
     // s 6 r 6: CC. LEN 4/1.
-    let a = ask(a, 0x15, 4, 0x20, 0x22);
+    let l = ask(l, registers, 0x15, 4, 0x20, 0x22);
     // s 7 r 7: EE. LEN 1/4. B is 22: 00 00 22 00.
-    let a = ask(a, 0x15, 1, 0x21, 0);
+    let l = ask(l, registers, 0x15, 1, 0x21, 0);
     // s 0 r 0: 00. LEN 4/1.
-    let a = ask(a, 0x15, 4, 0x30, 0x33);
+    let l = ask(l, registers, 0x15, 4, 0x30, 0x33);
     // s 1 r 1: 22. LEN 1/4. C is 33: 00 00 33 00.
-    let a = ask(a, 0x15, 1, 0x31, 0);
+    let l = ask(l, registers, 0x15, 1, 0x31, 0);
     // s 2 r 2: 44. LEN 4/1.
-    let a = ask(a, 0x15, 4, 0x40, 0x44);
+    let l = ask(l, registers, 0x15, 4, 0x40, 0x44);
     // s 3 r 3: 66. LEN 1/4. D is 44: 00 00 44 00.
-    ask(a, 0x15, 1, 0x41, 0)
+    ask(l, registers, 0x15, 1, 0x41, 0)
 }
 
-fn link(a: Adapter) -> Adapter {
+fn commands(l: Link, registers: &mut [u8; SIZE]) -> Link {
     // TEST on port 1, bit 4 clear: 00 63. Port 1 is in loopback.
-    let a = frame(a, 1, &[0x00, 0xE3]);
+    let l = frame(l, registers, 1, &[0x00, 0xE3]);
     // Port 1 sends back what it gets, though it is not active and this is no request: 00 02 AB.
-    let a = frame(a, 1, &[0x00, 0x02, 0xAB]);
+    let l = frame(l, registers, 1, &[0x00, 0x02, 0xAB]);
     // CONNECT on port 1, bit 4 set: 00 73. Port 1 is active, s and r are 0, no port is in loopback.
-    let a = frame(a, 1, &[0x00, 0x3F]);
+    let l = frame(l, registers, 1, &[0x00, 0x3F]);
     // 12: port 0 is not active.
-    let a = ask(a, 0x00, 2, 0x03, 0);
+    let l = ask(l, registers, 0x00, 2, 0x03, 0);
     // RESET on port 0, bit 4 clear: 00 63. Port 0 is active, s and r are 0, every register is 0.
-    let a = frame(a, 0, &[0x00, 0x8F]);
+    let l = frame(l, registers, 0, &[0x00, 0x8F]);
     // s 0 r 1: 20. LEN 2/4. CRB is 00.
-    ask(a, 0x00, 2, 0x03, 0)
+    ask(l, registers, 0x00, 2, 0x03, 0)
 }
 
 fn main() {
-    let a = controller(state::powered_on(0, 0x00000A));
-    let a = spi_transfer(spi_data(spi_settings(a)));
-    let a = samples(lines(a));
-    let a = outputs(upsets_and_id(a));
-    link(a);
+    let mut registers = [0u8; SIZE];
+    state::power_on(&mut registers, 0x00000A);
+    let l = controller(link::fresh(0), &mut registers);
+    let l = spi_settings(l, &mut registers);
+    let l = spi_data(l, &mut registers);
+    let l = spi_transfer(l, &mut registers);
+    let l = lines(l, &mut registers);
+    let l = samples(l, &mut registers);
+    let l = upsets_and_id(l, &mut registers);
+    let l = outputs(l, &mut registers);
+    commands(l, &mut registers);
 }

@@ -1,4 +1,5 @@
 pub mod Formats
 pub mod OneOutcome
 pub mod Ring
+pub mod Pieces
 pub mod Record

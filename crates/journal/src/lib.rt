@@ -1,14 +1,15 @@
 // The journal: a ring of records in lent bytes, each of which takes the state after an event back to the one before it. A journal belongs
 // to the state that it went with.
-use state::RECORD_BYTES;
+mod records;
+
+use channels::groups::Group;
 ghost use mathlib.Core.Path.{_≡_};
-ghost use mathlib.Core.Bool.{true, false};
+ghost use mathlib.Core.Bool.{true, false, cond};
 ghost use Prim.Native.Nat.{_-_, _<_, _≤_};
 ghost use lib.ListN.{length};
-ghost use Rattle.state.specs.Bytes.{recordBytes};
-ghost use Rattle.state.specs.Inner.{isRecord};
+ghost use Rattle.state.specs.Bytes.{stateSize};
 ghost use Rattle.journal.specs.Layout.{formatOf, slotsOf, wrongLength, firstOf, keptOf, wellFormed, placeOf, firstAfter, keptUp, past, emptied, pushed, lowered};
-ghost use Rattle.journal.specs.Record.{restored};
+ghost use Rattle.journal.specs.Record.{keptFor, restored, sound};
 
 // The one format known: its length, slots and version.
 pub const SIZE: usize = 17408;
@@ -120,7 +121,7 @@ fn kept_after(slots: u8, kept: u8) -> u8
 }
 
 // Keeps a record.
-pub fn push(j: &mut [u8], r: &[u8])
+fn push(j: &mut [u8], r: &[u8])
     requires { ⌜ wellFormed (now j) ≡ true ⌝ }
     requires { ⌜ length (now r) ≤ 256 ⌝ }
     ensures { λ _. ⌜ now (j .exit) ≡ pushed (now (r .entry)) (now (j .entry)) ⌝ }
@@ -136,6 +137,18 @@ pub fn push(j: &mut [u8], r: &[u8])
     j[KEPT] = k;
 }
 
+// Keeps of a state what an event of this group may change.
+pub fn keep(j: &mut [u8], s: &[u8], group: Group)
+    requires { ⌜ wellFormed (now j) ≡ true ⌝ }
+    requires { ⌜ length (now s) ≡ stateSize ⌝ }
+    ensures { λ _. ⌜ now (j .exit) ≡ pushed (keptFor group (now (s .entry))) (now (j .entry)) ⌝ }
+{
+    // By way of bytes of its own, which are copied many at a time: the compiler cannot tell two lent slices apart.
+    let mut r = [0u8; records::MOST];
+    let n = records::keep(s, group, &mut r);
+    push(j, &r[0..n]);
+}
+
 // Where the newest record stands.
 fn newest(j: &[u8]) -> usize
     requires { ⌜ wellFormed (now j) ≡ true ⌝ }
@@ -148,30 +161,19 @@ fn newest(j: &[u8]) -> usize
     place(f.slots, first, kept - 1)
 }
 
-// Whether link and registers of the newest record are in range: over the bytes of any state it then spells a state.
-pub fn is_sound(j: &[u8]) -> bool
+// Puts the newest record over the bytes of a state, unless it is damaged. Tells whether it is sound.
+pub fn restore(j: &[u8], s: &mut [u8]) -> bool
     requires { ⌜ wellFormed (now j) ≡ true ⌝ }
     requires { ⌜ 0 < keptOf (now j) ⌝ }
-    ensures { λ r. ⌜ r ≡ isRecord (past (now (j .entry)) 0) ⌝ }
+    requires { ⌜ length (now s) ≡ stateSize ⌝ }
+    ensures { λ x. ⌜ (x ≡ sound (now (s .entry)) (past (now (j .entry)) 0)) × (now (s .exit) ≡ cond x (restored (now (s .entry)) (past (now (j .entry)) 0)) (now (s .entry))) ⌝ }
 {
     let at = newest(j);
-    let end = at + SLOT_BYTES;
-    state::is_record(&j[at..end])
-}
-
-// The newest record over the bytes of a state.
-pub fn restore(j: &[u8], s: &mut [u8])
-    requires { ⌜ wellFormed (now j) ≡ true ⌝ }
-    requires { ⌜ 0 < keptOf (now j) ⌝ }
-    requires { ⌜ recordBytes ≤ length (now s) ⌝ }
-    ensures { λ _. ⌜ now (s .exit) ≡ restored (now (s .entry)) (past (now (j .entry)) 0) ⌝ }
-{
-    let at = newest(j);
-    let end = at + RECORD_BYTES;
-    // By way of bytes of its own, which are copied many at a time: the compiler cannot tell two lent slices apart.
-    let mut bytes = [0u8; RECORD_BYTES];
+    let end = at + records::MOST;
+    // By way of bytes of its own, as `keep` does.
+    let mut bytes = [0u8; records::MOST];
     parts::over(&mut bytes, &j[at..end]);
-    parts::store(s, 0, &bytes);
+    records::restore(&bytes, s)
 }
 
 // Gives the newest record up.

@@ -7,7 +7,7 @@ use borrow.Author.Tests.{eq-eqb}
 use lib.ListN.{length}
 use Rattle.bits.specs.Bits.{bitOf}
 use Rattle.commands.specs.declared.command.Does.{Does}
-use Rattle.commands.specs.declared.command.Does.the-variants.{Write, Switch, Read, ReadId, Clear, Start}
+use Rattle.commands.specs.declared.command.Does.the-variants.{Write, Switch, Read, Clear, Start}
 use Rattle.commands.specs.declared.request.Request.{Request}
 use Rattle.channels.specs.Errors.{errorOf, firstError, decoded}
 use Rattle.channels.specs.Perform.{told, replyTo, left, leftBy, replied, performed}
@@ -16,10 +16,9 @@ use Rattle.channels.proofs.Laws.{decoded-cases}
 use Rattle.numbers.specs.Numbers.{noFrame}
 use Rattle.packets.specs.Packets.{requestOf}
 use Rattle.link.specs.Link.{receiveNumber, numberIn, inLoopback}
-use Rattle.state.specs.declared.Adapter.{Adapter}
+use Rattle.state.specs.State.{Adapter, withRegisters}
 use Rattle.chip.specs.Answer.{Reaction, gives}
 use Rattle.chip.specs.Event.{frame}
-use Rattle.state.specs.State.{withRegisters}
 use Rattle.chip.specs.Request.{replies, finished, requested}
 use Rattle.chip.specs.Frame.{addressOf, controlOf, informationOf, isConnect, isReset, isTest, counted, numbered, carried, addressed, onFrame}
 use Rattle.chip.specs.Chip.{reaction}
@@ -39,13 +38,12 @@ pub record Ruled (a : Adapter) (q : Request) (n : ℕ) (r : Reaction) : Type 0 w
 module _ (a : Adapter) (q : Request) where
   -- what a request decoded so comes to
   abbrev comesTo : Decoded → Reaction
-  comesTo d = finished (withRegisters a (leftBy (a .registers) q d)) (q .trn) (q .ch) (replyTo (a .registers) (a .id) d)
+  comesTo d = finished (withRegisters a (leftBy (a .registers) q d)) (q .trn) (q .ch) (replyTo (a .registers) d)
 
-  granted : (given : ℕ) (does : Does) → NoError q (finished (withRegisters a (left (a .registers) q does)) (q .trn) (q .ch) (told (a .registers) (a .id) given does))
+  granted : (given : ℕ) (does : Does) → NoError q (finished (withRegisters a (left (a .registers) q does)) (q .trn) (q .ch) (told (a .registers) given does))
   granted given (Write r) = reply _ _ _
-  granted given (Switch r) = reply _ _ _
+  granted given (Switch c) = reply _ _ _
   granted given (Read r) = reply _ _ _
-  granted given ReadId = reply _ _ _
   granted given (Clear r) = reply _ _ _
   granted given (Start r) = later _
 

@@ -10,7 +10,7 @@ use lib.Dec.{eqb, ltb, lit<}
 use borrow.Author.Tests.{ltb-false}
 use Rattle.numbers.specs.Numbers as number
 use Rattle.bits.proofs.Tests.{either}
-use Rattle.state.specs.declared.Adapter.{Adapter}
+use Rattle.state.specs.State.{Adapter}
 use Rattle.state.specs.Bytes.{stateSize, stateIn, isState}
 use Rattle.state.proofs.Good.{ranges}
 use Rattle.state.proofs.Spelling.{its-range}

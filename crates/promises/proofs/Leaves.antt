@@ -6,7 +6,8 @@ use mathlib.Core.Bool.{Bool, true, false, not, cond, true≢false}
 use mathlib.Core.List.{List, [], _∷_, foldl}
 use native.Mathlib.Omega.{arith}
 use borrow.Author.Tests.{leb-true, lt-leb, le-ltb}
-use lib.ListN.{length, take, drop}
+use Rattle.bits.proofs.Tests.{and-right}
+use lib.ListN.{length, take, drop, getD}
 use lib.Seq.{drop-at}
 use lib.Dec.{eqb, leb}
 use Rattle.numbers.specs.Numbers as number
@@ -17,12 +18,11 @@ use Rattle.receiver.specs.declared.Receiver.{Receiver}
 use Rattle.receiver.specs.declared.Received.{Received}
 use Rattle.receiver.specs.Receiver as receiver
 use Rattle.receiver.specs.Receive.{reading, readFrom, receivedAs, received, outputAfter}
-use Rattle.state.specs.declared.Adapter.{Adapter}
+use Rattle.state.specs.State.{Adapter, powerOn}
 use Rattle.chip.specs.Answer.{Reaction, frontLength, laid}
 use Rattle.chip.specs.Event.{Event, frame, completion, sample, upset}
 use Rattle.chip.proofs.EventFits.{EventFits}
 use Rattle.chip.specs.Chip.{reaction, acceptedReset}
-use Rattle.state.specs.State.{powerOn}
 use Rattle.state.specs.Bytes.{stateSize, stateBytes, stateIn, isState}
 use Rattle.state.proofs.Good.{ranges, power-on-good}
 use Rattle.state.proofs.Spelling.{its-range, its-good, state-again, state-bytes}
@@ -226,7 +226,7 @@ module _ (s : List ℕ) (j : List ℕ) (e : Event) (output : List ℕ) where
       split (acceptedReset e) (λ t. absurd (omega (arith, reset-answered (stateIn s) e t))) (λ t. t) in
       let w : Well j = of-well j (d .passes .formed) in
       record {
-        state = ap (λ (x : Outcome). x .state) (d .call) ∙ ap stateBytes (dropped-keeps (stateIn s) e least most) ∙ state-again s (d .passes .state) b;
+        state = ap (λ (x : Outcome). x .state) (d .call) ∙ ap stateBytes (dropped-keeps (stateIn s) e least most) ∙ state-again s (d .passes .state);
         bytes = event-other (λ z. omega arith);
         entry = ap (λ (x : Outcome). x .journal) (d .call) ∙ rw other refl;
         kept = ap (λ (x : Outcome). keptIn (x .journal)) (d .call) ∙ kept-number s e j w other;
@@ -257,7 +257,7 @@ back-leaves-a-state s j h = go (not (isState s)) (not (wellFormed j)) (eqb (kept
     go false true n r e q = absurd (true≢false q)
     go false false true r e q = absurd (true≢false q)
     go false false false false e q = absurd (true≢false q)
-    go false false false true e q = e
+    go false false false true e q = and-right (leb (getD (past j 0) 0 0) 3) _ e
 
 pub create-leaves-a-state : (s : List ℕ) (id : ℕ) → length s ≡ stateSize → id ≤ number.idMost → isState (created s id .bytes) ≡ true
-create-leaves-a-state s id n h = rw (any-bytes s id n h) (state-bytes (powerOn id) (power-on-good id h))
+create-leaves-a-state s id n h = rw (any-bytes s id n h) (state-bytes (powerOn id) (power-on-good id))

@@ -12,10 +12,9 @@ use lib.Seq.{drop-drop}
 use lib.Dec.{eqb, ltb, leb}
 use borrow.Author.Tests.{eq-eqb, ne-eqb, eqb-true, eqb-false, ltb-false, le-ltb, leb-true, not-false}
 use Rattle.numbers.specs.Numbers as number
-use Rattle.state.specs.declared.Adapter.{Adapter}
+use Rattle.state.specs.State.{Adapter, powerOn}
 use Rattle.chip.specs.Event.{spi, Event, frame, completion, sample, upset}
 use Rattle.chip.proofs.EventFits.{EventFits}
-use Rattle.state.specs.State.{powerOn}
 use Rattle.state.specs.Bytes.{stateSize, stateBytes, stateIn}
 use Rattle.state.proofs.Spelling.{state-back, state-bytes}
 use Rattle.chip.specs.Chip.{reaction, acceptedReset}
@@ -81,7 +80,7 @@ module _ (a : Adapter) (g : Good a) (j : List ℕ) (w : Well j) (e : Event) (o :
   is-done : refused e o ≡ false → called (stateBytes a) j e o
       ≡ outcome (shown (response (reaction a e))) (stateBytes (reaction a e .adapter)) (recorded (stateBytes a) e j) (laid (reaction a e .frames) o)
   unfolding done
-  is-done h = called-done (stateBytes a) j e o (own ∙ rw h refl) ∙ rw (state-back a g) refl
+  is-done h = called-done (stateBytes a) j e o (own ∙ rw h refl) ∙ rw (state-back a (g .registers .fits .long)) refl
 
 -- the numbers that the chip gives are no refusals
 pub not-one-to-ten : (n : ℕ) → (n ≡ 0) ⊎ ((11 ≤ n) × (n ≤ 17)) → (leb 1 n && leb n 10) ≡ true → ⊥
@@ -113,7 +112,7 @@ told id s empty = bare 17 []
 module _ (id : ℕ) (small : id ≤ number.idMost) where
   after-good : (es : List Event) → AllFit es → Good (stateAfter id es)
   unfolding AllFit
-  after-good [] f = power-on-good id small
+  after-good [] f = power-on-good id
   after-good (e ∷ es) f = good-stays (stateAfter id es) e (after-good es (f .1)) (f .0)
 
   -- their bytes
@@ -483,7 +482,7 @@ module _ (r : Run) where
       let x = step (r .id) (r .id-fits) (standing r) last inv-end back tt in (
         gives-end back ∙ rw e refl,
         ap (λ (p : Handed). stateIn (leavesOurs p back .state)) at-end ∙ ap (λ (p : Handed). stateIn (p .state)) (x .leaves-eq)
-            ∙ state-back _ (after-good (r .id) (r .id-fits) _ (x .inv .fit)) ∙ rw e refl,
+            ∙ state-back _ (after-good (r .id) (r .id-fits) _ (x .inv .fit) .registers .fits .long) ∙ rw e refl,
       )
 
   refused-same : (k : Call) → refuses (givesOurs (left ours r) k) ≡ true → (leavesOurs (left ours r) k ≡ left ours r) × (givesOurs (left ours r) k .output ≡ lent k)
@@ -499,7 +498,7 @@ unfolding pair bytesAfter
 demand3 =
     record {
       undamaged = λ r k. rw (gives-end r k) (never r k);
-      state = λ r. ap (λ (p : Handed). stateIn (p .state)) (at-end r) ∙ state-back (dueState r) (after-good (r .id) (r .id-fits) (standing r .events) (inv-end r .fit));
+      state = λ r. ap (λ (p : Handed). stateIn (p .state)) (at-end r) ∙ state-back (dueState r) (after-good (r .id) (r .id-fits) (standing r .events) (inv-end r .fit) .registers .fits .long);
       reply = λ r e output. gives-end r (event e output);
       takes-back = λ r. some-back r;
       refused-at-zero = λ r. zero-back r;

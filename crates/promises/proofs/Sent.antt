@@ -8,9 +8,8 @@ use Rattle.parts.proofs.Laws.{AreBytes}
 use Rattle.transmitter.specs.Frame.{frame}
 use Rattle.transmitter.specs.Transmit as transmit
 use Rattle.receiver.specs.Receiver.{hunting, image}
-use Rattle.state.specs.declared.Adapter.{Adapter}
+use Rattle.state.specs.State.{Adapter, inRange}
 use Rattle.chip.specs.Event.{Event}
-use Rattle.state.specs.State.{inRange}
 use Rattle.chip.specs.Chip.{reaction}
 use Rattle.chip.proofs.EventFits.{EventFits}
 use Rattle.state.proofs.Good.{ranges}

@@ -12,9 +12,8 @@ use Rattle.commands.specs.declared.command.Register.the-variants.{Seu}
 use Rattle.parts.specs.Parts.{part, put}
 use Rattle.parts.specs.Digits.{number, digits}
 use Rattle.registers.specs.Registers.{read, store}
-use Rattle.state.specs.declared.Adapter.{Adapter}
+use Rattle.state.specs.State.{Adapter, poweredOn, powerOn}
 use Rattle.chip.specs.Event.{Event, frame, upset}
-use Rattle.state.specs.State.{poweredOn, powerOn}
 use Rattle.chip.specs.Frame.{isResetFrame, commanded, addressed, onFrame}
 use Rattle.chip.specs.Chip.{reaction, onUpset, acceptedReset}
 use Rattle.adapter.specs.declared.KeptNumber.{KeptNumber}
@@ -116,7 +115,7 @@ module _ (c : Calls) (d : Demand3 c) where
 
   -- leave the state as it came
   pub state-stays : ((p : c .Pair) (e : Event) (o : List ℕ) → c .state (c .leaves p (event e o)) ≡ c .state p) → ⊥
-  unfolding poweredOn read part number
+  unfolding poweredOn read store part put number digits
   state-stays h =
       let z : upsets (c .state (start-of c)) ≡ 0 = ap upsets state-at-start in
       let s : upsets (c .state (c .leaves (start-of c) upset-call)) ≡ upsets (c .state (start-of c)) = ap upsets (h (start-of c) upset output) in
@@ -134,7 +133,7 @@ module _ (c : Calls) (d : Demand3 c) where
 
   -- step back and leave the state
   pub back-stays : ((p : c .Pair) → c .state (c .leaves p back) ≡ c .state p) → ⊥
-  unfolding after-back ran poweredOn read part number
+  unfolding after-back ran poweredOn read store part put number digits
   back-stays h =
       let z : upsets (c .state (c .leaves (c .leaves (start-of c) upset-call) back)) ≡ 0 =
       ap upsets (d .state after-back)

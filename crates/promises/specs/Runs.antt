@@ -8,10 +8,9 @@ use mathlib.Core.List.{List, [], _∷_, foldl}
 use lib.ListN.{length, drop, getD}
 use lib.Dec.{eqb, ltb, leb}
 use Rattle.numbers.specs.Numbers as number
-use Rattle.state.specs.declared.Adapter.{Adapter}
+use Rattle.state.specs.State.{Adapter, powerOn}
 use Rattle.chip.specs.Answer.{Reaction, frontLength, laid}
 use Rattle.chip.specs.Event.{Completion, spi, Event, frame, completion, sample, upset}
-use Rattle.state.specs.State.{powerOn}
 use Rattle.chip.specs.Chip.{reaction, acceptedReset}
 use Rattle.journal.specs.Layout.{slotsOf, wrongLength}
 use Rattle.adapter.specs.declared.KeptNumber.{KeptNumber}

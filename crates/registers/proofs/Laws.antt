@@ -12,7 +12,7 @@ use lib.ListN.{length, replicate, length-replicate}
 use Rattle.bits.proofs.Bits.{bits-ext, bit-and}
 use Rattle.bits.specs.Bits.{bitOf}
 use Rattle.bits.proofs.Taut.{taut3}
-use Rattle.bits.proofs.Tests.{and-left, and-right, le-or-le}
+use Rattle.bits.proofs.Tests.{and-left, and-right, both, le-or-le}
 use Rattle.parts.specs.Parts.{part, put, allZero}
 use Rattle.parts.specs.Digits.{number, digits}
 use Rattle.parts.specs.Digits.{bytesIn}
@@ -21,7 +21,7 @@ use Rattle.parts.specs.declared.Width.the-variants.{Byte, Half, Word}
 use Rattle.parts.proofs.Laws.{Apart, AreBytes, bytes-put, length-put, part-put-apart, part-put-same, part-part}
 use Rattle.parts.proofs.Digits.{length-digits, number-digits, digit-bytes, zeros-number, zeros-replicate, zeros-take, zeros-drop}
 use Rattle.commands.specs.declared.command.Register.{Register}
-use Rattle.commands.specs.declared.command.Register.the-variants.{Crb, Crd, Intenable}
+use Rattle.commands.specs.declared.command.Register.the-variants.{Crb, Crd, ChipId, Intenable}
 use Rattle.registers.specs.Registers.{size, rowOf, read, store, zeroed, areZero, isWithin, within}
 use Rattle.registers.proofs.Rows.{place, wide, end, apart, alike, only, placed, mask-fits}
 
@@ -162,10 +162,15 @@ module _ (rs : List ℕ) (r : Register) (v : ℕ) (n : length rs ≡ size) where
   -- what is stored has no bit that reads 0
   pub store-within : within rs ≡ true → within (store rs r v) ≡ true
   store-within h =
-      let o = only r in
       let crb = alike Crb r || apart Crb r in
       let crd = alike Crd r || apart Crd r in
+      let id = alike ChipId r || apart ChipId r in
+      let o3 = both (crb && crd && id) (alike Intenable r || apart Intenable r) (only r) in
+      let o2 = both (crb && crd) id (o3 .0) in
+      let o1 = both crb crd (o2 .0) in
+      let h3 = both (isWithin rs Crb && isWithin rs Crd && isWithin rs ChipId) (isWithin rs Intenable) h in
+      let h2 = both (isWithin rs Crb && isWithin rs Crd) (isWithin rs ChipId) (h3 .0) in
+      let h1 = both (isWithin rs Crb) (isWithin rs Crd) (h2 .0) in
       ap₂ _&&_
-      (ap₂ _&&_ (stays-within Crb (and-left crb crd (and-left (crb && crd) _ o)) (and-left (isWithin rs Crb) _ (and-left (isWithin rs Crb && isWithin rs Crd) _ h)))
-      (stays-within Crd (and-right crb crd (and-left (crb && crd) _ o)) (and-right (isWithin rs Crb) _ (and-left (isWithin rs Crb && isWithin rs Crd) _ h))))
-      (stays-within Intenable (and-right (crb && crd) _ o) (and-right (isWithin rs Crb && isWithin rs Crd) _ h))
+      (ap₂ _&&_ (ap₂ _&&_ (stays-within Crb (o1 .0) (h1 .0)) (stays-within Crd (o1 .1) (h1 .1))) (stays-within ChipId (o2 .1) (h2 .1)))
+      (stays-within Intenable (o3 .1) (h3 .1))

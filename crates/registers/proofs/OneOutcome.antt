@@ -1,10 +1,12 @@
 -- Any two outcomes that a public function's contract allows coincide.
 use mathlib.Core.Bool.{Bool}
 use mathlib.Core.List.{List}
-use mathlib.Core.Path.{sym, ap₂, _∙_}
+use mathlib.Core.Path.{sym, ap, ap₂, _∙_}
 use Prim.Native.Nat.{ℕ}
 use denote.Ref.{now}
 use Rattle.parts.proofs.Outcome.{One}
+use Rattle.commands.specs.declared.command.Register.the-variants.{SpiData0}
+use Rattle.registers.specs.Registers.{read}
 use Rattle.registers.proofs as this
 
 pub read-one : One 1 this.read.Kinds.ps this.read.Kinds.r this.read.Reads.Post (λ κs x s. x)
@@ -31,5 +33,7 @@ are-within-one κs a x y s t e f = e ∙ sym f
 pub gpio-sample-one : One {B = Bool × List ℕ} 1 this.gpio.sample.Kinds.ps this.gpio.sample.Kinds.r this.gpio.sample.Reads.Post (λ κs x s. (x, now (s .0)))
 gpio-sample-one κs a x y s t e f = ap₂ (λ (b : Bool) (l : List ℕ). (b, l)) (e .0 ∙ sym (f .0)) (e .1 ∙ sym (f .1))
 
-pub spi-complete-one : One 2 this.spi.complete.Kinds.ps this.spi.complete.Kinds.r this.spi.complete.Reads.Post (λ κs x s. now (s .0))
-spi-complete-one κs a x y s t e f = e ∙ sym f
+pub spi-complete-one : One {B = ℕ × List ℕ} 2 this.spi.complete.Kinds.ps this.spi.complete.Kinds.r this.spi.complete.Reads.Post (λ κs x s. (x, now (s .0)))
+spi-complete-one κs a x y s t e f =
+    let after = e .0 ∙ sym (f .0) in
+    ap₂ (λ (n : ℕ) (l : List ℕ). (n, l)) (e .1 ∙ ap (λ (l : List ℕ). read l SpiData0) after ∙ sym (f .1)) after

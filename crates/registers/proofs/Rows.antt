@@ -1,5 +1,5 @@
 -- What all rows have, computed for each register: bytes among those of the registers, a mask no wider than they are, a place in D; every bit of its
--- bytes but for the three of `within`, and no byte of these unless it has all of them. And the rows stand one behind the other.
+-- bytes but for the four of `within`, and no byte of these unless it has all of them. And the rows stand one behind the other.
 use Prim.Native.Nat.{ℕ, _+_, _*_, _/_, _%_, _^_, _≤_, _<_}
 use mathlib.Core.Bool.{Bool, true, _&&_, _||_}
 use mathlib.Core.List.{List, [], _∷_}
@@ -14,7 +14,7 @@ use Rattle.parts.specs.Digits.{number, digits, bytesIn}
 use Rattle.commands.specs.declared.command.Register.{Register}
 use Rattle.commands.specs.declared.command.Register.the-variants.{Crb, Crc, Crd, SpiControl, SpiFreq, SpiSs, SpiData0, SpiData1, SpiData2, SpiData3}
 use Rattle.commands.specs.declared.command.Register.the-variants.{SpiGo, Dataout, Datain, Direction, Intsel, Inttrig, Ints, Clksel, Edgesel}
-use Rattle.commands.specs.declared.command.Register.the-variants.{Intenable, Seu, DacA, DacB, DacC, DacD}
+use Rattle.commands.specs.declared.command.Register.the-variants.{Intenable, Seu, DacA, DacB, DacC, DacD, ChipId}
 use Rattle.registers.specs.declared.Row.{Row}
 use Rattle.registers.specs.Registers.{size, rowOf, read, store, shown, written, isWithin, within}
 
@@ -40,11 +40,13 @@ abbrev bounded : Register → Bool
 bounded r = leb (end r) size && (ltb (rowOf r .mask) (256 ^ wide r) && ltb (rowOf r .low) 32)
 
 abbrev alone : Register → Bool
-alone r = (alike Crb r || apart Crb r) && (alike Crd r || apart Crd r) && (alike Intenable r || apart Intenable r)
+alone r =
+    (alike Crb r || apart Crb r) && (alike Crd r || apart Crd r) && (alike ChipId r || apart ChipId r)
+    && (alike Intenable r || apart Intenable r)
 
--- every bit of its bytes is kept, or it is one of the three
+-- every bit of its bytes is kept, or it is one of the four
 abbrev whole : Register → Bool
-whole r = eqb (rowOf r .mask + 1) (256 ^ wide r) || alike Crb r || alike Crd r || alike Intenable r
+whole r = eqb (rowOf r .mask + 1) (256 ^ wide r) || alike Crb r || alike Crd r || alike ChipId r || alike Intenable r
 
 rows : (r : Register) → (bounded r && alone r && whole r) ≡ true
 rows Crb = refl
@@ -55,6 +57,7 @@ rows DacA = refl
 rows DacB = refl
 rows DacC = refl
 rows DacD = refl
+rows ChipId = refl
 rows SpiControl = refl
 rows SpiFreq = refl
 rows SpiSs = refl
@@ -79,7 +82,7 @@ bounds r = and-left (bounded r) (alone r) (and-left (bounded r && alone r) (whol
 pub only : (r : Register) → alone r ≡ true
 only r = and-right (bounded r) (alone r) (and-left (bounded r && alone r) (whole r) (rows r))
 
--- no register but the three has a bit that reads 0
+-- no register but the four has a bit that reads 0
 pub keeps-all : (r : Register) → whole r ≡ true
 keeps-all r = and-right (bounded r && alone r) (whole r) (rows r)
 
@@ -89,7 +92,7 @@ inTurn p [] = eqb p size
 inTurn p (r ∷ rs) = eqb (place r) p && inTurn (end r) rs
 
 pub in-turn : inTurn 0
-    (Crb ∷ Crc ∷ Crd ∷ Seu ∷ DacA ∷ DacB ∷ DacC ∷ DacD ∷ SpiControl ∷ SpiFreq ∷ SpiSs ∷ SpiData0 ∷ SpiData1 ∷ SpiData2 ∷ SpiData3 ∷ SpiGo
+    (Crb ∷ Crc ∷ Crd ∷ Seu ∷ DacA ∷ DacB ∷ DacC ∷ DacD ∷ ChipId ∷ SpiControl ∷ SpiFreq ∷ SpiSs ∷ SpiData0 ∷ SpiData1 ∷ SpiData2 ∷ SpiData3 ∷ SpiGo
     ∷ Dataout ∷ Datain ∷ Direction ∷ Intsel ∷ Inttrig ∷ Ints ∷ Clksel ∷ Edgesel ∷ Intenable ∷ []) ≡ true
 in-turn = refl
 
@@ -132,5 +135,6 @@ module _ (r : Register) (x : Row) (e : x ≡ rowOf r) where
     pub has-within : (v : ℕ) → v ≡ read rs r → eqb (bitAnd v (x .mask)) v ≡ isWithin rs r
     has-within v h = simp (h, e)
 
-pub all-within : (rs : List ℕ) (x y z : Bool) → x ≡ isWithin rs Crb → y ≡ isWithin rs Crd → z ≡ isWithin rs Intenable → (x && y && z) ≡ within rs
-all-within rs x y z e f g = simp (e, f, g)
+pub all-within : (rs : List ℕ) (x y z t : Bool) → x ≡ isWithin rs Crb → y ≡ isWithin rs Crd → z ≡ isWithin rs ChipId → t ≡ isWithin rs Intenable
+    → (x && y && z && t) ≡ within rs
+all-within rs x y z t e f g h = simp (e, f, g, h)

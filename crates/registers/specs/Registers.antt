@@ -1,5 +1,5 @@
 -- The registers of all channels, as bytes: a row for each, with its place, its width, the bits that it keeps, and the bit of D where its lowest
--- one stands.
+-- one stands. First those of the core, then those of the channels that CRB switches. docs/JOURNAL.md has them byte by byte.
 use Prim.Native.Nat.{ℕ, _*_, _/_, _%_, _^_}
 use mathlib.Core.Bool.{Bool, _&&_}
 use mathlib.Core.List.{List}
@@ -13,14 +13,14 @@ use Rattle.parts.specs.declared.Width.the-variants.{Byte, Half, Word}
 use Rattle.commands.specs.declared.command.Register.{Register}
 use Rattle.commands.specs.declared.command.Register.the-variants.{Crb, Crc, Crd, SpiControl, SpiFreq, SpiSs, SpiData0, SpiData1, SpiData2, SpiData3}
 use Rattle.commands.specs.declared.command.Register.the-variants.{SpiGo, Dataout, Datain, Direction, Intsel, Inttrig, Ints, Clksel, Edgesel}
-use Rattle.commands.specs.declared.command.Register.the-variants.{Intenable, Seu, DacA, DacB, DacC, DacD}
+use Rattle.commands.specs.declared.command.Register.the-variants.{Intenable, Seu, DacA, DacB, DacC, DacD, ChipId}
 use Rattle.registers.specs.declared.Row.{Row}
 
 -- ---- the rows
 
 -- the bytes of all of them
 abbrev pub size : ℕ
-size = 66
+size = 70
 
 abbrev pub row : ℕ → Width → ℕ → ℕ → Row
 row place width mask low = record { place = place; width = width; mask = mask; low = low }
@@ -37,25 +37,27 @@ rowOf DacA = row 7 Byte 0xFF 0
 rowOf DacB = row 8 Byte 0xFF 0
 rowOf DacC = row 9 Byte 0xFF 0
 rowOf DacD = row 10 Byte 0xFF 0
+-- the chip's ID, 24 bits
+rowOf ChipId = row 11 Word 0xFFFFFF 0
 -- SPI: CONTROL and FREQ in D[15:0], SS in D[7:0], the words of DATA; and the TRN of an open GO, 0 where none is open
-rowOf SpiControl = row 11 Half 0xFFFF 0
-rowOf SpiFreq = row 13 Half 0xFFFF 0
-rowOf SpiSs = row 15 Byte 0xFF 0
-rowOf SpiData0 = row 16 Word 0xFFFFFFFF 0
-rowOf SpiData1 = row 20 Word 0xFFFFFFFF 0
-rowOf SpiData2 = row 24 Word 0xFFFFFFFF 0
-rowOf SpiData3 = row 28 Word 0xFFFFFFFF 0
-rowOf SpiGo = row 32 Byte 0xFF 0
+rowOf SpiControl = row 15 Half 0xFFFF 0
+rowOf SpiFreq = row 17 Half 0xFFFF 0
+rowOf SpiSs = row 19 Byte 0xFF 0
+rowOf SpiData0 = row 20 Word 0xFFFFFFFF 0
+rowOf SpiData1 = row 24 Word 0xFFFFFFFF 0
+rowOf SpiData2 = row 28 Word 0xFFFFFFFF 0
+rowOf SpiData3 = row 32 Word 0xFFFFFFFF 0
+rowOf SpiGo = row 36 Byte 0xFF 0
 -- GPIO: 32 lines; INTENABLE in D[0]
-rowOf Dataout = row 33 Word 0xFFFFFFFF 0
-rowOf Datain = row 37 Word 0xFFFFFFFF 0
-rowOf Direction = row 41 Word 0xFFFFFFFF 0
-rowOf Intsel = row 45 Word 0xFFFFFFFF 0
-rowOf Inttrig = row 49 Word 0xFFFFFFFF 0
-rowOf Ints = row 53 Word 0xFFFFFFFF 0
-rowOf Clksel = row 57 Word 0xFFFFFFFF 0
-rowOf Edgesel = row 61 Word 0xFFFFFFFF 0
-rowOf Intenable = row 65 Byte 0x1 0
+rowOf Dataout = row 37 Word 0xFFFFFFFF 0
+rowOf Datain = row 41 Word 0xFFFFFFFF 0
+rowOf Direction = row 45 Word 0xFFFFFFFF 0
+rowOf Intsel = row 49 Word 0xFFFFFFFF 0
+rowOf Inttrig = row 53 Word 0xFFFFFFFF 0
+rowOf Ints = row 57 Word 0xFFFFFFFF 0
+rowOf Clksel = row 61 Word 0xFFFFFFFF 0
+rowOf Edgesel = row 65 Word 0xFFFFFFFF 0
+rowOf Intenable = row 69 Byte 0x1 0
 
 -- ---- one register
 
@@ -87,6 +89,6 @@ areZero first many rs = allZero (part first many rs)
 abbrev pub isWithin : List ℕ → Register → Bool
 isWithin rs r = eqb (bitAnd (read rs r) (rowOf r .mask)) (read rs r)
 
--- the three that do not keep every bit of their bytes
+-- the four that do not keep every bit of their bytes
 abbrev pub within : List ℕ → Bool
-within rs = isWithin rs Crb && isWithin rs Crd && isWithin rs Intenable
+within rs = isWithin rs Crb && isWithin rs Crd && isWithin rs ChipId && isWithin rs Intenable

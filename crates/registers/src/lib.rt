@@ -12,7 +12,7 @@ use commands::command::Register;
 use parts::Width;
 
 // The bytes of all of them.
-pub const SIZE: usize = 66;
+pub const SIZE: usize = 70;
 
 // A register's place and width, the bits that it keeps, and the bit of D where its lowest one stands.
 pub struct Row {
@@ -45,23 +45,24 @@ fn row_of(which: Register) -> Row
         Register::DacB => at(8, Width::Byte, 0xff, 0),
         Register::DacC => at(9, Width::Byte, 0xff, 0),
         Register::DacD => at(10, Width::Byte, 0xff, 0),
-        Register::SpiControl => at(11, Width::Half, 0xffff, 0),
-        Register::SpiFreq => at(13, Width::Half, 0xffff, 0),
-        Register::SpiSs => at(15, Width::Byte, 0xff, 0),
-        Register::SpiData0 => at(16, Width::Word, 0xffffffff, 0),
-        Register::SpiData1 => at(20, Width::Word, 0xffffffff, 0),
-        Register::SpiData2 => at(24, Width::Word, 0xffffffff, 0),
-        Register::SpiData3 => at(28, Width::Word, 0xffffffff, 0),
-        Register::SpiGo => at(32, Width::Byte, 0xff, 0),
-        Register::Dataout => at(33, Width::Word, 0xffffffff, 0),
-        Register::Datain => at(37, Width::Word, 0xffffffff, 0),
-        Register::Direction => at(41, Width::Word, 0xffffffff, 0),
-        Register::Intsel => at(45, Width::Word, 0xffffffff, 0),
-        Register::Inttrig => at(49, Width::Word, 0xffffffff, 0),
-        Register::Ints => at(53, Width::Word, 0xffffffff, 0),
-        Register::Clksel => at(57, Width::Word, 0xffffffff, 0),
-        Register::Edgesel => at(61, Width::Word, 0xffffffff, 0),
-        Register::Intenable => at(65, Width::Byte, 0x1, 0),
+        Register::ChipId => at(11, Width::Word, 0xffffff, 0),
+        Register::SpiControl => at(15, Width::Half, 0xffff, 0),
+        Register::SpiFreq => at(17, Width::Half, 0xffff, 0),
+        Register::SpiSs => at(19, Width::Byte, 0xff, 0),
+        Register::SpiData0 => at(20, Width::Word, 0xffffffff, 0),
+        Register::SpiData1 => at(24, Width::Word, 0xffffffff, 0),
+        Register::SpiData2 => at(28, Width::Word, 0xffffffff, 0),
+        Register::SpiData3 => at(32, Width::Word, 0xffffffff, 0),
+        Register::SpiGo => at(36, Width::Byte, 0xff, 0),
+        Register::Dataout => at(37, Width::Word, 0xffffffff, 0),
+        Register::Datain => at(41, Width::Word, 0xffffffff, 0),
+        Register::Direction => at(45, Width::Word, 0xffffffff, 0),
+        Register::Intsel => at(49, Width::Word, 0xffffffff, 0),
+        Register::Inttrig => at(53, Width::Word, 0xffffffff, 0),
+        Register::Ints => at(57, Width::Word, 0xffffffff, 0),
+        Register::Clksel => at(61, Width::Word, 0xffffffff, 0),
+        Register::Edgesel => at(65, Width::Word, 0xffffffff, 0),
+        Register::Intenable => at(69, Width::Byte, 0x1, 0),
     }
 }
 
@@ -145,6 +146,7 @@ pub fn are_within(registers: &[u8]) -> bool
 {
     let crb = is_within(registers, Register::Crb);
     let crd = is_within(registers, Register::Crd);
+    let id = is_within(registers, Register::ChipId);
     let intenable = is_within(registers, Register::Intenable);
-    crb & crd & intenable
+    crb & crd & id & intenable
 }

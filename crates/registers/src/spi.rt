@@ -5,7 +5,8 @@ ghost use Rattle.bits.specs.Bits.{bitOf, word};
 ghost use lib.Dec.{ltb};
 ghost use Prim.Native.Nat.{_+_};
 ghost use lib.ListN.{length};
-ghost use Rattle.registers.specs.Registers.{size};
+ghost use Rattle.commands.specs.declared.command.Register.the-variants.{SpiData0};
+ghost use Rattle.registers.specs.Registers.{size, read};
 ghost use Rattle.registers.specs.Transfer.{transferLength, dataAfter, withData, completed};
 use commands::command::Register;
 use parts::Width;
@@ -68,13 +69,14 @@ fn store_data(registers: &mut [u8], words: [u32; 4])
     crate::store(registers, Register::SpiData3, words[3]);
 }
 
-// The end of a transfer of 16 received bytes.
-pub fn complete(registers: &mut [u8], received: &[u8])
+// The end of a transfer of 16 received bytes. Tells DATA[31:0] after it.
+pub fn complete(registers: &mut [u8], received: &[u8]) -> u32
     requires { ⌜ length (now registers) ≡ size ⌝ }
     requires { ⌜ length (now received) ≡ 16 ⌝ }
-    ensures { λ _. ⌜ now (registers .exit) ≡ completed (now (registers .entry)) (now (received .entry)) ⌝ }
+    ensures { λ r. ⌜ (now (registers .exit) ≡ completed (now (registers .entry)) (now (received .entry))) × (r ≡ read (now (registers .exit)) SpiData0) ⌝ }
 {
     let after = data_after(registers, received);
     store_data(registers, after);
     crate::store(registers, Register::SpiGo, 0);
+    crate::read(registers, Register::SpiData0)
 }

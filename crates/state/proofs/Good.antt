@@ -11,55 +11,50 @@ use Rattle.registers.specs.Registers.{within}
 use Rattle.channels.specs.Rows.{allHeld}
 use Rattle.channels.proofs.Laws.{Sound, power-on-sound}
 use Rattle.link.specs.declared.Link.{Link}
-use Rattle.state.specs.State.{poweredOn, powerOn, inRange, withLink, withRegisters}
-use Rattle.state.specs.declared.Adapter.{Adapter}
+use Rattle.state.specs.State.{Adapter, poweredOn, powerOn, inRange, withLink, withRegisters}
 
 pub record Good (a : Adapter) : Type 0 where
   pub send : a .link .send .0 ≤ 7
   pub receive : a .link .receive .0 ≤ 7
   pub port : a .link .port ≤ 1
   pub registers : Sound (a .registers)
-  pub id : a .id ≤ 0xFFFFFF
 
 pub good-ranged : (a : Adapter) → Good a → inRange a ≡ true
 unfolding inRange
-good-ranged a g =
-    simp (le-leb _ _ (g .send), le-leb _ _ (g .receive), le-leb _ _ (g .port), le-leb _ _ (g .id), g .registers .masked) (g .registers .held)
+good-ranged a g = simp (le-leb _ _ (g .send), le-leb _ _ (g .receive), le-leb _ _ (g .port), g .registers .masked) (g .registers .held)
 
 -- document 01's list, one by one
-pub ranges : (a : Adapter) → inRange a ≡ true → (a .link .send .0 ≤ 7) × (a .link .receive .0 ≤ 7) × (a .link .port ≤ 1) × (a .id ≤ 0xFFFFFF)
+pub ranges : (a : Adapter) → inRange a ≡ true → (a .link .send .0 ≤ 7) × (a .link .receive .0 ≤ 7) × (a .link .port ≤ 1)
     × (within (a .registers) ≡ true) × (allHeld (a .registers) ≡ true)
 unfolding inRange
 ranges a h =
     let s : Bool = leb (a .link .send .0) 7 in
     let r : Bool = leb (a .link .receive .0) 7 in
     let p : Bool = leb (a .link .port) 1 in
-    let i : Bool = leb (a .id) 0xFFFFFF in
-    let h5 = both (s && r && p && i && within (a .registers)) (allHeld (a .registers)) h in
-    let h4 = both (s && r && p && i) (within (a .registers)) (h5 .0) in
-    let h3 = both (s && r && p) i (h4 .0) in
+    let h4 = both (s && r && p && within (a .registers)) (allHeld (a .registers)) h in
+    let h3 = both (s && r && p) (within (a .registers)) (h4 .0) in
     let h2 = both (s && r) p (h3 .0) in
     let h1 = both s r (h2 .0) in
-    (leb-true _ _ (h1 .0), leb-true _ _ (h1 .1), leb-true _ _ (h2 .1), leb-true _ _ (h3 .1), h4 .1, h5 .1)
+    (leb-true _ _ (h1 .0), leb-true _ _ (h1 .1), leb-true _ _ (h2 .1), h3 .1, h4 .1)
 
 pub good : (a : Adapter) → RegistersFit (a .registers) → inRange a ≡ true → Good a
 good a f h =
     let g = ranges a h in
-    record { send = g .0; receive = g .1; port = g .2; registers = record { fits = f; masked = g .4; held = g .5 }; id = g .3 }
+    record { send = g .0; receive = g .1; port = g .2; registers = record { fits = f; masked = g .3; held = g .4 } }
 
 -- ---- power-on
 
-pub powered-good : (port id : ℕ) → port ≤ 1 → id ≤ 0xFFFFFF → Good (poweredOn port id)
+pub powered-good : (port id : ℕ) → port ≤ 1 → Good (poweredOn port id)
 unfolding poweredOn
-powered-good port id p h = record { send = lit≤ tt; receive = lit≤ tt; port = p; registers = power-on-sound; id = h }
+powered-good port id p = record { send = lit≤ tt; receive = lit≤ tt; port = p; registers = power-on-sound id }
 
-pub power-on-good : (n : ℕ) → n ≤ 0xFFFFFF → Good (powerOn n)
-power-on-good n h = powered-good 0 n (lit≤ tt) h
+pub power-on-good : (n : ℕ) → Good (powerOn n)
+power-on-good n = powered-good 0 n (lit≤ tt)
 
 -- ---- one part anew
 
 pub relinked : (a : Adapter) (l : Link) → Good a → l .send .0 ≤ 7 → l .receive .0 ≤ 7 → l .port ≤ 1 → Good (withLink a l)
-relinked a l g s r p = record { send = s; receive = r; port = p; registers = g .registers; id = g .id }
+relinked a l g s r p = record { send = s; receive = r; port = p; registers = g .registers }
 
 pub stored : (a : Adapter) (rs : List ℕ) → Good a → Sound rs → Good (withRegisters a rs)
-stored a rs g s = record { send = g .send; receive = g .receive; port = g .port; registers = s; id = g .id }
+stored a rs g s = record { send = g .send; receive = g .receive; port = g .port; registers = s }

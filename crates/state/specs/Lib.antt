@@ -1,4 +1,3 @@
 -- The chip's state: what it holds at power-on, when it is in range, and how it is spelled in bytes.
 pub mod State
 pub mod Bytes
-pub mod Inner

@@ -4,16 +4,27 @@ use mathlib.Core.Bool.{Bool, _&&_}
 use mathlib.Core.List.{List}
 use lib.Dec.{leb}
 use lib.ListN.{replicate}
-use Rattle.numbers.specs.Numbers.{idMost}
-use Rattle.registers.specs.Registers.{size, within}
+use Rattle.commands.specs.declared.command.Register.the-variants.{ChipId}
+use Rattle.registers.specs.Registers.{size, store, within}
 use Rattle.channels.specs.Rows.{allHeld}
 use Rattle.link.specs.Link.{freshLink}
 use Rattle.link.specs.declared.Link.{Link}
-use Rattle.state.specs.declared.Adapter.{Adapter}
 
--- Power-on with a port active: all registers, the SEU counter and the numbers 0, no loopback; the chip ID as given.
+pub record Adapter : Type 0 where
+  pub link : Link
+  -- those of all channels, the SEU counter and the chip's ID among them
+  pub registers : List ℕ
+
+abbrev pub adapter : Link → List ℕ → Adapter
+adapter l rs = record { link = l; registers = rs }
+
+-- Power-on: all registers and the SEU counter 0; the chip ID as given.
+abbrev pub blank : ℕ → List ℕ
+blank id = store (replicate size 0) ChipId id
+
+-- Power-on with a port active: the numbers 0, no loopback.
 unfoldable pub poweredOn : ℕ → ℕ → Adapter
-poweredOn port id = record { link = freshLink port; registers = replicate size 0; id = id }
+poweredOn port id = adapter (freshLink port) (blank id)
 
 -- Power-on: port 0 active.
 abbrev pub powerOn : ℕ → Adapter
@@ -27,9 +38,7 @@ inRange a =
     && leb (a .link .receive .0) 7
     -- port over 1
     && leb (a .link .port) 1
-    -- ID over 24 bits
-    && leb (a .id) idMost
-    -- a set bit that reads 0
+    -- ID over 24 bits, or another set bit that reads 0
     && within (a .registers)
     -- a disabled SPI or GPIO register not 0, a GO open with SPI disabled
     && allHeld (a .registers)
@@ -37,7 +46,7 @@ inRange a =
 -- ---- one part anew
 
 abbrev pub withLink : Adapter → Link → Adapter
-withLink a l = record { link = l; registers = a .registers; id = a .id }
+withLink a l = adapter l (a .registers)
 
 abbrev pub withRegisters : Adapter → List ℕ → Adapter
-withRegisters a rs = record { link = a .link; registers = rs; id = a .id }
+withRegisters a rs = adapter (a .link) rs

@@ -3,6 +3,10 @@
 use adapter::Answer;
 use commands::command::Register;
 use state::BYTES;
+use state::LINK;
+ghost use mathlib.Core.Path.{_≡_};
+ghost use lib.ListN.{length};
+ghost use Rattle.state.specs.Bytes.{stateSize};
 
 const OUT: i32 = 1;
 
@@ -77,10 +81,14 @@ fn completion(state: &mut [u8; BYTES], journal: &mut [u8; 17408], byte: u8) {
 }
 
 // The SEU counter of a state.
+fn counter(state: &[u8]) -> u32
+    requires { ⌜ length (now state) ≡ stateSize ⌝ }
+{
+    registers::read(&state[LINK..BYTES], Register::Seu)
+}
+
 fn upsets_in(state: &[u8; BYTES]) -> u32 {
-    let a = state::load(state);
-    let registers = a.registers;
-    registers::read(&registers, Register::Seu)
+    counter(state)
 }
 
 fn upsets(state: &mut [u8; BYTES], journal: &mut [u8; 17408], count: u8) {

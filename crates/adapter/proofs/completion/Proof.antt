@@ -1,6 +1,6 @@
 -- `completion` meets its contract. Assumes nothing.
 use borrow.Author.Needs.{needs}
-use Rattle.adapter.proofs.Cases.{refuses, passes, passed-state, passed-both, passed-received, passed-output}
+use Rattle.adapter.proofs.Cases.{refuses, passes, passed-both, passed-received, passed-output}
 use Rattle.adapter.proofs.completion.Statement.{statement}
 use Rattle.adapter.proofs.completion.Tie as tie
 
@@ -12,9 +12,7 @@ completion-spec =
     (λ c. search needs)
     (λ c κs. search needs)
     (λ c. search needs)
-    (λ c κs. search passed-state)
-    (λ c κs. (search passed-received, search passed-output))
-    (λ c κs. let t = c .before .before .before .before .before .before .before .before in passed-both _ _ (t .enum-told .given .1) _ _ _ _ (t .before .before .judge .ensures))
+    (λ c κs. (let t = c .before .before .before in passed-both _ _ (t .enum-told .given .1) _ _ _ _ (t .before .before .judge .ensures), (search passed-received, search passed-output)))
     (λ c. search needs)
     (λ c. search needs)
     (λ c. search refuses)

@@ -10,6 +10,10 @@ create-spec =
     (tie.spec
     (λ c. search creations)
     (λ c. search creations)
+    (λ c. search needs)
+    (λ c. search needs)
+    (λ c. search needs)
+    (λ c κs. search needs)
     (λ c κs. search needs)
     (λ c κs. search needs)
     (λ c. search needs)

@@ -1,6 +1,6 @@
 -- `frame` meets its contract. Assumes nothing.
 use borrow.Author.Needs.{needs}
-use Rattle.adapter.proofs.Cases.{refuses, passes, passed-state, passed-both, passed-port, passed-long, passed-short, passed-output}
+use Rattle.adapter.proofs.Cases.{refuses, passes, passed-both, passed-port, passed-long, passed-short, passed-output}
 use Rattle.adapter.proofs.frame.Statement.{statement}
 use Rattle.adapter.proofs.frame.Tie as tie
 
@@ -12,11 +12,8 @@ frame-spec =
     (λ c. search needs)
     (λ c κs. search needs)
     (λ c. search needs)
-    (λ c κs. search passed-state)
-    (λ c. search passed-port)
-    (λ c κs. ((search passed-long, search passed-short), search passed-output))
-    (λ c κs. search passed-long)
-    (λ c κs. let t = c .before .before .before .before .before .before .before .before .before in passed-both _ _ (t .enum-told .given .1) _ _ _ _ (t .before .before .judge .ensures))
+    (λ c. let t = c .before .before in record { fits = passed-port _ _ (t .enum-told .given .1) _ _ _ _ (t .before .before .judge .ensures) })
+    (λ c κs. let t = c .before .before .before in (passed-both _ _ (t .enum-told .given .1) _ _ _ _ (t .before .before .judge .ensures), ((search passed-long, search passed-short), passed-output _ (t .before .before .before .before .before .before .before .before .before .args .output .now) (t .enum-told .given .1) _ _ _ _ (t .before .before .judge .ensures))))
     (λ c. search needs)
     (λ c. search needs)
     (λ c. search refuses)

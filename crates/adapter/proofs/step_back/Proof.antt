@@ -1,13 +1,9 @@
 -- `step_back` meets its contract. Assumes nothing.
-use mathlib.Core.Path.{sym, _∙_}
+use native.Mathlib.Nat.{pos-of-ne-zero}
 use borrow.Author.Needs.{needs}
-use Rattle.adapter.proofs.Cases.{PassingBack, passing-back, back-refuses, back-passes}
+use Rattle.adapter.proofs.Cases.{back-state, back-journal, back-none, back-tried, back-header, back-length, back-formed}
 use Rattle.adapter.proofs.step_back.Statement.{statement}
 use Rattle.adapter.proofs.step_back.Tie as tie
-
-passed : (c : tie.After-enum-told) →
-    let start = c .before .before .before .before .before .before .before .args in PassingBack (start .state .now) (start .journal .now)
-passed c = passing-back _ _ (sym (c .enum-told .given .1) ∙ c .before .before .judge-back .ensures)
 
 pub step-back-spec : {M : Type 1} → statement M
 step-back-spec =
@@ -15,12 +11,16 @@ step-back-spec =
     (tie.spec
     (λ c κs. search needs)
     (λ c. search needs)
-    (λ c. search needs)
-    (λ c κs. let p = passed (c .before .before) in (p .formed, (p .some, p .long)))
-    (λ c κs. let p = passed (c .before .before .before .before .before .before) in (p .formed, p .some))
-    (λ c. search needs)
-    (λ c. search needs)
-    (λ c. search back-refuses)
+    (λ c. search back-state)
+    (λ c κs. search needs)
     (λ c. search needs)
     (λ c. search needs)
-    (λ c. search back-passes))
+    (λ c. back-journal _ _ _ (c .before .before .before .before .is-state .ensures) _ (c .before .is-well-formed .ensures) (c .before .before .before .if1 .left) (c .if2 .taken))
+    (λ c. back-header _ _ (c .before .before .is-well-formed .ensures) (c .before .if2 .left))
+    (λ c. search needs)
+    (λ c. search needs)
+    (λ c. back-none _ _ _ (c .before .before .before .before .before .before .is-state .ensures) _ (c .before .before .before .is-well-formed .ensures) (c .before .before .before .before .before .if1 .left) (c .before .before .if2 .left) (c .if3 .taken))
+    (λ c κs. let t = c .before .before in (back-length _ _ (t .before .before .before .before .before .before .is-state .ensures) (t .before .before .before .before .before .if1 .left), (back-formed _ _ (t .before .before .before .is-well-formed .ensures) (t .before .before .if2 .left), pos-of-ne-zero (t .if3 .left))))
+    (λ c. search needs)
+    (λ c. search needs)
+    (λ c. let t = c .before .before .before .before .before .before .before in back-tried _ _ _ (t .before .before .before .before .before .before .is-state .ensures) _ (t .before .before .before .is-well-formed .ensures) (t .before .before .before .before .before .if1 .left) _ (t .before .before .if2 .left) (t .if3 .left) (c .before .before .before .before .take-back .ensures)))

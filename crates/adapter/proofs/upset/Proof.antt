@@ -1,6 +1,6 @@
 -- `upset` meets its contract. Assumes nothing.
 use borrow.Author.Needs.{needs}
-use Rattle.adapter.proofs.Cases.{refuses, upset-passes, passed-state, passed-both}
+use Rattle.adapter.proofs.Cases.{refuses, passes-silently, passed-both}
 use Rattle.adapter.proofs.upset.Statement.{statement}
 use Rattle.adapter.proofs.upset.Tie as tie
 
@@ -12,12 +12,10 @@ upset-spec =
     (λ c. search needs)
     (λ c κs. search needs)
     (λ c. search needs)
-    (λ c κs. search passed-state)
-    (λ c κs. search needs)
-    (λ c κs. let t = c .before .before .before .before .before in passed-both _ _ (t .enum-told .given .1) _ _ _ _ (t .before .before .judge .ensures))
+    (λ c κs. let t = c .before .before in passed-both _ _ (t .enum-told .given .1) _ _ _ _ (t .before .before .judge .ensures))
     (λ c. search needs)
     (λ c. search needs)
     (λ c. search refuses)
     (λ c. search needs)
     (λ c. search needs)
-    (λ c. search upset-passes))
+    (λ c. search passes-silently))

@@ -1,9 +1,9 @@
 -- `restore` meets its contract. Assumes nothing.
 use borrow.Author.Needs.{needs}
 use lib.Dec.{lit≤}
-use Rattle.state.specs.Bytes.{recordBytes}
+use Rattle.journal.specs.Inner.{recordMost}
 use Rattle.journal.proofs.Ring.{newest-in}
-use Rattle.journal.proofs.Record.{restores}
+use Rattle.journal.proofs.Record.{newest-judged, newest-tried}
 use Rattle.journal.proofs.restore.Statement.{statement}
 use Rattle.journal.proofs.restore.Tie as tie
 
@@ -16,9 +16,9 @@ restore-spec =
     (λ c. search needs)
     (λ c. search needs)
     (λ c. search needs)
-    (λ c. newest-in _ _ (c .before .before .before .before .pre .0) (c .before .newest .ensures) recordBytes (lit≤ tt))
+    (λ c. newest-in _ _ (c .before .before .before .before .pre .0) (c .before .newest .ensures) recordMost (lit≤ tt))
     (λ c κs. search needs)
     (λ c. search needs)
     (λ c κs. search needs)
     (λ c. search needs)
-    (λ c. search restores))
+    (λ c. (search newest-judged, search newest-tried)))

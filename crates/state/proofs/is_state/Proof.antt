@@ -8,7 +8,18 @@ pub is-state-spec : {M : Type 1} → statement M
 is-state-spec =
     tie.close
     (tie.spec
+    (λ c. search needs)
+    (λ c. search needs)
+    (λ c. search needs)
+    (λ c. search needs)
+    (λ c. search needs)
+    (λ c. search needs)
+    (λ c. search needs)
+    (λ c. search needs)
     (λ c κs. search needs)
+    (λ c. search needs)
+    (λ c. search needs)
+    (λ c. search needs)
     (λ c κs. search needs)
-    (λ c. search is-a-state)
-    (λ c. search is-no-state))
+    (λ c. search (is-a-state, is-no-state))
+    (λ c. search (is-a-state, is-no-state)))

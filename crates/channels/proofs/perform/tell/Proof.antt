@@ -1,6 +1,6 @@
 -- `perform::tell` meets its contract. Assumes nothing.
 use borrow.Author.Needs.{needs}
-use Rattle.channels.proofs.Cases.{tells-written, tells-switched, tells-read, tells-id, tells-cleared}
+use Rattle.channels.proofs.Cases.{tells-written, tells-switched, tells-read, tells-cleared}
 use Rattle.channels.proofs.perform.tell.Statement.{statement}
 use Rattle.channels.proofs.perform.tell.Tie as tie
 
@@ -18,11 +18,8 @@ tell-spec =
     (λ c. search needs)
     (λ c κs. search needs)
     (λ c. search needs)
-    (λ c κs. search needs)
-    (λ c. search needs)
-    (λ c. search tells-written)
-    (λ c. search tells-switched)
-    (λ c. search tells-read)
-    (λ c. search tells-id)
-    (λ c. search tells-cleared)
+    (λ c. search (tells-written, tells-switched, tells-read, tells-cleared))
+    (λ c. search (tells-written, tells-switched, tells-read, tells-cleared))
+    (λ c. search (tells-written, tells-switched, tells-read, tells-cleared))
+    (λ c. search (tells-written, tells-switched, tells-read, tells-cleared))
     (λ c. search needs))

@@ -1,49 +1,19 @@
--- `rows::settle` meets its contract. The invariant: those that are left are still to be held. Assumes nothing.
-use Prim.Native.Nat.{ℕ, suc, _+_, _-_, _≤_, _<_}
-use mathlib.Core.List.{List}
-use mathlib.Core.Path.{_≡_, refl, sym, ap, _∙_}
-use native.Mathlib.Omega.{arith}
+-- `rows::settle` meets its contract. Assumes nothing.
 use borrow.Author.Needs.{needs}
-use lib.ListN.{length, getD, drop}
-use lib.Seq.{drop-cons}
-use Rattle.commands.specs.declared.channel.Channel.{Channel}
-use Rattle.commands.specs.Channels.{channelOf}
-use Rattle.registers.specs.Registers.{size}
-use Rattle.channels.specs.Rows.{dropping, held, heldAll, settled}
+use Rattle.channels.proofs.Cases.{settles, nothing-by-c, nothing-by-d}
 use Rattle.channels.proofs.rows.settle.Statement.{statement}
 use Rattle.channels.proofs.rows.settle.Tie as tie
-
-abbrev Inv-loop : tie.InvT-loop
-Inv-loop registers₀ numbers i₀ registers i = (i ≤ length dropping) × (length registers ≡ size) × (heldAll (drop i dropping) registers ≡ settled registers₀)
-
-abbrev μ-loop : tie.MeasureT-loop
-μ-loop registers₀ numbers i₀ registers i = length dropping - i
-
-one-more : (cs rs after all : List ℕ) (i : ℕ) (ch : Channel) → i < length cs → ch ≡ channelOf (getD cs i 0) → after ≡ held rs ch
-    → heldAll (drop i cs) rs ≡ all → heldAll (drop (i + 1) cs) after ≡ all
-unfolding heldAll
-one-more cs rs after all i ch l c e h =
-    let f : i + 1 ≡ suc i = omega arith in
-    rw (f, e, c) (sym (ap (λ (s : List ℕ). heldAll s rs) (drop-cons cs i 0 l)) ∙ h)
-
-ended : (rs all : List ℕ) (i : ℕ) → length dropping ≤ i → i ≤ length dropping → heldAll (drop i dropping) rs ≡ all → rs ≡ all
-unfolding heldAll
-ended rs all i l m h =
-    let f : i ≡ length dropping = omega arith in
-    rw f at h
 
 pub settle-spec : {M : Type 1} → statement M
 settle-spec =
     tie.close
     (tie.spec
-    Inv-loop
-    μ-loop
-    (λ c. (search needs, search needs, refl))
     (λ c. search needs)
-    (λ c κs. search needs)
+    (λ c. search needs)
     (λ c κs. search needs)
     (λ c. search needs)
     (λ c. search needs)
-    (λ c. (search needs, search needs, search (one-more, needs)))
     (λ c. search needs)
-    (λ c. search (ended, needs)))
+    (λ c. search (settles, nothing-by-c, nothing-by-d))
+    (λ c. search (settles, nothing-by-c, nothing-by-d))
+    (λ c. search (settles, nothing-by-c, nothing-by-d)))

@@ -10,4 +10,5 @@ on-frame-spec =
     (tie.spec
     (λ c κs. search needs)
     (λ c. search needs)
+    (λ c. search needs)
     (λ c. search checked))

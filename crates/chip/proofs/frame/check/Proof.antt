@@ -10,7 +10,8 @@ check-spec =
     (tie.spec
     (λ c. search needs)
     (λ c κs. search needs)
-    (λ c. search other-chip)
+    (λ c. search (other-chip, this-chip))
     (λ c κs. search needs)
     (λ c. search needs)
-    (λ c. search this-chip))
+    (λ c. search needs)
+    (λ c. search (other-chip, this-chip)))

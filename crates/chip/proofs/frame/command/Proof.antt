@@ -10,9 +10,7 @@ command-spec =
     (tie.spec
     (λ c. search needs)
     (λ c κs. search needs)
-    (λ c. search needs)
-    (λ c κs. search needs)
     (λ c κs. search needs)
     (λ c. search needs)
-    (λ c. search acknowledged)
-    (λ c. search informed))
+    (λ c. search (acknowledged, informed))
+    (λ c. search (acknowledged, informed)))

@@ -13,5 +13,5 @@ finish-spec =
     (λ c. search needs)
     (λ c κs. search needs)
     (λ c. search needs)
-    (λ c. search told)
-    (λ c. search later))
+    (λ c. search (told, later))
+    (λ c. search (told, later)))

@@ -1,6 +1,6 @@
 -- `request::reply` meets its contract. Assumes nothing.
 use borrow.Author.Needs.{needs}
-use Rattle.chip.proofs.Cases.{replied}
+use Rattle.chip.proofs.Answers.{replied}
 use Rattle.chip.proofs.request.reply.Statement.{statement}
 use Rattle.chip.proofs.request.reply.Tie as tie
 

@@ -1,6 +1,6 @@
 -- `requests::sample` meets its contract. Assumes nothing.
 use borrow.Author.Needs.{needs}
-use Rattle.chip.proofs.Laws.{state-said}
+use Rattle.chip.proofs.Laws.{event-said}
 use Rattle.exercise.proofs.requests.sample.Statement.{statement}
 use Rattle.exercise.proofs.requests.sample.Tie as tie
 
@@ -11,4 +11,4 @@ sample-spec =
     (λ c. search needs)
     (λ c κs. search needs)
     (λ c κs. search needs)
-    (λ c. search state-said))
+    (λ c. search event-said))

@@ -1,6 +1,6 @@
 -- `requests::upset` meets its contract. Assumes nothing.
 use borrow.Author.Needs.{needs}
-use Rattle.chip.proofs.Laws.{state-responded}
+use Rattle.chip.proofs.Laws.{silently-said}
 use Rattle.exercise.proofs.requests.upset.Statement.{statement}
 use Rattle.exercise.proofs.requests.upset.Tie as tie
 
@@ -10,4 +10,4 @@ upset-spec =
     (tie.spec
     (λ c κs. search needs)
     (λ c κs. search needs)
-    (λ c. search state-responded))
+    (λ c. search silently-said))

@@ -11,5 +11,6 @@ complete-spec =
     (λ c κs. search needs)
     (λ c κs. search needs)
     (λ c κs. search needs)
+    (λ c κs. search needs)
     (λ c. search needs)
-    (λ c. search completes))
+    (λ c. (search completes, search needs)))

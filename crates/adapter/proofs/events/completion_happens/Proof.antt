@@ -1,0 +1,19 @@
+-- `events::completion_happens` meets its contract. Assumes nothing.
+use borrow.Author.Needs.{needs}
+use Rattle.adapter.proofs.Cases.{happens}
+use Rattle.adapter.proofs.events.completion_happens.Statement.{statement}
+use Rattle.adapter.proofs.events.completion_happens.Tie as tie
+
+pub completion-happens-spec : {M : Type 1} → statement M
+completion-happens-spec =
+    tie.close
+    (tie.spec
+    (λ c κs. search needs)
+    (λ c. search needs)
+    (λ c. search needs)
+    (λ c. search needs)
+    (λ c κs. search needs)
+    (λ c κs. search needs)
+    (λ c. search needs)
+    (λ c. search needs)
+    (λ c. search happens))

@@ -1,0 +1,46 @@
+-- The groups: CRB, CRC and CRD each switch the channels of one. A request may change the core, and the registers of one group.
+use Prim.Native.Nat.{ℕ}
+use Rattle.commands.specs.Channels.{channelOf, commandOf}
+use Rattle.commands.specs.declared.command.Command.{Command}
+use Rattle.commands.specs.declared.command.Command.the-variants.{Known, Unknown}
+use Rattle.commands.specs.declared.command.Control.the-variants.{B, C, D}
+use Rattle.commands.specs.declared.command.Does.{Does}
+use Rattle.commands.specs.declared.command.Does.the-variants.{Write, Switch, Read, Clear, Start}
+use Rattle.commands.specs.declared.request.Request.{Request}
+use Rattle.channels.specs.Rows.{rowOf}
+use Rattle.channels.specs.declared.groups.Group.{Group}
+use Rattle.channels.specs.declared.groups.Group.the-variants.{Core, Switched}
+use Rattle.channels.specs.declared.groups.Span.{Span}
+
+-- ---- the bytes of each among the registers
+
+-- CRB, CRC, CRD, the SEU counter and the DAC: what an event may always change. The ID stands behind them.
+abbrev pub coreSize : ℕ
+coreSize = 11
+
+-- so many bytes, from a place on
+abbrev pub span : ℕ → ℕ → Span
+span first many = record { first = first; many = many }
+
+-- CRB's: SPI, GPIO. What CRC and CRD switch has no registers yet.
+abbrev pub spanOf : Group → Span
+spanOf Core = span 15 0
+spanOf (Switched B) = span 15 55
+spanOf (Switched C) = span 70 0
+spanOf (Switched D) = span 70 0
+
+-- ---- the group that a request may change: the one that its command switches, else its channel's, whatever its answer is
+
+abbrev pub byDoes : Group → Does → Group
+byDoes g (Write r) = g
+byDoes g (Switch c) = Switched c
+byDoes g (Read r) = g
+byDoes g (Clear r) = g
+byDoes g (Start r) = g
+
+abbrev pub byCommand : Group → Command → Group
+byCommand g Unknown = g
+byCommand g (Known lengths does) = byDoes g does
+
+unfoldable pub groupFor : Request → Group
+groupFor q = let ch = channelOf (q .ch) in byCommand (rowOf ch .group) (commandOf ch (q .cmd))

@@ -1,0 +1,79 @@
+// The groups: CRB, CRC and CRD each switch the channels of one. A request may change the core, and the registers of one group.
+ghost use mathlib.Core.Path.{_≡_};
+ghost use Rattle.channels.specs.Groups.{span, spanOf, byDoes, byCommand, groupFor};
+use crate::rows;
+use commands::channel;
+use commands::command::Command;
+use commands::command::Control;
+use commands::command::Does;
+use commands::request::Request;
+
+pub enum Group {
+    Core,
+    Switched(Control),
+}
+
+// So many bytes among the registers, from a place on.
+pub struct Span {
+    pub first: usize,
+    pub many: usize,
+}
+
+// The bytes of the registers that stand before the ID and are no group's.
+pub const CORE_SIZE: usize = 11;
+
+// The most bytes of a group.
+pub const SPAN_MOST: usize = 55;
+
+fn stretch(first: usize, many: usize) -> Span
+    ensures { λ r. ⌜ r ≡ span first many ⌝ }
+{
+    Span {
+        first: first,
+        many: many,
+    }
+}
+
+pub fn span_of(group: Group) -> Span
+    ensures { λ r. ⌜ r ≡ spanOf group ⌝ }
+{
+    match group {
+        Group::Core => stretch(15, 0),
+        Group::Switched(control) => match control {
+            Control::B => stretch(15, 55),
+            Control::C => stretch(70, 0),
+            Control::D => stretch(70, 0),
+        },
+    }
+}
+
+fn by_does(group: Group, does: Does) -> Group
+    ensures { λ r. ⌜ r ≡ byDoes group does ⌝ }
+{
+    match does {
+        Does::Write(_) => group,
+        Does::Switch(control) => Group::Switched(control),
+        Does::Read(_) => group,
+        Does::Clear(_) => group,
+        Does::Start(_) => group,
+    }
+}
+
+fn by_command(group: Group, command: Command) -> Group
+    ensures { λ r. ⌜ r ≡ byCommand group command ⌝ }
+{
+    match command {
+        Command::Unknown => group,
+        Command::Known(_, does) => by_does(group, does),
+    }
+}
+
+// The group that a request may change, whatever its answer is.
+pub fn group_for(q: Request) -> Group
+    ensures { λ r. ⌜ r ≡ groupFor q ⌝ }
+{
+    let which = channel::channel_of(q.ch);
+    let row = rows::row_of(which);
+    let group = row.group;
+    by_command(group, channel::command_of(which, q.cmd))
+}

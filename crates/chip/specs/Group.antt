@@ -1,0 +1,26 @@
+-- The group of an event: what it may change besides the core. It follows from the event alone.
+use Prim.Native.Nat.{ℕ}
+use mathlib.Core.Bool.{cond}
+use mathlib.Core.List.{List}
+use lib.Dec.{eqb}
+use lib.ListN.{length}
+use Rattle.commands.specs.declared.command.Control.the-variants.{B}
+use Rattle.channels.specs.declared.groups.Group.{Group}
+use Rattle.channels.specs.declared.groups.Group.the-variants.{Core, Switched}
+use Rattle.channels.specs.Groups.{groupFor}
+use Rattle.packets.specs.Packets.{requestOf}
+use Rattle.chip.specs.Event.{Completion, spi, Event, frame, completion, sample, upset}
+use Rattle.chip.specs.Frame.{informationOf}
+
+-- Information of 8 bytes is a request's. Without one, a frame changes the link alone. (An accepted RESET changes all, and leaves no record.)
+unfoldable pub groupOfFrame : List ℕ → Group
+groupOfFrame body = cond (eqb (length (informationOf body)) 8) (groupFor (requestOf (informationOf body))) Core
+
+abbrev pub groupOfCompletion : Completion → Group
+groupOfCompletion (spi received) = Switched B
+
+abbrev pub groupOf : Event → Group
+groupOf (frame port body) = groupOfFrame body
+groupOf (completion c) = groupOfCompletion c
+groupOf (sample levels kind) = Switched B
+groupOf upset = Core
