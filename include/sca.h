@@ -17,6 +17,7 @@
  *     The library keeps nothing: whatever lasts from call to call stands in
  *     bytes that the caller lends. It allocates nothing, opens nothing and
  *     holds no lock, so that calls on different buffers may run side by side.
+ *     No call takes more than 700 bytes of stack.
  *
  *     A buffer is a pointer and its length in bytes. A pointer whose length
  *     is 0 is not read and may be NULL. The buffers of one call must not

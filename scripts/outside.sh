@@ -8,6 +8,7 @@ test_outside() {
     test_c link
     test_c adapter
     test_c guards
+    test_c stack
     test_symbols
     step "build the crate" build_crate || return
     step "build the Rust tests" build_rust_tests || return

@@ -20,7 +20,7 @@ use Rattle.state.specs.Bytes.{linkBytes, stateSize, linkImage, linkOf, stateByt
 use Rattle.state.proofs.Spelling.{its-length}
 use Rattle.chip.specs.declared.Response.{Response}
 use Rattle.chip.specs.Event.{Event, frame}
-use Rattle.chip.specs.Answer.{Said, said, says}
+use Rattle.chip.specs.Inner.{Said, said, says}
 use Rattle.chip.specs.Chip.{reaction, acceptedReset}
 use Rattle.chip.specs.Group.{groupOf}
 use Rattle.journal.specs.Layout.{wrongLength, keptOf, wellFormed, past, emptied, pushed, lowered}

@@ -72,13 +72,13 @@ joined resets r journal = cond resets (emptied journal) (pushed r journal)
 abbrev pub recorded : List ℕ → Event → List ℕ → List ℕ
 recorded s e journal = joined (acceptedReset e) (before s e) journal
 
--- The event's answer, the state that it leaves, its frames in the output; and a journal
+-- What an event leaves, beside a journal: its answer, the state, its frames in the output.
 abbrev pub happened : List ℕ → Event → List ℕ → List ℕ → Outcome
 happened s e output journal =
     let r = reaction (stateIn s) e in
     outcome (shown (response r)) (stateBytes (r .adapter)) journal (laid (r .frames) output)
 
--- which then has its record
+-- The journal is the one with the event's record.
 unfoldable pub done : List ℕ → List ℕ → Event → List ℕ → Outcome
 done s journal e output = happened s e output (recorded s e journal)
 
@@ -100,7 +100,7 @@ pub record Stepped : Type 0 where
 abbrev pub stepped : ℕ → List ℕ → List ℕ → Stepped
 stepped number state journal = record { number = number; state = state; journal = journal }
 
--- The newest record's state, and the record given up.
+-- The newest record's core and group over the state handed in, and the record given up.
 abbrev pub judgedBack : Verdict → List ℕ → List ℕ → Stepped
 judgedBack (Refused number) s journal = stepped number s journal
 judgedBack Passed s journal = stepped noFrame (restored s (past journal 0)) (lowered journal)

@@ -115,7 +115,7 @@ pub(crate) fn upset(state: &mut [u8], journal: &mut [u8]) -> Answer
     requires { ⌜ (wellFormed (now journal) ≡ true) × (length (now state) ≡ stateSize) ⌝ }
     ensures { λ r. ⌜ ((output : List ℕ) → outcome r (now (state .exit)) (now (journal .exit)) output ≡ done (now (state .entry)) (now (journal .entry)) Event.upset output) ⌝ }
 {
-    record_event(journal, state, Group::Core, false);
+    record_event(journal, state, Group::Nothing, false);
     upset_happens(state)
 }
 

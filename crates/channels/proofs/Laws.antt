@@ -46,7 +46,7 @@ use Rattle.channels.specs.Groups.{coreSize, spanOf, byDoes, byCommand, g
 use Rattle.channels.specs.Errors.{ofCommand, decoded}
 use Rattle.channels.specs.Perform.{told, left, replyTo, leftBy, replied, performed}
 use Rattle.channels.specs.declared.groups.Group.{Group}
-use Rattle.channels.specs.declared.groups.Group.the-variants.{Core, Switched}
+use Rattle.channels.specs.declared.groups.Group.the-variants.{Nothing, Switched}
 use Rattle.channels.specs.declared.rows.Busy.{Busy}
 use Rattle.channels.specs.declared.rows.Busy.the-variants as busy-variants
 use Rattle.channels.specs.declared.rows.Switch.{Switch as RowSwitch}
@@ -623,8 +623,8 @@ module _ (rs : List ℕ) (n : length rs ≡ size) (q : Request) (ch : Channel) (
 -- ---- A REQUEST CHANGES NOTHING BUT THE CORE AND ITS GROUP, and neither does what happens to a channel
 
 -- every byte behind the core, the ID first, that is not the group's
-abbrev pub Untouched : Group → List ℕ → List ℕ → Type 0
-Untouched g ss rs = (p m : ℕ) → coreSize ≤ p → Apart p m (begins g) (spanOf g .many) → part p m ss ≡ part p m rs
+abbrev pub SameOutside : Group → List ℕ → List ℕ → Type 0
+SameOutside g ss rs = (p m : ℕ) → coreSize ≤ p → Apart p m (begins g) (spanOf g .many) → part p m ss ≡ part p m rs
 
 grouped-apart : (g : Group) (r : Register) → grouped g r ≡ true → (p m : ℕ) → coreSize ≤ p → Apart p m (begins g) (spanOf g .many)
     → Apart p m (place r) (wide r)
@@ -641,12 +641,12 @@ grouped-apart g r h p m l a = by (leb (end r) coreSize) refl h
         inside (leb-true (begins g) (place r) (i .0), leb-true (end r) (ends g) (i .1)) a
 
 module _ (g : Group) (rs : List ℕ) (n : length rs ≡ size) where
-  pub stored-untouched : (r : Register) (v : ℕ) → grouped g r ≡ true → Untouched g (store rs r v) rs
-  stored-untouched r v h p m l a = part-stays rs r v n p m (grouped-apart g r h p m l a)
+  pub stored-outside : (r : Register) (v : ℕ) → grouped g r ≡ true → SameOutside g (store rs r v) rs
+  stored-outside r v h p m l a = part-stays rs r v n p m (grouped-apart g r h p m l a)
 
 -- and then a store more
-also-untouched : (g : Group) (rs ss : List ℕ) (r : Register) (v : ℕ) → length ss ≡ size → grouped g r ≡ true → Untouched g ss rs → Untouched g (store ss r v) rs
-also-untouched g rs ss r v n h u p m l a = stored-untouched g ss n r v h p m l a ∙ u p m l a
+also-outside : (g : Group) (rs ss : List ℕ) (r : Register) (v : ℕ) → length ss ≡ size → grouped g r ≡ true → SameOutside g ss rs → SameOutside g (store ss r v) rs
+also-outside g rs ss r v n h u p m l a = stored-outside g ss n r v h p m l a ∙ u p m l a
 
 front-grouped : (c : Control) (g : Group) → grouped g (registerOf c) ≡ true
 front-grouped B g = refl
@@ -654,12 +654,12 @@ front-grouped C g = refl
 front-grouped D g = refl
 
 module _ (rs : List ℕ) (n : length rs ≡ size) where
-  switched-untouched : (c : Control) (v : ℕ) → Untouched (Switched c) (settled c (written rs (registerOf c) v)) rs
-  switched-untouched c v =
-      settled-keeps c (λ s. Untouched (Switched c) s rs)
+  switched-outside : (c : Control) (v : ℕ) → SameOutside (Switched c) (settled c (written rs (registerOf c) v)) rs
+  switched-outside c v =
+      settled-keeps c (λ s. SameOutside (Switched c) s rs)
       (λ k s m d u p w l a. held-cases (channelOf k) s m (λ t. part p w t ≡ part p w rs) (u p w l a)
       (zeroed-apart (first (channelOf k)) (many (channelOf k)) s (room (channelOf k) s m) p w (outside k d p w a) ∙ u p w l a))
-      (written rs (registerOf c) v) (length-store rs (registerOf c) _ n) (stored-untouched (Switched c) rs n (registerOf c) _ (front-grouped c (Switched c)))
+      (written rs (registerOf c) v) (length-store rs (registerOf c) _ n) (stored-outside (Switched c) rs n (registerOf c) _ (front-grouped c (Switched c)))
     where
       outside : (k : ℕ) → Dropper c k → (p w : ℕ) → Apart p w (begins (Switched c)) (spanOf (Switched c) .many)
           → Apart p w (first (channelOf k)) (many (channelOf k))
@@ -672,38 +672,38 @@ module _ (rs : List ℕ) (n : length rs ≡ size) where
     unfolding groupFor
     its-group given does g = ap (byCommand (rowOf (channelOf (q .ch)) .group)) (sym (g .command))
 
-    left-untouched : (given : ℕ) (does : Does) → Granted rs q given does → Untouched (byDoes (rowOf (channelOf (q .ch)) .group) does) (left rs q does) rs
-    left-untouched given (Write r) g = stored-untouched (rowOf (channelOf (q .ch)) .group) rs n r _ (g .changed)
-    left-untouched given (Switch c) g = switched-untouched c (q .value)
-    left-untouched given (Read r) g = λ p m l a. refl
-    left-untouched given (Clear r) g = stored-untouched (rowOf (channelOf (q .ch)) .group) rs n r 0 (g .changed)
-    left-untouched given (Start r) g = stored-untouched (rowOf (channelOf (q .ch)) .group) rs n r (q .trn) (g .changed)
+    left-outside : (given : ℕ) (does : Does) → Granted rs q given does → SameOutside (byDoes (rowOf (channelOf (q .ch)) .group) does) (left rs q does) rs
+    left-outside given (Write r) g = stored-outside (rowOf (channelOf (q .ch)) .group) rs n r _ (g .changed)
+    left-outside given (Switch c) g = switched-outside c (q .value)
+    left-outside given (Read r) g = λ p m l a. refl
+    left-outside given (Clear r) g = stored-outside (rowOf (channelOf (q .ch)) .group) rs n r 0 (g .changed)
+    left-outside given (Start r) g = stored-outside (rowOf (channelOf (q .ch)) .group) rs n r (q .trn) (g .changed)
 
-    pub performed-untouched : Untouched (groupFor q) (performed rs q) rs
+    pub performed-outside : SameOutside (groupFor q) (performed rs q) rs
     unfolding performed
-    performed-untouched =
-        decoded-cases rs q (λ d. Untouched (groupFor q) (leftBy rs q d) rs) (λ _ _ p m l a. refl)
-        (λ given does g. subst (λ (k : Group). Untouched k (left rs q does) rs) (its-group given does g) (left-untouched given does g))
+    performed-outside =
+        decoded-cases rs q (λ d. SameOutside (groupFor q) (leftBy rs q d) rs) (λ _ _ p m l a. refl)
+        (λ given does g. subst (λ (k : Group). SameOutside k (left rs q does) rs) (its-group given does g) (left-outside given does g))
 
-  pub sampled-untouched : (levels kind : ℕ) → Untouched (Switched B) (sampled rs levels kind) rs
+  pub sampled-outside : (levels kind : ℕ) → SameOutside (Switched B) (sampled rs levels kind) rs
   unfolding sampled
-  sampled-untouched levels kind =
-      let taken = stored-untouched (Switched B) rs n Datain (datainAfter rs levels kind) refl in
-      cond-cases (λ s. Untouched (Switched B) s rs) (interrupts rs levels kind)
-      (λ _. also-untouched (Switched B) rs _ Ints (firingLines rs (datainAfter rs levels kind)) (length-store rs Datain _ n) refl taken) (λ _. taken)
+  sampled-outside levels kind =
+      let taken = stored-outside (Switched B) rs n Datain (datainAfter rs levels kind) refl in
+      cond-cases (λ s. SameOutside (Switched B) s rs) (interrupts rs levels kind)
+      (λ _. also-outside (Switched B) rs _ Ints (firingLines rs (datainAfter rs levels kind)) (length-store rs Datain _ n) refl taken) (λ _. taken)
 
-  pub completed-untouched : (received : List ℕ) → Untouched (Switched B) (completed rs received) rs
+  pub completed-outside : (received : List ℕ) → SameOutside (Switched B) (completed rs received) rs
   unfolding completed withData
-  completed-untouched received =
+  completed-outside received =
       let n0 = length-store rs SpiData0 _ n in
       let n1 = length-store _ SpiData1 _ n0 in
       let n2 = length-store _ SpiData2 _ n1 in
       let n3 = length-store _ SpiData3 _ n2 in
-      let u0 = stored-untouched (Switched B) rs n SpiData0 _ refl in
-      let u1 = also-untouched (Switched B) rs _ SpiData1 _ n0 refl u0 in
-      let u2 = also-untouched (Switched B) rs _ SpiData2 _ n1 refl u1 in
-      let u3 = also-untouched (Switched B) rs _ SpiData3 _ n2 refl u2 in
-      also-untouched (Switched B) rs _ SpiGo 0 n3 refl u3
+      let u0 = stored-outside (Switched B) rs n SpiData0 _ refl in
+      let u1 = also-outside (Switched B) rs _ SpiData1 _ n0 refl u0 in
+      let u2 = also-outside (Switched B) rs _ SpiData2 _ n1 refl u1 in
+      let u3 = also-outside (Switched B) rs _ SpiData3 _ n2 refl u2 in
+      also-outside (Switched B) rs _ SpiGo 0 n3 refl u3
 
-  pub upset-untouched : (v : ℕ) → Untouched Core (store rs Seu v) rs
-  upset-untouched v = stored-untouched Core rs n Seu v refl
+  pub upset-outside : (v : ℕ) → SameOutside Nothing (store rs Seu v) rs
+  upset-outside v = stored-outside Nothing rs n Seu v refl

@@ -31,7 +31,7 @@ use Rattle.registers.proofs.Rows.{place, wide, end, apart}
 use Rattle.channels.specs.Rows.{rowOf, registerOf, dropping}
 use Rattle.channels.specs.Groups.{coreSize, spanOf}
 use Rattle.channels.specs.declared.groups.Group.{Group}
-use Rattle.channels.specs.declared.groups.Group.the-variants.{Core, Switched}
+use Rattle.channels.specs.declared.groups.Group.the-variants.{Nothing, Switched}
 use Rattle.channels.specs.declared.rows.Busy.{Busy}
 use Rattle.channels.specs.declared.rows.Busy.the-variants as busy
 use Rattle.channels.specs.declared.rows.Switch.{Switch}
@@ -223,7 +223,7 @@ commands-proper ch cmd = look-every (proper ch) (commandsOf ch) command.Unknown 
 -- ---- the channels that drop their registers: these stand behind the core, in the group that their switch is of
 
 abbrev pub behindCore : ℕ
-behindCore = begins Core
+behindCore = begins Nothing
 
 abbrev pub dropped : ℕ → Bool
 dropped c = leb behindCore (first (channelOf c))

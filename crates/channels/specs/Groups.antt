@@ -1,4 +1,5 @@
--- The groups: CRB, CRC and CRD each switch the channels of one. A request may change the core, and the registers of one group.
+-- A group is the registers that are held at 0 while CRB, CRC or CRD disables their channel. All others are the core's, the SEU counter and the ID
+-- too, which a disabled channel keeps. A request may change the core, and the registers of one group or of none.
 use Prim.Native.Nat.{ℕ}
 use Rattle.commands.specs.Channels.{channelOf, commandOf}
 use Rattle.commands.specs.declared.command.Command.{Command}
@@ -9,12 +10,12 @@ use Rattle.commands.specs.declared.command.Does.the-variants.{Write, Switch, Re
 use Rattle.commands.specs.declared.request.Request.{Request}
 use Rattle.channels.specs.Rows.{rowOf}
 use Rattle.channels.specs.declared.groups.Group.{Group}
-use Rattle.channels.specs.declared.groups.Group.the-variants.{Core, Switched}
+use Rattle.channels.specs.declared.groups.Group.the-variants.{Nothing, Switched}
 use Rattle.channels.specs.declared.groups.Span.{Span}
 
 -- ---- the bytes of each among the registers
 
--- CRB, CRC, CRD, the SEU counter and the DAC: what an event may always change. The ID stands behind them.
+-- of the core but for the ID, which stands behind them: CRB, CRC, CRD, the SEU counter and the DAC
 abbrev pub coreSize : ℕ
 coreSize = 11
 
@@ -24,7 +25,7 @@ span first many = record { first = first; many = many }
 
 -- CRB's: SPI, GPIO. What CRC and CRD switch has no registers yet.
 abbrev pub spanOf : Group → Span
-spanOf Core = span 15 0
+spanOf Nothing = span 15 0
 spanOf (Switched B) = span 15 55
 spanOf (Switched C) = span 70 0
 spanOf (Switched D) = span 70 0

@@ -14,7 +14,7 @@ use Rattle.commands.specs.declared.command.Register.{Register}
 use Rattle.commands.specs.declared.command.Register.the-variants.{Crb, Crc, Crd, SpiGo}
 use Rattle.registers.specs.Registers.{read, zeroed, areZero}
 use Rattle.channels.specs.declared.groups.Group.{Group}
-use Rattle.channels.specs.declared.groups.Group.the-variants.{Core, Switched}
+use Rattle.channels.specs.declared.groups.Group.the-variants.{Nothing, Switched}
 use Rattle.channels.specs.declared.rows.Busy.{Busy}
 use Rattle.channels.specs.declared.rows.Busy.the-variants as busy
 use Rattle.channels.specs.declared.rows.Row.{Row}
@@ -29,13 +29,13 @@ row switch busy group first many = record { known = true; switch = switch; busy 
 
 -- CRB bits 1 SPI, 2 GPIO; CRD bit 3 serves 0x13, bit 4 serves 0x14. The controller and the DAC are always enabled. GO makes SPI busy.
 abbrev pub rowOf : Channel → Row
-rowOf Controller = row Always busy.Never Core 0 3
+rowOf Controller = row Always busy.Never Nothing 0 3
 rowOf Spi = row (Bit B (2 ^ 1)) (busy.While SpiGo) (Switched B) 15 22
 rowOf Gpio = row (Bit B (2 ^ 2)) busy.Never (Switched B) 37 33
-rowOf Seu = row (Bit D (2 ^ 3)) busy.Never Core 3 4
-rowOf Id = row (Bit D (2 ^ 4)) busy.Never Core 11 4
-rowOf Dac = row Always busy.Never Core 7 4
-rowOf Unknown = record { known = false; switch = Never; busy = busy.Never; group = Core; first = 0; many = 0 }
+rowOf Seu = row (Bit D (2 ^ 3)) busy.Never Nothing 3 4
+rowOf Id = row (Bit D (2 ^ 4)) busy.Never Nothing 11 4
+rowOf Dac = row Always busy.Never Nothing 7 4
+rowOf Unknown = record { known = false; switch = Never; busy = busy.Never; group = Nothing; first = 0; many = 0 }
 
 -- THE CHANNELS THAT HOLD THEIR REGISTERS AT 0 WHILE THEY ARE DISABLED, by number, and what switches them: SPI and GPIO. The SEU counter and ID
 -- aren't touched.

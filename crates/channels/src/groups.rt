@@ -1,4 +1,5 @@
-// The groups: CRB, CRC and CRD each switch the channels of one. A request may change the core, and the registers of one group.
+// A group is the registers that are held at 0 while CRB, CRC or CRD disables their channel; all others are the core's. A request may change the
+// core, and the registers of one group or of none.
 ghost use mathlib.Core.Path.{_≡_};
 ghost use Rattle.channels.specs.Groups.{span, spanOf, byDoes, byCommand, groupFor};
 use crate::rows;
@@ -9,7 +10,7 @@ use commands::command::Does;
 use commands::request::Request;
 
 pub enum Group {
-    Core,
+    Nothing,
     Switched(Control),
 }
 
@@ -19,7 +20,7 @@ pub struct Span {
     pub many: usize,
 }
 
-// The bytes of the registers that stand before the ID and are no group's.
+// The bytes of the core but for the ID, which stands behind them.
 pub const CORE_SIZE: usize = 11;
 
 // The most bytes of a group.
@@ -38,7 +39,7 @@ pub fn span_of(group: Group) -> Span
     ensures { λ r. ⌜ r ≡ spanOf group ⌝ }
 {
     match group {
-        Group::Core => stretch(15, 0),
+        Group::Nothing => stretch(15, 0),
         Group::Switched(control) => match control {
             Control::B => stretch(15, 55),
             Control::C => stretch(70, 0),

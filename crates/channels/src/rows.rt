@@ -52,7 +52,7 @@ pub(crate) fn row_of(which: Channel) -> Row
     ensures { λ r. ⌜ r ≡ rowOf which ⌝ }
 {
     match which {
-        Channel::Controller => known(Switch::Always, Busy::Never, Group::Core, 0, 3),
+        Channel::Controller => known(Switch::Always, Busy::Never, Group::Nothing, 0, 3),
         Channel::Spi => known(
             Switch::Bit(Control::B, 0x02),
             Busy::While(Register::SpiGo),
@@ -70,23 +70,23 @@ pub(crate) fn row_of(which: Channel) -> Row
         Channel::Seu => known(
             Switch::Bit(Control::D, 0x08),
             Busy::Never,
-            Group::Core,
+            Group::Nothing,
             3,
             4,
         ),
         Channel::Id => known(
             Switch::Bit(Control::D, 0x10),
             Busy::Never,
-            Group::Core,
+            Group::Nothing,
             11,
             4,
         ),
-        Channel::Dac => known(Switch::Always, Busy::Never, Group::Core, 7, 4),
+        Channel::Dac => known(Switch::Always, Busy::Never, Group::Nothing, 7, 4),
         Channel::Unknown => Row {
             known: false,
             switch: Switch::Never,
             busy: Busy::Never,
-            group: Group::Core,
+            group: Group::Nothing,
             first: 0,
             many: 0,
         },

@@ -13,7 +13,8 @@ use Rattle.channels.specs.Perform as channels
 use Rattle.link.specs.Link.{replyControl, sendUp}
 use Rattle.link.specs.declared.Link.{Link}
 use Rattle.state.specs.State.{adapter}
-use Rattle.chip.specs.Answer.{sends, sent, given, said, says}
+use Rattle.chip.specs.Answer.{sends}
+use Rattle.chip.specs.Inner.{sent, given, said, says}
 use Rattle.chip.specs.Request.{replies, finished, requested}
 use Rattle.chip.specs.declared.Response.{Response}
 

@@ -19,9 +19,9 @@ use Rattle.commands.specs.declared.request.Request.{Request}
 use Rattle.registers.specs.Registers.{read}
 use Rattle.channels.specs.Groups.{groupFor}
 use Rattle.channels.specs.declared.groups.Group.{Group}
-use Rattle.channels.specs.declared.groups.Group.the-variants.{Core}
+use Rattle.channels.specs.declared.groups.Group.the-variants.{Nothing}
 use Rattle.state.specs.State.{adapter, blank, poweredOn}
-use Rattle.chip.specs.Answer.{sent, given, Said, said, says}
+use Rattle.chip.specs.Inner.{sent, given, Said, said, says}
 use Rattle.link.specs.Link.{acknowledgeControl, rejectControl, receiveNumber, receiveUp, numberIn, freshLink, loopedAt, inLoopback}
 use Rattle.chip.specs.Request.{requested}
 use Rattle.chip.specs.Frame.{isConnect, isReset, isResetFrame, isTest, reset, acknowledges, commanded, numbered, carried, addressed, onFrame}
@@ -177,6 +177,6 @@ module _ (s : List ℕ) where
       let k : length (drop 2 s) ≡ 8 = information s 10 8 n refl in
       simp (f, e, take-all 8 (drop 2 s) (le-of-eq k), eq-eqb (length (drop 2 s)) 8 k)
 
-  pub of-no-request : (length s ≡ 10 → ⊥) → 2 ≤ length s → Core ≡ groupOfFrame s
+  pub of-no-request : (length s ≡ 10 → ⊥) → 2 ≤ length s → Nothing ≡ groupOfFrame s
   unfolding groupOfFrame
   of-no-request n h = simp (ne-eqb (length (drop 2 s)) 8 (λ e. n (omega (arith, length-drop 2 s))))

@@ -16,7 +16,7 @@ use Rattle.link.specs.declared.Link.{Link}
 use Rattle.state.specs.State.{adapter}
 use Rattle.chip.specs.Event.{spi, frame, completion, sample, upset}
 use Rattle.chip.specs.Numbers.{spiChannel, gpioChannel, interruptLength}
-use Rattle.chip.specs.Answer.{given, Said, said, says}
+use Rattle.chip.specs.Inner.{given, Said, said, says}
 use Rattle.chip.specs.Request.{replies}
 use Rattle.chip.specs.Frame.{onFrame}
 use Rattle.chip.specs.Chip.{transferred, onSpi, onSample, onUpset, reaction}

@@ -11,7 +11,8 @@ use lib.ListN.{length}
 use Rattle.packets.specs.Packets.{address, requestOf}
 use Rattle.chip.specs.Event.{Event, frame}
 use Rattle.state.specs.State.{Adapter, adapter, poweredOn, withRegisters}
-use Rattle.chip.specs.Answer.{Reaction, sends, gives, Said, said, says}
+use Rattle.chip.specs.Answer.{Reaction, sends, gives}
+use Rattle.chip.specs.Inner.{Said, said, says}
 use Rattle.link.specs.Link.{acknowledgeControl}
 use Rattle.link.specs.declared.Link.{Link}
 use Rattle.commands.specs.declared.command.Register.the-variants.{ChipId}

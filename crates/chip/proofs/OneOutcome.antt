@@ -4,7 +4,7 @@ use mathlib.Core.Path.{sym, _∙_}
 use denote.Ref.{now}
 use Rattle.bits.proofs.Outcome.{OneOutcome}
 use Rattle.parts.proofs.Outcome.{One}
-use Rattle.chip.specs.Answer.{said}
+use Rattle.chip.specs.Inner.{said}
 use Rattle.chip.proofs as this
 
 pub is-reset-one : OneOutcome 1 this.events.is_reset.Kinds.ps this.events.is_reset.Kinds.r this.events.is_reset.Reads.Post

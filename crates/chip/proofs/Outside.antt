@@ -17,8 +17,8 @@ use Rattle.registers.specs.Registers.{size, read, isWithin}
 use Rattle.registers.proofs.Laws.{read-same}
 use Rattle.channels.specs.Groups.{spanOf, groupFor}
 use Rattle.channels.specs.declared.groups.Group.{Group}
-use Rattle.channels.specs.declared.groups.Group.the-variants.{Core, Switched}
-use Rattle.channels.proofs.Laws.{Sound, Untouched, performed-untouched, sampled-untouched, completed-untouched, upset-untouched}
+use Rattle.channels.specs.declared.groups.Group.the-variants.{Nothing, Switched}
+use Rattle.channels.proofs.Laws.{Sound, SameOutside, performed-outside, sampled-outside, completed-outside, upset-outside}
 use Rattle.parts.specs.Parts.{part}
 use Rattle.parts.specs.Digits.{number}
 use Rattle.packets.specs.Packets.{requestOf}
@@ -34,21 +34,21 @@ unfolding groupOfFrame
 request-group body h = simp h
 
 module _ (a : Adapter) (n : length (a .registers) ≡ size) where
-  moved-outside : (e : Event) (b : Adapter) → Moved a e b → Untouched (groupOf e) (b .registers) (a .registers)
+  moved-outside : (e : Event) (b : Adapter) → Moved a e b → SameOutside (groupOf e) (b .registers) (a .registers)
   moved-outside e b (requests port body h) =
-      subst (λ (g : Group). Untouched g (b .registers) (a .registers)) (request-group body h) (performed-untouched (a .registers) n (requestOf (informationOf body)))
-  moved-outside e b (completes received h) = completed-untouched (a .registers) n received
-  moved-outside e b (samples levels kind h) = sampled-untouched (a .registers) n levels kind
-  moved-outside e b counts = upset-untouched (a .registers) n _
+      subst (λ (g : Group). SameOutside g (b .registers) (a .registers)) (request-group body h) (performed-outside (a .registers) n (requestOf (informationOf body)))
+  moved-outside e b (completes received h) = completed-outside (a .registers) n received
+  moved-outside e b (samples levels kind h) = sampled-outside (a .registers) n levels kind
+  moved-outside e b counts = upset-outside (a .registers) n _
 
   commanded-stays : (port : ℕ) (body : List ℕ) (b : Adapter) → Commanded a port body b → acceptedReset (frame port body) ≡ false → b .registers ≡ a .registers
   commanded-stays port body b (connects _) h = refl
   commanded-stays port body b (resets r) h = absurd (true≢false (sym r ∙ h))
   commanded-stays port body b (tests _) h = refl
 
-  pub outside : (e : Event) → acceptedReset e ≡ false → Untouched (groupOf e) (reaction a e .adapter .registers) (a .registers)
+  pub outside : (e : Event) → acceptedReset e ≡ false → SameOutside (groupOf e) (reaction a e .adapter .registers) (a .registers)
   outside e h =
-      state-cases a e (λ (b : Adapter). Untouched (groupOf e) (b .registers) (a .registers)) (λ p m l o. refl)
+      state-cases a e (λ (b : Adapter). SameOutside (groupOf e) (b .registers) (a .registers)) (λ p m l o. refl)
       (λ port body b i c p m l o. ap (part p m) (commanded-stays port body b c (ap acceptedReset (sym i) ∙ h))) (moved-outside e) (λ b u. u)
 
 -- THE CHIP'S ID, as it was given at power-on, STAYS whatever happens
@@ -80,7 +80,7 @@ module _ (a : Adapter) (s : Sound (a .registers)) where
       (λ b m. ap number (moved-outside a (s .fits .long) e b m 11 4 (lit≤ tt) (inl (before-groups (groupOf e))))) (λ b h. h)
     where
       before-groups : (g : Group) → 15 ≤ spanOf g .first
-      before-groups Core = lit≤ tt
+      before-groups Nothing = lit≤ tt
       before-groups (Switched B) = lit≤ tt
       before-groups (Switched C) = lit≤ tt
       before-groups (Switched D) = lit≤ tt

@@ -1,12 +1,10 @@
 -- What an event gives. A Reaction is the chip's own: the state after it, document 01's number, and the bodies of the frames that it sends.
--- A Response is what code gives back of it, with the frame's length in place of its bytes; Said adds the registers, and the output, where
--- these stand.
+-- A Response is what code gives back of it, with the frame's length in place of its bytes, which stand in the output.
 use Prim.Native.Nat.{ℕ, _+_}
 use mathlib.Core.List.{List, [], _∷_}
 use lib.ListN.{length}
 use Rattle.numbers.specs.Numbers.{hasFrame, bodyMost}
 use Rattle.parts.specs.Parts.{put}
-use Rattle.link.specs.declared.Link.{Link}
 use Rattle.state.specs.State.{Adapter}
 use Rattle.chip.specs.declared.Response.{Response}
 
@@ -44,23 +42,3 @@ laidFrom place (body ∷ more) output = laidFrom (place + bodyMost) more (put pl
 
 abbrev pub laid : List (List ℕ) → List ℕ → List ℕ
 laid frames output = laidFrom 0 frames output
-
-pub record Said : Type 0 where
-  pub response : Response
-  pub registers : List ℕ
-  pub output : List ℕ
-
--- as code leaves them
-abbrev pub said : Response → List ℕ → List ℕ → Said
-said r registers output = record { response = r; registers = registers; output = output }
-
--- as they are due
-abbrev pub says : Reaction → List ℕ → Said
-says r output = said (response r) (r .adapter .registers) (laid (r .frames) output)
-
--- with a frame of so many bytes, and without one
-abbrev pub sent : Link → ℕ → ℕ → Response
-sent l port n = record { link = l; number = hasFrame; port = port; length = n }
-
-abbrev pub given : Link → ℕ → Response
-given l n = record { link = l; number = n; port = 0; length = 0 }

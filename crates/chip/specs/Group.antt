@@ -1,12 +1,13 @@
--- The group of an event: what it may change besides the core. It follows from the event alone.
+-- The group of an event: the registers that it may change besides the core. It follows from the event alone.
 use Prim.Native.Nat.{ℕ}
 use mathlib.Core.Bool.{cond}
 use mathlib.Core.List.{List}
 use lib.Dec.{eqb}
 use lib.ListN.{length}
-use Rattle.commands.specs.declared.command.Control.the-variants.{B}
+use Rattle.commands.specs.declared.channel.Channel.the-variants.{Spi, Gpio}
 use Rattle.channels.specs.declared.groups.Group.{Group}
-use Rattle.channels.specs.declared.groups.Group.the-variants.{Core, Switched}
+use Rattle.channels.specs.declared.groups.Group.the-variants.{Nothing}
+use Rattle.channels.specs.Rows.{rowOf}
 use Rattle.channels.specs.Groups.{groupFor}
 use Rattle.packets.specs.Packets.{requestOf}
 use Rattle.chip.specs.Event.{Completion, spi, Event, frame, completion, sample, upset}
@@ -14,13 +15,13 @@ use Rattle.chip.specs.Frame.{informationOf}
 
 -- Information of 8 bytes is a request's. Without one, a frame changes the link alone. (An accepted RESET changes all, and leaves no record.)
 unfoldable pub groupOfFrame : List ℕ → Group
-groupOfFrame body = cond (eqb (length (informationOf body)) 8) (groupFor (requestOf (informationOf body))) Core
+groupOfFrame body = cond (eqb (length (informationOf body)) 8) (groupFor (requestOf (informationOf body))) Nothing
 
 abbrev pub groupOfCompletion : Completion → Group
-groupOfCompletion (spi received) = Switched B
+groupOfCompletion (spi received) = rowOf Spi .group
 
 abbrev pub groupOf : Event → Group
 groupOf (frame port body) = groupOfFrame body
 groupOf (completion c) = groupOfCompletion c
-groupOf (sample levels kind) = Switched B
-groupOf upset = Core
+groupOf (sample levels kind) = rowOf Gpio .group
+groupOf upset = Nothing

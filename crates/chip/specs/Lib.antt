@@ -2,6 +2,7 @@
 pub mod Event
 pub mod Numbers
 pub mod Answer
+pub mod Inner
 pub mod Request
 pub mod Frame
 pub mod Chip

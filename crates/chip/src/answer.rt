@@ -4,7 +4,7 @@ ghost use Prim.Native.Nat.{_≤_};
 ghost use lib.ListN.{length};
 ghost use Rattle.numbers.specs.Numbers.{bodyMost, outputLeast};
 ghost use Rattle.parts.specs.Parts.{put};
-ghost use Rattle.chip.specs.Answer.{sent, given};
+ghost use Rattle.chip.specs.Inner.{sent, given};
 use crate::Response;
 use link::Link;
 

@@ -7,7 +7,7 @@ ghost use Rattle.numbers.specs.Numbers.{bodyLeast, bodyMost, outputLeast, trans
 ghost use Rattle.registers.specs.Registers.{size};
 ghost use Rattle.state.specs.State.{adapter};
 ghost use Rattle.chip.specs.Event.{Completion, Event};
-ghost use Rattle.chip.specs.Answer.{said, says};
+ghost use Rattle.chip.specs.Inner.{said, says};
 ghost use Rattle.chip.specs.Chip.{transferred, reaction, acceptedReset};
 ghost use Rattle.chip.specs.Group.{groupOf};
 use crate::Response;
@@ -17,7 +17,6 @@ use crate::request;
 use channels::groups;
 use channels::groups::Group;
 use commands::channel::Channel;
-use commands::command::Control;
 use commands::command::Register;
 use commands::request::INTERRUPT;
 use commands::spi::GO;
@@ -34,9 +33,6 @@ const INTERRUPT_LENGTH: u8 = 4;
 
 // The bytes of a body that carries a request.
 const REQUEST_BODY: usize = 10;
-
-// What a completion and a pin sample may change besides the core; an upset changes the core alone.
-pub const LINES_AND_SPI: Group = Group::Switched(Control::B);
 
 // A frame body on a port.
 pub fn on_frame(
@@ -70,7 +66,7 @@ pub fn group_of(body: &[u8]) -> Group
     if body.len() == REQUEST_BODY {
         return groups::group_for(packets::request_of(&body[2..REQUEST_BODY]));
     }
-    Group::Core
+    Group::Nothing
 }
 
 // The GO's reply, with its own TRN.

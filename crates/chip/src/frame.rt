@@ -6,7 +6,7 @@ ghost use lib.ListN.{length};
 ghost use Rattle.numbers.specs.Numbers.{bodyLeast, bodyMost, outputLeast};
 ghost use Rattle.registers.specs.Registers.{size};
 ghost use Rattle.state.specs.State.{adapter};
-ghost use Rattle.chip.specs.Answer.{said, says};
+ghost use Rattle.chip.specs.Inner.{said, says};
 ghost use Rattle.chip.specs.Frame.{isConnect, isReset, isResetFrame, isTest, reset, acknowledges, commanded, numbered, carried, addressed, onFrame};
 use crate::Response;
 use crate::answer;

@@ -6,7 +6,7 @@ ghost use lib.ListN.{length};
 ghost use Rattle.numbers.specs.Numbers.{outputLeast};
 ghost use Rattle.registers.specs.Registers.{size};
 ghost use Rattle.state.specs.State.{adapter};
-ghost use Rattle.chip.specs.Answer.{said, says};
+ghost use Rattle.chip.specs.Inner.{said, says};
 ghost use Rattle.chip.specs.Request.{replies, finished, requested};
 use crate::Response;
 use crate::answer;

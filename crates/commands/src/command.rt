@@ -30,7 +30,7 @@ pub enum Register {
     ChipId,
 }
 
-// The controller's registers: each switches the channels of one group on and off.
+// The controller's registers: each switches channels on and off.
 pub enum Control {
     B,
     C,

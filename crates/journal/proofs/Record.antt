@@ -17,10 +17,10 @@ use Rattle.parts.proofs.Laws.{Apart, length-part, length-put, part-put-after, p
 use Rattle.commands.specs.declared.command.Control.{Control}
 use Rattle.commands.specs.declared.command.Control.the-variants.{B, C, D}
 use Rattle.channels.specs.declared.groups.Group.{Group}
-use Rattle.channels.specs.declared.groups.Group.the-variants.{Core, Switched}
+use Rattle.channels.specs.declared.groups.Group.the-variants.{Nothing, Switched}
 use Rattle.channels.specs.declared.groups.Span.{Span}
 use Rattle.channels.specs.Groups.{spanOf}
-use Rattle.channels.proofs.Laws.{Untouched}
+use Rattle.channels.proofs.Laws.{SameOutside}
 use Rattle.state.specs.State.{Adapter}
 use Rattle.state.specs.Bytes.{linkBytes, stateSize, linkImage, stateBytes, isState}
 use Rattle.state.proofs.Good.{Good}
@@ -42,7 +42,7 @@ abbrev bounded : Group → Bool
 bounded g = leb coreBytes (startOf g) && leb (startOf g + manyOf g) stateSize && leb (1 + coreBytes + manyOf g) recordMost
 
 bounds : (g : Group) → bounded g ≡ true
-bounds Core = refl
+bounds Nothing = refl
 bounds (Switched B) = refl
 bounds (Switched C) = refl
 bounds (Switched D) = refl
@@ -65,13 +65,13 @@ module _ (g : Group) where
 
 group-back : (g : Group) → groupIn (tagOf g) ≡ g
 unfolding groupIn
-group-back Core = refl
+group-back Nothing = refl
 group-back (Switched B) = refl
 group-back (Switched C) = refl
 group-back (Switched D) = refl
 
 tag-known : (g : Group) → leb (tagOf g) lastTag ≡ true
-tag-known Core = refl
+tag-known Nothing = refl
 tag-known (Switched B) = refl
 tag-known (Switched C) = refl
 tag-known (Switched D) = refl
@@ -85,7 +85,7 @@ Agree g t s = (p m : ℕ) → coreBytes ≤ p → Apart p m (startOf g) (manyOf 
 put-back : (g : Group) (s t : List ℕ) → length s ≡ stateSize → length t ≡ stateSize → Agree g t s
     → put (startOf g) (part (startOf g) (manyOf g) s) (put 0 (take coreBytes s) t) ≡ s
 unfolding part
-put-back Core s t n k a = over-pieces 16 4 0 55 s t n k (a 16 4 (lit≤ tt) (inl (lit≤ tt))) (a 20 55 (lit≤ tt) (inr (lit≤ tt)))
+put-back Nothing s t n k a = over-pieces 16 4 0 55 s t n k (a 16 4 (lit≤ tt) (inl (lit≤ tt))) (a 20 55 (lit≤ tt) (inr (lit≤ tt)))
 put-back (Switched B) s t n k a = over-pieces 16 4 55 0 s t n k (a 16 4 (lit≤ tt) (inl (lit≤ tt))) (a 75 0 (lit≤ tt) (inr (lit≤ tt)))
 put-back (Switched C) s t n k a = over-pieces 16 59 0 0 s t n k (a 16 59 (lit≤ tt) (inl (lit≤ tt))) (a 75 0 (lit≤ tt) (inr (lit≤ tt)))
 put-back (Switched D) s t n k a = over-pieces 16 59 0 0 s t n k (a 16 59 (lit≤ tt) (inl (lit≤ tt))) (a 75 0 (lit≤ tt) (inr (lit≤ tt)))
@@ -155,7 +155,7 @@ behind-link l rs p m n h =
     let e : p ≡ length l + (p - linkBytes) = omega arith in
     ap (λ (k : ℕ). take m (drop k (l ++ rs))) e ∙ ap (take m) (drop-append-add l rs (p - linkBytes))
 
-agrees : (a b : Adapter) (g : Group) → Untouched g (b .registers) (a .registers) → Agree g (stateBytes b) (stateBytes a)
+agrees : (a b : Adapter) (g : Group) → SameOutside g (b .registers) (a .registers) → Agree g (stateBytes b) (stateBytes a)
 unfolding stateBytes
 agrees a b g u p m l o =
     behind-link (linkImage (b .link)) (b .registers) p m refl l ∙ u (p - linkBytes) m (omega arith) (lower o)

@@ -9,7 +9,7 @@ use Rattle.bits.specs.Table.{Row, row, look}
 use Rattle.parts.specs.Parts.{part, put}
 use Rattle.commands.specs.declared.command.Control.the-variants.{B, C, D}
 use Rattle.channels.specs.declared.groups.Group.{Group}
-use Rattle.channels.specs.declared.groups.Group.the-variants.{Core, Switched}
+use Rattle.channels.specs.declared.groups.Group.the-variants.{Nothing, Switched}
 use Rattle.channels.specs.Groups.{coreSize, spanOf}
 use Rattle.state.specs.Bytes.{linkBytes, isState}
 use Rattle.chip.specs.Event.{Event}
@@ -31,7 +31,7 @@ manyOf g = spanOf g .many
 -- ---- the tags
 
 abbrev pub tagOf : Group → ℕ
-tagOf Core = 0
+tagOf Nothing = 0
 tagOf (Switched B) = 1
 tagOf (Switched C) = 2
 tagOf (Switched D) = 3
@@ -43,7 +43,7 @@ abbrev pub tagged : List (Row Group)
 tagged = row 1 (Switched B) ∷ row 2 (Switched C) ∷ row 3 (Switched D) ∷ []
 
 unfoldable pub groupIn : ℕ → Group
-groupIn tag = look tagged Core tag
+groupIn tag = look tagged Nothing tag
 
 -- ---- the record
 

@@ -31,7 +31,7 @@ fn tag_of(group: Group) -> u8
     ensures { λ r. ⌜ r ≡ tagOf group ⌝ }
 {
     match group {
-        Group::Core => 0,
+        Group::Nothing => 0,
         Group::Switched(control) => match control {
             Control::B => 1,
             Control::C => 2,
@@ -47,7 +47,7 @@ fn group_in(tag: u8) -> Group
         1 => Group::Switched(Control::B),
         2 => Group::Switched(Control::C),
         3 => Group::Switched(Control::D),
-        _ => Group::Core,
+        _ => Group::Nothing,
     }
 }
 
@@ -99,7 +99,7 @@ fn put_back(r: &[u8], s: &mut [u8])
     parts::store(s, place.first, &r[GROUP..end]);
 }
 
-// The same, unless the record is damaged: what it makes of a state that is none is taken back. Tells whether it is sound.
+// The same, unless the record is damaged: where it makes no state, what stood there is put back. Tells whether it is sound.
 pub(crate) fn restore(r: &[u8], s: &mut [u8]) -> bool
     requires { ⌜ recordMost ≤ length (now r) ⌝ }
     requires { ⌜ length (now s) ≡ stateSize ⌝ }

@@ -215,9 +215,9 @@ module _ (s : List ℕ) (j : List ℕ) (e : Event) (output : List ℕ) where
     pub entry : called s j e output .journal ≡ pushed (before s e) j
     pub kept : keptIn (called s j e output .journal) ≡ record { number = number.noFrame; kept = min (slotsOf j) (keptIn j .kept + 1) }
 
-  pub event-11-to-16 : AreBytes s → 11 ≤ called s j e output .answer .number → called s j e output .answer .number ≤ 16 → Dropped
+  pub event-11-to-16 : 11 ≤ called s j e output .answer .number → called s j e output .answer .number ≤ 16 → Dropped
   unfolding done
-  event-11-to-16 b l u =
+  event-11-to-16 l u =
       let d : Happened = happened (over-ten (called s j e output .answer .number) l) in
       let n : called s j e output .answer .number ≡ reaction (stateIn s) e .number = d .answer in
       let least : 11 ≤ reaction (stateIn s) e .number = omega arith in

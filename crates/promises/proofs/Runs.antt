@@ -19,7 +19,9 @@ use Rattle.state.specs.Bytes.{stateSize, stateBytes, stateIn}
 use Rattle.state.proofs.Spelling.{state-back, state-bytes}
 use Rattle.chip.specs.Chip.{reaction, acceptedReset}
 use Rattle.chip.specs.Answer.{response, laid}
-use Rattle.chip.proofs.Laws.{good-stays, number-given}
+use Rattle.commands.specs.declared.command.Register.the-variants.{ChipId}
+use Rattle.registers.specs.Registers.{read}
+use Rattle.chip.proofs.Laws.{good-stays, number-given, id-given, id-stays}
 use Rattle.state.proofs.Good.{Good, power-on-good}
 use Rattle.journal.specs.Layout.{slotsOf, wrongLength, keptOf, past, emptied, lowered}
 use Rattle.journal.specs.Record.{restored, sound}
@@ -114,6 +116,11 @@ module _ (id : ℕ) (small : id ≤ number.idMost) where
   unfolding AllFit
   after-good [] f = power-on-good id
   after-good (e ∷ es) f = good-stays (stateAfter id es) e (after-good es (f .1)) (f .0)
+
+  id-after : (es : List Event) → AllFit es → read (stateAfter id es .registers) ChipId ≡ id
+  unfolding AllFit
+  id-after [] f = id-given 0 id small
+  id-after (e ∷ es) f = id-stays (stateAfter id es) (after-good es (f .1) .registers) e ∙ id-after es (f .1)
 
   -- their bytes
   bytesAfter : List Event → List ℕ
@@ -506,6 +513,10 @@ demand3 =
       empties = λ r. gives-end r empty;
       unchanged = λ r k h. refused-same r k h;
     }
+
+-- The chip's ID is the one that the adapter was created with, whatever was called.
+pub id-kept : (r : Run) → read (dueState r .registers) ChipId ≡ r .id
+id-kept r = id-after (r .id) (r .id-fits) (standing r .events) (inv-end r .fit)
 
 -- The text's own numbers: there is an event to take back where the kept number is not zero, and it is at most the slots.
 pub enough-standing : (r : Run) → standing r .number ≤ length (standing r .events)
