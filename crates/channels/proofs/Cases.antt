@@ -1,13 +1,15 @@
 -- What each case of the definitions comes to. `search` finds the premises in what a need knows, wherever they stand.
 use Prim.Native.Nat.{ℕ, _+_, _≤_}
-use mathlib.Core.Bool.{Bool, true, false, not}
+use mathlib.Core.Bool.{Bool, true, false, not, _&&_}
 use mathlib.Core.List.{List}
-use mathlib.Core.Path.{_≡_, sym, ap, _∙_}
+use mathlib.Core.Path.{_≡_, refl, sym, ap, _∙_}
 use borrow.Author.Tests.{eq-eqb, ne-eqb}
 use lib.Bits.{bitAnd}
-use lib.Dec.{eqb}
+use lib.Dec.{eqb, ltb}
 use lib.ListN.{length}
+use Rattle.bits.proofs.Tests.{and-left, and-right}
 use Rattle.commands.specs.declared.channel.Channel.{Channel}
+use Rattle.commands.specs.declared.channel.Channel.the-variants.{Controller}
 use Rattle.commands.specs.declared.command.Command.{Command}
 use Rattle.commands.specs.declared.command.Command.the-variants.{Known, Unknown}
 use Rattle.commands.specs.declared.command.Does.{Does}
@@ -21,14 +23,13 @@ use Rattle.commands.specs.declared.request.Request.{Request}
 use Rattle.commands.specs.Channels.{channelOf, commandOf}
 use Rattle.commands.specs.Request.{granted, refusal, trnWrong, chUnknown, notEnabled, busy as isBusyBit, cmdUnknown, lenWrong}
 use Rattle.registers.specs.Registers.{size, read, store, shown, written, zeroed, areZero}
-use Rattle.channels.proofs.Owners.{own-inside}
+use Rattle.channels.proofs.Owners.{isOwn, own-inside, owner, touches, proper, commands-proper}
 use Rattle.channels.specs.Rows.{rowOf, registerOf, dropping, isOn, isAtWork, isEnabled, isBusy, held, heldAll, settled, stillHeld}
-use Rattle.channels.specs.Groups.{spanOf, byDoes, byCommand, groupFor}
+use Rattle.channels.specs.Groups.{byDoes, byCommand, groupFor}
 use Rattle.channels.specs.Errors.{ofCommand, decoded}
 use Rattle.channels.specs.Perform.{told, left, replied, performed}
 use Rattle.channels.specs.declared.groups.Group.{Group}
 use Rattle.channels.specs.declared.groups.Group.the-variants.{Switched}
-use Rattle.channels.specs.declared.groups.Span.{Span}
 use Rattle.channels.specs.declared.rows.Busy.{Busy}
 use Rattle.channels.specs.declared.rows.Busy.the-variants as busy
 use Rattle.channels.specs.declared.rows.Row.{Row}
@@ -79,22 +80,30 @@ module _ (rs : List ℕ) (which : Channel) (on : Bool) (o : on ≡ isEnabled rs 
 
 -- ---- the groups
 
-pub span-at : (g k : Group) (x : Span) → g ≡ k → x ≡ spanOf k → x ≡ spanOf g
-span-at g k x e h = simp (e, h)
-
-pub span-by : (g : Group) (c k : Control) (x : Span) → g ≡ Switched c → c ≡ k → x ≡ spanOf (Switched k) → x ≡ spanOf g
-span-by g c k x e f h = simp (e, f, h)
-
 pub group-switched : (g : Group) (does : Does) (c : Control) → does ≡ Switch c → Switched c ≡ byDoes g does
 group-switched g does c e = simp e
 
 pub group-known : (g x : Group) (command : Command) (l : Lengths) (does : Does) → command ≡ Known l does → x ≡ byDoes g does → x ≡ byCommand g command
 group-known g x command l does e h = simp (e, h)
 
-pub its-group : (q : Request) (ch : Channel) (x : Row) (command : Command) (g : Group) → ch ≡ channelOf (q .ch) → x ≡ rowOf ch
-    → command ≡ commandOf ch (q .cmd) → g ≡ byCommand (x .group) command → g ≡ groupFor q
-unfolding groupFor
-its-group q ch x command g e f h i = simp (i, f, h, e)
+module _ (q : Request) (ch : Channel) (x : Row) (e : ch ≡ channelOf (q .ch)) (f : x ≡ rowOf ch) where
+  pub its-group : (k : Channel) (command : Command) (g : Group) → ch ≡ k → command ≡ commandOf k (q .cmd) → g ≡ byCommand (x .group) command → g ≡ groupFor q
+  unfolding groupFor
+  its-group k command g j h i = simp (i, f, h, ← j, e)
+
+  -- no other channel's command switches
+  stays : (command : Command) → proper ch command ≡ true → (ch ≡ Controller → ⊥) → byCommand (x .group) command ≡ x .group
+  stays Unknown p n = refl
+  stays (Known l (Write r)) p n = refl
+  stays (Known l (Switch c)) p n =
+      let own = and-right (ltb (l .given) 256) _ (and-left (ltb (l .given) 256 && touches ch (Switch c)) _ p) in
+      absurd (n (owner ch Controller (registerOf c) (and-left (isOwn ch (registerOf c)) _ own) (and-right (isOwn ch (registerOf c)) _ own)))
+  stays (Known l (Read r)) p n = refl
+  stays (Known l (Clear r)) p n = refl
+  stays (Known l (Start r)) p n = refl
+
+  pub others-group : (ch ≡ Controller → ⊥) → x .group ≡ groupFor q
+  others-group n = its-group ch (commandOf ch (q .cmd)) (x .group) refl refl (sym (stays (commandOf ch (q .cmd)) (commands-proper ch (q .cmd)) n))
 
 -- ---- a switch
 

@@ -20,8 +20,5 @@ is-busy-one κs a x y s t e f = e ∙ sym f
 pub are-held-one : One 1 this.are_held.Kinds.ps this.are_held.Kinds.r this.are_held.Reads.Post (λ κs x s. x)
 are-held-one κs a x y s t e f = e ∙ sym f
 
-pub span-of-one : OneOutcome 0 this.groups.span_of.Kinds.ps this.groups.span_of.Kinds.r this.groups.span_of.Reads.Post
-span-of-one κs a x y s t e f = e ∙ sym f
-
 pub group-for-one : OneOutcome 0 this.groups.group_for.Kinds.ps this.groups.group_for.Kinds.r this.groups.group_for.Reads.Post
 group-for-one κs a x y s t e f = e ∙ sym f

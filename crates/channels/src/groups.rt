@@ -1,9 +1,10 @@
 // A group is the registers that are held at 0 while CRB, CRC or CRD disables their channel; all others are the core's. A request may change the
 // core, and the registers of one group or of none.
 ghost use mathlib.Core.Path.{_≡_};
-ghost use Rattle.channels.specs.Groups.{span, spanOf, byDoes, byCommand, groupFor};
+ghost use Rattle.channels.specs.Groups.{byDoes, byCommand, groupFor};
 use crate::rows;
 use commands::channel;
+use commands::channel::Channel;
 use commands::command::Command;
 use commands::command::Control;
 use commands::command::Does;
@@ -23,30 +24,20 @@ pub struct Span {
 // The bytes of the core but for the ID, which stands behind them.
 pub const CORE_SIZE: usize = 11;
 
+// The bytes of each group, those of none behind the core. What CRC and CRD switch has no registers yet.
+pub const NOTHING: Span = Span { first: 15, many: 0 };
+
+pub const OF_B: Span = Span {
+    first: 15,
+    many: 55,
+};
+
+pub const OF_C: Span = Span { first: 70, many: 0 };
+
+pub const OF_D: Span = Span { first: 70, many: 0 };
+
 // The most bytes of a group.
 pub const SPAN_MOST: usize = 55;
-
-fn stretch(first: usize, many: usize) -> Span
-    ensures { λ r. ⌜ r ≡ span first many ⌝ }
-{
-    Span {
-        first: first,
-        many: many,
-    }
-}
-
-pub fn span_of(group: Group) -> Span
-    ensures { λ r. ⌜ r ≡ spanOf group ⌝ }
-{
-    match group {
-        Group::Nothing => stretch(15, 0),
-        Group::Switched(control) => match control {
-            Control::B => stretch(15, 55),
-            Control::C => stretch(70, 0),
-            Control::D => stretch(70, 0),
-        },
-    }
-}
 
 fn by_does(group: Group, does: Does) -> Group
     ensures { λ r. ⌜ r ≡ byDoes group does ⌝ }
@@ -69,12 +60,15 @@ fn by_command(group: Group, command: Command) -> Group
     }
 }
 
-// The group that a request may change, whatever its answer is.
+// The group that a request may change, whatever its answer is. Only the controller's commands switch, so that only they are looked up.
 pub fn group_for(q: Request) -> Group
     ensures { λ r. ⌜ r ≡ groupFor q ⌝ }
 {
     let which = channel::channel_of(q.ch);
     let row = rows::row_of(which);
     let group = row.group;
-    by_command(group, channel::command_of(which, q.cmd))
+    match which {
+        Channel::Controller => by_command(group, channel::command_of(Channel::Controller, q.cmd)),
+        _ => group,
+    }
 }

@@ -11,7 +11,7 @@ use borrow.Author.Tests.{leb-true, le-leb, lt-leb}
 use lib.Dec.{leb, lit≤, lit<}
 use lib.ListN.{length, take, drop, getD, length-append, length-take}
 use lib.Seq.{take-at, drop-at, drop-append-add, getD-take, length-take-le}
-use Rattle.bits.proofs.Tests.{and-left, and-right}
+use Rattle.bits.proofs.Rows.{none-of}
 use Rattle.parts.specs.Parts.{part, put}
 use Rattle.parts.proofs.Laws.{Apart, length-part, length-put, part-put-after, part-put-apart, part-part, put-put}
 use Rattle.commands.specs.declared.command.Control.{Control}
@@ -31,35 +31,24 @@ use Rattle.chip.specs.Group.{groupOf}
 use Rattle.chip.proofs.EventFits.{EventFits}
 use Rattle.chip.proofs.Laws.{outside, good-stays}
 use Rattle.journal.specs.Layout.{slotsOf, firstOf, keptOf, wellFormed, placeOf, past, pushed}
-use Rattle.journal.specs.Record.{coreBytes, startOf, manyOf, tagOf, lastTag, groupIn, keptFor, before, restored, sound}
+use Rattle.journal.specs.Record.{coreBytes, startOf, manyOf, tagOf, lastTag, tagged, groupIn, recordOf, keptFor, before, restored, sound}
 use Rattle.journal.specs.Inner.{recordMost}
 use Rattle.journal.proofs.Pieces.{over-pieces}
 use Rattle.journal.proofs.Ring.{newest-front, length-past}
 
--- ---- the groups in a state's bytes: behind the core, inside, and none longer than a record has room for
+-- ---- so many bytes of a state from a place on: behind the core, inside, and not more than a record has room for
 
-abbrev bounded : Group → Bool
-bounded g = leb coreBytes (startOf g) && leb (startOf g + manyOf g) stateSize && leb (1 + coreBytes + manyOf g) recordMost
+pub record Fits (first many : ℕ) : Type 0 where
+  pub behind : coreBytes ≤ first
+  pub inside : first + many ≤ stateSize
+  pub short : 1 + coreBytes + many ≤ recordMost
 
-bounds : (g : Group) → bounded g ≡ true
-bounds Nothing = refl
-bounds (Switched B) = refl
-bounds (Switched C) = refl
-bounds (Switched D) = refl
-
-module _ (g : Group) where
-  behind-core : coreBytes ≤ startOf g
-  behind-core =
-      leb-true coreBytes (startOf g)
-      (and-left (leb coreBytes (startOf g)) _ (and-left (leb coreBytes (startOf g) && leb (startOf g + manyOf g) stateSize) _ (bounds g)))
-
-  inside-state : startOf g + manyOf g ≤ stateSize
-  inside-state =
-      leb-true (startOf g + manyOf g) stateSize
-      (and-right (leb coreBytes (startOf g)) _ (and-left (leb coreBytes (startOf g) && leb (startOf g + manyOf g) stateSize) _ (bounds g)))
-
-  inside-record : 1 + coreBytes + manyOf g ≤ recordMost
-  inside-record = leb-true (1 + coreBytes + manyOf g) recordMost (and-right (leb coreBytes (startOf g) && leb (startOf g + manyOf g) stateSize) _ (bounds g))
+-- a group's are
+fits : (g : Group) → Fits (startOf g) (manyOf g)
+fits Nothing = record { behind = lit≤ tt; inside = lit≤ tt; short = lit≤ tt }
+fits (Switched B) = record { behind = lit≤ tt; inside = lit≤ tt; short = lit≤ tt }
+fits (Switched C) = record { behind = lit≤ tt; inside = lit≤ tt; short = lit≤ tt }
+fits (Switched D) = record { behind = lit≤ tt; inside = lit≤ tt; short = lit≤ tt }
 
 -- ---- the tags
 
@@ -78,75 +67,85 @@ tag-known (Switched D) = refl
 
 -- ---- what a record keeps of a state, put back over another that is the same outside
 
--- every byte behind the core, the ID first, that is not the group's
-abbrev Agree : Group → List ℕ → List ℕ → Type 0
-Agree g t s = (p m : ℕ) → coreBytes ≤ p → Apart p m (startOf g) (manyOf g) → part p m t ≡ part p m s
+module _ (first many : ℕ) (f : Fits first many) where
+  -- every byte behind the core, the ID first, that is not one of these
+  abbrev Agree : List ℕ → List ℕ → Type 0
+  Agree t s = (p m : ℕ) → coreBytes ≤ p → Apart p m first many → part p m t ≡ part p m s
 
-put-back : (g : Group) (s t : List ℕ) → length s ≡ stateSize → length t ≡ stateSize → Agree g t s
-    → put (startOf g) (part (startOf g) (manyOf g) s) (put 0 (take coreBytes s) t) ≡ s
-unfolding part
-put-back Nothing s t n k a = over-pieces 16 4 0 55 s t n k (a 16 4 (lit≤ tt) (inl (lit≤ tt))) (a 20 55 (lit≤ tt) (inr (lit≤ tt)))
-put-back (Switched B) s t n k a = over-pieces 16 4 55 0 s t n k (a 16 4 (lit≤ tt) (inl (lit≤ tt))) (a 75 0 (lit≤ tt) (inr (lit≤ tt)))
-put-back (Switched C) s t n k a = over-pieces 16 59 0 0 s t n k (a 16 59 (lit≤ tt) (inl (lit≤ tt))) (a 75 0 (lit≤ tt) (inr (lit≤ tt)))
-put-back (Switched D) s t n k a = over-pieces 16 59 0 0 s t n k (a 16 59 (lit≤ tt) (inl (lit≤ tt))) (a 75 0 (lit≤ tt) (inr (lit≤ tt)))
+  put-back : (s t : List ℕ) → length s ≡ stateSize → length t ≡ stateSize → Agree t s
+      → put first (part first many s) (put 0 (part 0 coreBytes s) t) ≡ s
+  put-back s t n k a =
+      let l = f .behind in
+      let i = f .inside in
+      let x = first - coreBytes in
+      let y = stateSize - (first + many) in
+      let e : coreBytes + x ≡ first = omega arith in
+      subst (λ (p : ℕ). put p (part p many s) (put 0 (part 0 coreBytes s) t) ≡ s) e
+      (over-pieces coreBytes x many y s t (omega arith) (omega arith) (a coreBytes x (omega arith) (inl (omega arith)))
+      (a (coreBytes + x + many) y (omega arith) (inr (omega arith))))
 
-module _ (g : Group) (s : List ℕ) (n : length s ≡ stateSize) where
-  abbrev core : List ℕ
-  core = take coreBytes s
+  module _ (s : List ℕ) (n : length s ≡ stateSize) where
+    abbrev core : List ℕ
+    core = part 0 coreBytes s
 
-  abbrev group : List ℕ
-  group = part (startOf g) (manyOf g) s
+    abbrev group : List ℕ
+    group = part first many s
 
-  core-long : length core ≡ coreBytes
-  core-long = length-take-le coreBytes s (omega arith)
+    core-long : length core ≡ coreBytes
+    core-long = length-part 0 coreBytes s (omega arith)
 
-  group-long : length group ≡ manyOf g
-  group-long = length-part (startOf g) (manyOf g) s (let i = inside-state g in omega arith)
+    group-long : length group ≡ many
+    group-long = length-part first many s (let i = f .inside in omega arith)
 
-  pub length-kept : length (keptFor g s) ≡ 1 + coreBytes + manyOf g
-  unfolding keptFor
-  length-kept = let c = core-long in let m = group-long in ap (λ (k : ℕ). suc k) (length-append core group ∙ sum) ∙ one
-    where
-      sum : length core + length group ≡ coreBytes + manyOf g
-      sum = ap₂ _+_ core-long group-long
+    -- a record is read, whatever stands behind it
+    module _ (tag : ℕ) (r rest : List ℕ) (e : r ≡ recordOf tag first many s ++ rest) where
+      its-tag : getD r 0 0 ≡ tag
+      unfolding recordOf
+      its-tag = rw e refl
 
-      one : suc (coreBytes + manyOf g) ≡ 1 + coreBytes + manyOf g
-      one = omega arith
+      its-core : part 1 coreBytes r ≡ core
+      unfolding recordOf part
+      its-core = rw (e, append-assoc core group rest) (take-at core (group ++ rest) coreBytes core-long)
 
-  -- a record is read, whatever stands behind it
-  module _ (r rest : List ℕ) (e : r ≡ keptFor g s ++ rest) where
-    its-tag : getD r 0 0 ≡ tagOf g
-    unfolding keptFor
-    its-tag = rw e refl
+      its-group : part (1 + coreBytes) many r ≡ group
+      unfolding recordOf part
+      its-group =
+          rw (e, append-assoc core group rest)
+          (ap (take many) (drop-at core (group ++ rest) coreBytes core-long) ∙ take-at group rest many group-long)
 
-    its-core : part 1 coreBytes r ≡ core
-    unfolding keptFor part
-    its-core = rw (e, append-assoc core group rest) (take-at core (group ++ rest) coreBytes core-long)
-
-    its-group : part (1 + coreBytes) (manyOf g) r ≡ group
-    unfolding keptFor part
-    its-group =
-        rw (e, append-assoc core group rest)
-        (ap (take (manyOf g)) (drop-at core (group ++ rest) coreBytes core-long) ∙ take-at group rest (manyOf g) group-long)
-
-    pub kept-restores : (t : List ℕ) → length t ≡ stateSize → Agree g t s → restored t r ≡ s
-    unfolding restored
-    kept-restores t k a =
-        rw (its-tag, group-back g, its-core, its-group) (put-back g s t n k a)
+-- a group's record is read back, whatever stands behind it
+kept-restores : (g : Group) (tag : ℕ) → groupIn tag ≡ g → (s rest t : List ℕ) → length s ≡ stateSize → length t ≡ stateSize
+    → Agree (startOf g) (manyOf g) (fits g) t s → restored t (recordOf tag (startOf g) (manyOf g) s ++ rest) ≡ s
+unfolding restored
+kept-restores g tag e s rest t n k a =
+    let f = fits g in
+    let r = recordOf tag (startOf g) (manyOf g) s ++ rest in
+    rw (
+      its-tag (startOf g) (manyOf g) f s n tag r rest refl,
+      e,
+      its-core (startOf g) (manyOf g) f s n tag r rest refl,
+      its-group (startOf g) (manyOf g) f s n tag r rest refl,
+    ) (put-back (startOf g) (manyOf g) f s t n k a)
 
 -- ---- A STEP BACK FROM WHAT AN EVENT LEFT, by the event's record, IS THE STATE THAT IT HAPPENED TO, and the record is sound there
 
 few : (n : ℕ) (l : List ℕ) → length (take n l) ≤ n
 few n l = rw (length-take n l) (omega arith)
 
+length-record : (tag first many : ℕ) (s : List ℕ) → length (recordOf tag first many s) ≤ 1 + coreBytes + many
+unfolding recordOf part
+length-record tag first many s =
+    let c = few coreBytes s in
+    let m = few many (drop first s) in
+    let l = length-append (take coreBytes s) (take many (drop first s)) in
+    omega arith
+
 pub length-before : (s : List ℕ) (e : Event) → length (before s e) ≤ 256
-unfolding before keptFor part
+unfolding before
 length-before s e =
     let g = groupOf e in
-    let i = inside-record g in
-    let c = few coreBytes s in
-    let m = few (manyOf g) (drop (startOf g) s) in
-    let l = length-append (take coreBytes s) (take (manyOf g) (drop (startOf g) s)) in
+    let i = fits g .short in
+    let l = length-record (tagOf g) (startOf g) (manyOf g) s in
     omega arith
 
 behind-link : (l : List ℕ) (rs : List ℕ) (p m : ℕ) → length l ≡ linkBytes → coreBytes ≤ p → part p m (l ++ rs) ≡ part (p - linkBytes) m rs
@@ -155,7 +154,7 @@ behind-link l rs p m n h =
     let e : p ≡ length l + (p - linkBytes) = omega arith in
     ap (λ (k : ℕ). take m (drop k (l ++ rs))) e ∙ ap (take m) (drop-append-add l rs (p - linkBytes))
 
-agrees : (a b : Adapter) (g : Group) → SameOutside g (b .registers) (a .registers) → Agree g (stateBytes b) (stateBytes a)
+agrees : (a b : Adapter) (g : Group) → SameOutside g (b .registers) (a .registers) → Agree (startOf g) (manyOf g) (fits g) (stateBytes b) (stateBytes a)
 unfolding stateBytes
 agrees a b g u p m l o =
     behind-link (linkImage (b .link)) (b .registers) p m refl l ∙ u (p - linkBytes) m (omega arith) (lower o)
@@ -171,58 +170,54 @@ module _ (a : Adapter) (e : Event) (rest : List ℕ) (g : Good a) (typed : Event
   taken-back =
       let n = g .registers .fits .long in
       let m = good-stays a e g typed .registers .fits .long in
-      kept-restores (groupOf e) (stateBytes a) (length-state a n) _ rest refl (stateBytes (reaction a e .adapter)) (length-state (reaction a e .adapter) m)
+      kept-restores (groupOf e) (tagOf (groupOf e)) (group-back (groupOf e)) (stateBytes a) rest (stateBytes (reaction a e .adapter)) (length-state a n)
+      (length-state (reaction a e .adapter) m)
       (agrees a (reaction a e .adapter) (groupOf e) (outside a n e kept))
 
   known : (getD (before (stateBytes a) e ++ rest) 0 0) ≡ tagOf (groupOf e)
-  unfolding before keptFor
+  unfolding before recordOf
   known = refl
 
   pub sound-back : sound (stateBytes (reaction a e .adapter)) (before (stateBytes a) e ++ rest) ≡ true
   unfolding sound
   sound-back = rw (taken-back, known, tag-known (groupOf e)) (state-bytes a g)
 
--- ---- what the code keeps and puts back
+-- ---- what the code makes and puts back
 
-pub tag-at : (g k : Group) (n : ℕ) → g ≡ k → n ≡ tagOf k → n ≡ tagOf g
-tag-at g k n e f = simp (e, f)
+pub makes : (s r r₁ r₂ r₃ : List ℕ) (tag first many : ℕ) → length s ≡ stateSize → recordMost ≤ length r → r₁ ≡ put 0 (tag ∷ []) r
+    → r₂ ≡ put 1 (take (coreBytes - 0) (drop 0 s)) r₁ → r₃ ≡ put (1 + coreBytes) (take (first + many - first) (drop first s)) r₂
+    → r₃ ≡ put 0 (recordOf tag first many s) r
+unfolding recordOf part
+makes s r r₁ r₂ r₃ tag first many n l e f h =
+    let c = length-take-le coreBytes s (omega arith) in
+    let w : first + many - first ≡ many = omega arith in
+    let p : 1 + coreBytes ≡ 0 + suc (length (take coreBytes s)) = omega arith in
+    rw (h, f, e, w, put-put 0 (tag ∷ []) (take coreBytes s) r 1 refl (omega arith))
+    (put-put 0 (tag ∷ take coreBytes s) (take many (drop first s)) r (1 + coreBytes) p (omega arith))
 
-pub tag-by : (g : Group) (c k : Control) (n : ℕ) → g ≡ Switched c → c ≡ k → n ≡ tagOf (Switched k) → n ≡ tagOf g
-tag-by g c k n e f h = simp (e, f, h)
+-- ---- a tag's group, or none
 
-module _ (g : Group) (x : Span) (f : x ≡ spanOf g) where
-  pub first-fits : x .first ≤ stateSize
-  first-fits = let i = inside-state g in rw f (omega arith)
+module _ (tag first many : ℕ) where
+  placed : (g : Group) → groupIn tag ≡ g → first ≡ startOf g → many ≡ manyOf g
+      → ((first ≡ startOf (groupIn tag)) × (many ≡ manyOf (groupIn tag))) × ((first + many ≤ stateSize) × (1 + coreBytes + many ≤ recordMost))
+  placed g e f m = rw (e, f, m) ((refl, refl), (fits g .inside, fits g .short))
 
-  pub placed : ((linkBytes + x .first ≡ startOf g) × (x .many ≡ manyOf g))
-      × ((linkBytes + x .first + x .many ≤ stateSize) × (1 + coreBytes + x .many ≤ recordMost))
-  placed = rw f ((refl, refl), (inside-state g, inside-record g))
+  pub place-at : (code : ℕ) → tag ≡ code → first ≡ startOf (groupIn code) → many ≡ manyOf (groupIn code)
+      → ((first ≡ startOf (groupIn tag)) × (many ≡ manyOf (groupIn tag))) × ((first + many ≤ stateSize) × (1 + coreBytes + many ≤ recordMost))
+  place-at code e f m = placed (groupIn code) (ap groupIn e) f m
 
-module _ (g : Group) (s : List ℕ) (n : length s ≡ stateSize) where
-  pub keeps-core : (r r₁ r₂ : List ℕ) (tag : ℕ) → recordMost ≤ length r → tag ≡ tagOf g → r₁ ≡ put 0 (tag ∷ []) r
-      → r₂ ≡ put 1 (take (coreBytes - 0) (drop 0 s)) r₁ → r₂ ≡ put 0 (tagOf g ∷ take coreBytes s) r
-  keeps-core r r₁ r₂ tag l t e h = rw (h, e, t) (put-put 0 (tagOf g ∷ []) (take coreBytes s) r 1 refl (omega arith))
+  pub no-place : (tag ≡ 1 → ⊥) → (tag ≡ 2 → ⊥) → (tag ≡ 3 → ⊥) → first ≡ startOf Nothing → many ≡ manyOf Nothing
+      → ((first ≡ startOf (groupIn tag)) × (many ≡ manyOf (groupIn tag))) × ((first + many ≤ stateSize) × (1 + coreBytes + many ≤ recordMost))
+  unfolding groupIn
+  no-place b c d f m = placed Nothing (sym (none-of tagged Nothing tag (((tt, b), c), d))) f m
 
-  module _ (many : ℕ) (m : many ≡ manyOf g) where
-    pub kept-long : 1 + coreBytes + many ≡ length (keptFor g s)
-    kept-long = ap (λ (k : ℕ). 1 + coreBytes + k) m ∙ sym (length-kept g s n)
-
-    pub keeps : (r r₁ r₂ : List ℕ) (first : ℕ) → recordMost ≤ length r → first ≡ startOf g → r₁ ≡ put 0 (tagOf g ∷ take coreBytes s) r
-        → r₂ ≡ put (1 + coreBytes) (take (first + many - first) (drop first s)) r₁ → r₂ ≡ put 0 (keptFor g s) r
-    unfolding keptFor part
-    keeps r r₁ r₂ first l f e h =
-        let c = core-long g s n in
-        let w : first + many - first ≡ manyOf g = omega arith in
-        let p : 1 + coreBytes ≡ 0 + suc (length (take coreBytes s)) = omega arith in
-        rw (h, e, w, f) (put-put 0 (tagOf g ∷ take coreBytes s) (part (startOf g) (manyOf g) s) r (1 + coreBytes) p (omega arith))
-
-pub puts-back : (r s s₁ s₂ : List ℕ) (g : Group) (first many : ℕ) → g ≡ groupIn (getD r 0 0) → first ≡ startOf g → many ≡ manyOf g
+pub puts-back : (r s s₁ s₂ : List ℕ) (first many : ℕ) → first ≡ startOf (groupIn (getD r 0 0)) → many ≡ manyOf (groupIn (getD r 0 0))
     → s₁ ≡ put 0 (take (1 + coreBytes - 1) (drop 1 r)) s → s₂ ≡ put first (take (1 + coreBytes + many - (1 + coreBytes)) (drop (1 + coreBytes) r)) s₁
     → s₂ ≡ restored s r
 unfolding restored part
-puts-back r s s₁ s₂ g first many e f m h i =
+puts-back r s s₁ s₂ first many f m h i =
     let w : 1 + coreBytes + many - (1 + coreBytes) ≡ many = omega arith in
-    rw (i, h, w, f, m, e) refl
+    rw (i, h, w, f, m) refl
 
 -- ---- a record that is tried: what it restores stands, or is taken back
 
@@ -234,21 +229,22 @@ module _ (s r : List ℕ) (n : length s ≡ stateSize) (l : recordMost ≤ lengt
   core-room = let k = length-part 1 coreBytes r (omega arith) in omega arith
 
   group-kept : length (part (1 + coreBytes) (manyOf its) r) ≡ manyOf its
-  group-kept = let h = inside-record its in length-part (1 + coreBytes) (manyOf its) r (omega arith)
+  group-kept = let h = fits its .short in length-part (1 + coreBytes) (manyOf its) r (omega arith)
 
   abbrev cored : List ℕ
   cored = put 0 (part 1 coreBytes r) s
 
   group-room : startOf its + length (part (1 + coreBytes) (manyOf its) r) ≤ length cored
-  group-room = let k = group-kept in let h = inside-state its in let m = length-put 0 (part 1 coreBytes r) s core-room in omega arith
+  group-room = let k = group-kept in let h = fits its .inside in let m = length-put 0 (part 1 coreBytes r) s core-room in omega arith
 
-  pub length-restored : length (restored s r) ≡ stateSize
+  length-restored : length (restored s r) ≡ stateSize
   unfolding restored
   length-restored = length-put (startOf its) _ cored group-room ∙ length-put 0 (part 1 coreBytes r) s core-room ∙ n
 
-  elsewhere : Agree its (restored s r) s
+  -- WHATEVER STATE AND RECORD ARE, what is restored is the state but for the core and the record's group: the ID stays too
+  pub restored-elsewhere : (p m : ℕ) → coreBytes ≤ p → Apart p m (startOf its) (manyOf its) → part p m (restored s r) ≡ part p m s
   unfolding restored
-  elsewhere p m h a =
+  restored-elsewhere p m h a =
       let k = length-part 1 coreBytes r (omega arith) in
       part-put-apart (startOf its) _ cored p m group-room (subst (λ (w : ℕ). Apart p m (startOf its) w) (sym group-kept) a)
       ∙ part-put-after 0 (part 1 coreBytes r) s p m core-room (omega arith)
@@ -262,23 +258,34 @@ module _ (s r : List ℕ) (n : length s ≡ stateSize) (l : recordMost ≤ lengt
     unfolding sound
     judged b x k f h = sym h ∙ simp (le-leb (getD r 0 0) 3 k, f, e)
 
-    pub undone : (was z u : List ℕ) (g : Group) → g ≡ groupIn (getD r 0 0) → was ≡ put 0 (keptFor g s) z → u ≡ restored t was → u ≡ s
+    pub undone : (first many : ℕ) (was z u : List ℕ) → first ≡ startOf (groupIn (getD r 0 0)) → many ≡ manyOf (groupIn (getD r 0 0))
+        → was ≡ put 0 (recordOf (getD r 0 0) first many s) z → u ≡ restored t was → u ≡ s
     unfolding put
-    undone was z u g i w v =
-        v ∙ kept-restores g s n was _ w t (ap length e ∙ length-restored)
-        (subst (λ (x : Group). Agree x t s) (sym i) (subst (λ (x : List ℕ). Agree its x s) (sym e) elsewhere))
+    undone first many was z u f m w v =
+        let w₁ : was ≡ put 0 (recordOf (getD r 0 0) (startOf its) (manyOf its) s) z = w ∙ rw (f, m) refl in
+        v ∙ ap (restored t) w₁
+        ∙ kept-restores its (getD r 0 0) refl s _ t n (ap length e ∙ length-restored)
+        (subst (λ (x : List ℕ). Agree (startOf its) (manyOf its) (fits its) x s) (sym e) restored-elsewhere)
 
 -- ---- what the journal keeps, and tries
 
 pub short-enough : (n : ℕ) (r : List ℕ) → n ≤ recordMost → length (take (n - 0) (drop 0 r)) ≤ 256
 short-enough n r h = rw (length-take (n - 0) (drop 0 r)) (omega arith)
 
-pub keeps-record : (g : Group) (s z r j k : List ℕ) (n : ℕ) → n ≡ length (keptFor g s) → r ≡ put 0 (keptFor g s) z
-    → k ≡ pushed (take (n - 0) (drop 0 r)) j → k ≡ pushed (keptFor g s) j
-unfolding put
-keeps-record g s z r j k n e f h =
-    let m : n - 0 ≡ length (keptFor g s) = omega arith in
-    h ∙ ap (λ (x : List ℕ). pushed x j) (rw (f, m) (take-at (keptFor g s) _ (length (keptFor g s)) refl))
+pub keeps-record : (tag first many : ℕ) (s z r j k : List ℕ) → length s ≡ stateSize → first + many ≤ stateSize → r ≡ put 0 (recordOf tag first many s) z
+    → k ≡ pushed (take (1 + coreBytes + many - 0) (drop 0 r)) j → k ≡ pushed (recordOf tag first many s) j
+unfolding put recordOf part
+keeps-record tag first many s z r j k n i f h =
+    let c = length-take-le coreBytes s (omega arith) in
+    let m = length-part first many s (omega arith) in
+    let l = length-append (take coreBytes s) (take many (drop first s)) in
+    h ∙ ap (λ (x : List ℕ). pushed x j) (rw f (take-at (recordOf tag first many s) _ (1 + coreBytes + many - 0) (omega arith)))
+
+pub kept-at : (g k : Group) (s i j : List ℕ) → g ≡ k → j ≡ pushed (keptFor k s) i → j ≡ pushed (keptFor g s) i
+kept-at g k s i j e h = simp (h, e)
+
+pub kept-by : (g : Group) (c k : Control) (s i j : List ℕ) → g ≡ Switched c → c ≡ k → j ≡ pushed (keptFor (Switched k) s) i → j ≡ pushed (keptFor g s) i
+kept-by g c k s i j e f h = simp (h, e, f)
 
 -- a record's bytes are all in the front of its slot
 module _ (s r : List ℕ) (l : recordMost ≤ length r) where
@@ -295,7 +302,7 @@ module _ (s r : List ℕ) (l : recordMost ≤ length r) where
   restored-front : restored s (take recordMost r) ≡ restored s r
   unfolding restored
   restored-front =
-      rw (tag-front, part-front 1 coreBytes (lit≤ tt), part-front (1 + coreBytes) (manyOf (groupIn (getD r 0 0))) (inside-record (groupIn (getD r 0 0)))) refl
+      rw (tag-front, part-front 1 coreBytes (lit≤ tt), part-front (1 + coreBytes) (manyOf (groupIn (getD r 0 0))) (fits (groupIn (getD r 0 0)) .short)) refl
 
   sound-front : sound s (take recordMost r) ≡ sound s r
   unfolding sound

@@ -47,9 +47,13 @@ groupIn tag = look tagged Nothing tag
 
 -- ---- the record
 
+-- a tag, the core of a state, and so many of its bytes from a place on
+unfoldable pub recordOf : ℕ → ℕ → ℕ → List ℕ → List ℕ
+recordOf tag first many s = tag ∷ (take coreBytes s ++ part first many s)
+
 -- what is kept of a state for a group: its tag, the core, the group's bytes
-unfoldable pub keptFor : Group → List ℕ → List ℕ
-keptFor g s = tagOf g ∷ (take coreBytes s ++ part (startOf g) (manyOf g) s)
+abbrev pub keptFor : Group → List ℕ → List ℕ
+keptFor g s = recordOf (tagOf g) (startOf g) (manyOf g) s
 
 -- what is kept of an event that happens to a state: for the one group that the event may change
 unfoldable pub before : List ℕ → Event → List ℕ

@@ -2,14 +2,18 @@
 // to the state that it went with.
 mod records;
 
+use channels::groups;
 use channels::groups::Group;
+use commands::command::Control;
+use state::LINK;
 ghost use mathlib.Core.Path.{_≡_};
 ghost use mathlib.Core.Bool.{true, false, cond};
-ghost use Prim.Native.Nat.{_-_, _<_, _≤_};
+ghost use Prim.Native.Nat.{_+_, _-_, _<_, _≤_};
 ghost use lib.ListN.{length};
 ghost use Rattle.state.specs.Bytes.{stateSize};
 ghost use Rattle.journal.specs.Layout.{formatOf, slotsOf, wrongLength, firstOf, keptOf, wellFormed, placeOf, firstAfter, keptUp, past, emptied, pushed, lowered};
-ghost use Rattle.journal.specs.Record.{keptFor, restored, sound};
+ghost use Rattle.journal.specs.Inner.{recordMost};
+ghost use Rattle.journal.specs.Record.{coreBytes, recordOf, keptFor, restored, sound};
 
 // The one format known: its length, slots and version.
 pub const SIZE: usize = 17408;
@@ -137,16 +141,34 @@ fn push(j: &mut [u8], r: &[u8])
     j[KEPT] = k;
 }
 
-// Keeps of a state what an event of this group may change.
+// Keeps a state's core, and so many of its bytes from a place on.
+fn keep_part(j: &mut [u8], s: &[u8], tag: u8, first: usize, many: usize)
+    requires { ⌜ wellFormed (now j) ≡ true ⌝ }
+    requires { ⌜ length (now s) ≡ stateSize ⌝ }
+    requires { ⌜ (first + many ≤ stateSize) × (1 + coreBytes + many ≤ recordMost) ⌝ }
+    ensures { λ _. ⌜ now (j .exit) ≡ pushed (recordOf tag first many (now (s .entry))) (now (j .entry)) ⌝ }
+{
+    // By way of bytes of its own, which are copied many at a time: the compiler cannot tell two lent slices apart.
+    let mut r = [0u8; records::MOST];
+    let end = records::GROUP + many;
+    records::make(s, tag, first, many, &mut r);
+    push(j, &r[0..end]);
+}
+
+// Keeps of a state what an event of this group may change. Each arm copies a number of bytes that the compiler knows.
 pub fn keep(j: &mut [u8], s: &[u8], group: Group)
     requires { ⌜ wellFormed (now j) ≡ true ⌝ }
     requires { ⌜ length (now s) ≡ stateSize ⌝ }
     ensures { λ _. ⌜ now (j .exit) ≡ pushed (keptFor group (now (s .entry))) (now (j .entry)) ⌝ }
 {
-    // By way of bytes of its own, which are copied many at a time: the compiler cannot tell two lent slices apart.
-    let mut r = [0u8; records::MOST];
-    let n = records::keep(s, group, &mut r);
-    push(j, &r[0..n]);
+    match group {
+        Group::Nothing => keep_part(j, s, 0, LINK + groups::NOTHING.first, groups::NOTHING.many),
+        Group::Switched(control) => match control {
+            Control::B => keep_part(j, s, 1, LINK + groups::OF_B.first, groups::OF_B.many),
+            Control::C => keep_part(j, s, 2, LINK + groups::OF_C.first, groups::OF_C.many),
+            Control::D => keep_part(j, s, 3, LINK + groups::OF_D.first, groups::OF_D.many),
+        },
+    }
 }
 
 // Where the newest record stands.

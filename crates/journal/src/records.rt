@@ -1,99 +1,75 @@
-// A record: what its event may change of a state, as it was before the event. A byte for the group, the core, the group's bytes.
+// A record: what its event may change of a state, as it was before the event. A tag for the group, the core, the group's bytes.
+use channels::groups;
 use channels::groups::CORE_SIZE;
-use channels::groups::Group;
 use channels::groups::SPAN_MOST;
 use channels::groups::Span;
-use channels::groups::span_of;
-use commands::command::Control;
 use state::LINK;
 ghost use mathlib.Core.Path.{_≡_};
 ghost use mathlib.Core.Bool.{cond};
 ghost use Prim.Native.Nat.{_+_, _≤_};
-ghost use mathlib.Core.List.{_∷_};
-ghost use lib.ListN.{length, take};
+ghost use lib.ListN.{length};
 ghost use Rattle.parts.specs.Parts.{put};
 ghost use Rattle.state.specs.Bytes.{stateSize};
-ghost use Rattle.journal.specs.Record.{coreBytes, startOf, manyOf, tagOf, groupIn, keptFor, restored, sound};
+ghost use Rattle.journal.specs.Record.{coreBytes, startOf, manyOf, groupIn, recordOf, restored, sound};
 ghost use Rattle.journal.specs.Inner.{recordMost};
 
 // The bytes of the core that a record has: all but the ID.
 const CORE: usize = LINK + CORE_SIZE;
 
 // Where a record has its group's bytes.
-const GROUP: usize = 1 + CORE;
+pub(crate) const GROUP: usize = 1 + CORE;
 
 // The bytes of the longest record.
 pub(crate) const MOST: usize = GROUP + SPAN_MOST;
 
+// The tag of the last group.
 const LAST_TAG: u8 = 3;
 
-fn tag_of(group: Group) -> u8
-    ensures { λ r. ⌜ r ≡ tagOf group ⌝ }
+// Makes a record of a state's core and of so many of its bytes from a place on.
+pub(crate) fn make(s: &[u8], tag: u8, first: usize, many: usize, r: &mut [u8])
+    requires { ⌜ length (now s) ≡ stateSize ⌝ }
+    requires { ⌜ (first + many ≤ stateSize) × (1 + coreBytes + many ≤ recordMost) ⌝ }
+    requires { ⌜ recordMost ≤ length (now r) ⌝ }
+    ensures { λ _. ⌜ now (r .exit) ≡ put 0 (recordOf tag first many (now (s .entry))) (now (r .entry)) ⌝ }
 {
-    match group {
-        Group::Nothing => 0,
-        Group::Switched(control) => match control {
-            Control::B => 1,
-            Control::C => 2,
-            Control::D => 3,
+    let front = [tag];
+    let end = first + many;
+    parts::store(r, 0, &front);
+    parts::store(r, 1, &s[0..CORE]);
+    parts::store(r, GROUP, &s[first..end]);
+}
+
+// Where the bytes of a tag's group stand in a state, and how many they are: a record has room for them.
+fn place_of(tag: u8) -> Span
+    ensures { λ x. ⌜ ((x .first ≡ startOf (groupIn tag)) × (x .many ≡ manyOf (groupIn tag))) × ((x .first + x .many ≤ stateSize) × (1 + coreBytes + x .many ≤ recordMost)) ⌝ }
+{
+    match tag {
+        1 => Span {
+            first: LINK + groups::OF_B.first,
+            many: groups::OF_B.many,
+        },
+        2 => Span {
+            first: LINK + groups::OF_C.first,
+            many: groups::OF_C.many,
+        },
+        3 => Span {
+            first: LINK + groups::OF_D.first,
+            many: groups::OF_D.many,
+        },
+        _ => Span {
+            first: LINK + groups::NOTHING.first,
+            many: groups::NOTHING.many,
         },
     }
 }
 
-fn group_in(tag: u8) -> Group
-    ensures { λ r. ⌜ r ≡ groupIn tag ⌝ }
-{
-    match tag {
-        1 => Group::Switched(Control::B),
-        2 => Group::Switched(Control::C),
-        3 => Group::Switched(Control::D),
-        _ => Group::Nothing,
-    }
-}
-
-// Where a group's bytes stand in a state: behind the core, and so many that a record has room for them.
-fn place_of(group: Group) -> Span
-    ensures { λ r. ⌜ ((r .first ≡ startOf group) × (r .many ≡ manyOf group)) × ((r .first + r .many ≤ stateSize) × (1 + coreBytes + r .many ≤ recordMost)) ⌝ }
-{
-    let span = span_of(group);
-    Span {
-        first: LINK + span.first,
-        many: span.many,
-    }
-}
-
-// Tag and core.
-fn keep_core(s: &[u8], group: Group, r: &mut [u8])
-    requires { ⌜ length (now s) ≡ stateSize ⌝ }
-    requires { ⌜ recordMost ≤ length (now r) ⌝ }
-    ensures { λ _. ⌜ now (r .exit) ≡ put 0 (tagOf group ∷ take coreBytes (now (s .entry))) (now (r .entry)) ⌝ }
-{
-    let tag = [tag_of(group)];
-    parts::store(r, 0, &tag);
-    parts::store(r, 1, &s[0..CORE]);
-}
-
-// Keeps of a state what an event of this group may change. Tells how many bytes that takes.
-pub(crate) fn keep(s: &[u8], group: Group, r: &mut [u8]) -> usize
-    requires { ⌜ length (now s) ≡ stateSize ⌝ }
-    requires { ⌜ recordMost ≤ length (now r) ⌝ }
-    ensures { λ n. ⌜ ((n ≡ length (keptFor group (now (s .entry)))) × (n ≤ recordMost)) × (now (r .exit) ≡ put 0 (keptFor group (now (s .entry))) (now (r .entry))) ⌝ }
-{
-    let place = place_of(group);
-    let first = place.first;
-    let end = first + place.many;
-    keep_core(s, group, r);
-    parts::store(r, GROUP, &s[first..end]);
-    GROUP + place.many
-}
-
-// Puts a record back over the bytes of a state.
+// Puts a record over a state: the core, and the bytes of its tag's group.
 fn put_back(r: &[u8], s: &mut [u8])
     requires { ⌜ recordMost ≤ length (now r) ⌝ }
     requires { ⌜ length (now s) ≡ stateSize ⌝ }
     ensures { λ _. ⌜ now (s .exit) ≡ restored (now (s .entry)) (now (r .entry)) ⌝ }
 {
-    let place = place_of(group_in(r[0]));
+    let place = place_of(r[0]);
     let end = GROUP + place.many;
     parts::store(s, 0, &r[1..GROUP]);
     parts::store(s, place.first, &r[GROUP..end]);
@@ -108,8 +84,9 @@ pub(crate) fn restore(r: &[u8], s: &mut [u8]) -> bool
     if LAST_TAG < r[0] {
         return false;
     }
+    let place = place_of(r[0]);
     let mut was = [0u8; MOST];
-    keep(s, group_in(r[0]), &mut was);
+    make(s, r[0], place.first, place.many, &mut was);
     put_back(r, s);
     if state::is_state(s) {
         return true;

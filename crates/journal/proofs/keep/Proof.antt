@@ -1,6 +1,6 @@
 -- `keep` meets its contract. Assumes nothing.
 use borrow.Author.Needs.{needs}
-use Rattle.journal.proofs.Record.{short-enough, keeps-record}
+use Rattle.journal.proofs.Record.{kept-at, kept-by}
 use Rattle.journal.proofs.keep.Statement.{statement}
 use Rattle.journal.proofs.keep.Tie as tie
 
@@ -9,10 +9,23 @@ keep-spec =
     tie.close
     (tie.spec
     (λ c. search needs)
-    (λ c κs. search needs)
-    (λ c. search needs)
-    (λ c. search needs)
     (λ c. search needs)
     (λ c κs. search needs)
     (λ c. search needs)
-    (λ c. search (short-enough, keeps-record)))
+    (λ c. search needs)
+    (λ c. search needs)
+    (λ c κs. search needs)
+    (λ c. search needs)
+    (λ c. search needs)
+    (λ c κs. search needs)
+    (λ c. search needs)
+    (λ c. search needs)
+    (λ c κs. search needs)
+    (λ c. search needs)
+    (λ c. search (kept-at, kept-by))
+    (λ c. search needs)
+    (λ c. search (kept-at, kept-by))
+    (λ c. search needs)
+    (λ c. search (kept-at, kept-by))
+    (λ c. search needs)
+    (λ c. search (kept-at, kept-by)))
