@@ -1,44 +1,24 @@
 -- ALL CASES: after a flag, any bits are of one of five kinds, to a hunting receiver of one of three, and `Wire` has a law for each.
-use mathlib.Core.Path.{_≡_, refl, sym, ap, ap₂, _∙_}
+use mathlib.Core.Path.{_≡_, refl, sym, ap, _∙_}
 use mathlib.Core.Logic.{_⊎_, ⊎-elim, inl, inr}
-use mathlib.Core.List.{List, [], _∷_, _++_, append-assoc, append-nil}
+use mathlib.Core.List.{List, [], _∷_, _++_, append-assoc, append-nil, List-discrete}
 use Prim.Native.Nat.{ℕ, zero, suc, _+_, _-_, _≤_, _<_}
 use native.Mathlib.Nat.{eq-or-lt-of-le}
 use native.Mathlib.Omega.{arith}
-use borrow.Author.Tests.{leb-true, leb-false, eqb-true, eqb-false, ne-eqb}
-use lib.Dec.{eqb, leb, lit≤}
-use lib.ListN.{length, take, drop, getD, replicate, length-append, length-take, length-drop, length-replicate, getD-replicate, take-append-drop, List·getD-append}
-use lib.Seq.{getD-take, getD-at, take-at, drop-at, take-append-le, drop-append-le}
+use borrow.Author.Tests.{leb-true, leb-false, ne-eqb}
+use lib.Dec.{leb, lit<, lit≤}
+use native.Mathlib.Decide.{ℕ-discrete}
+use lib.ListN.{length, take, drop, getD, replicate, length-append, length-replicate, getD-replicate, take-append-drop, List·getD-append}
+use lib.Seq.{getD-at, take-at, drop-at, take-append-le, drop-append-le}
 use Rattle.wire.specs.Bits.{wire}
 use Rattle.wire.specs.Frame.{flag}
 use Rattle.receiver.specs.declared.Receiver.{Receiver}
-use Rattle.receiver.specs.Receiver.{State}
 use Rattle.wire.proofs.Bits.{AreBits, none, more, bits-wire, bits-drop}
 use Rattle.promises.specs.Wire.{absent, sixOnes, AfterFlag, unended, six-last, closes, shares, aborts, seen, WhileHunting, flagless, ends-begun, holds-flag}
 use Rattle.promises.specs.Calls.{Accepted}
-use Rattle.promises.proofs.Steps.{split, absent-drop, ones-on}
-use Rattle.promises.proofs.States.{Held, hunts-on, frames, view-held}
-
--- ---- bits without six ones in a row, joined by a zero
-
-few : (b : List ℕ) → length b ≤ 5 → absent sixOnes b
-few b h i e = omega (arith, simp (length-take, length-drop) at (ap length e))
-
-at-front : (a b : List ℕ) → absent sixOnes a → take 6 (a ++ (0 ∷ b)) ≡ sixOnes → ⊥
-at-front a b h e =
-    split (leb 6 (length a))
-    (λ t. h 0 (sym (take-append-le 6 a (0 ∷ b) (leb-true 6 (length a) t)) ∙ e))
-    (λ t.
-    let l : length a < 6 = leb-false 6 (length a) t in
-    let z : getD (take 6 (a ++ (0 ∷ b))) (length a) 0 ≡ 0 =
-    getD-take 6 (a ++ (0 ∷ b)) (length a) 0 l ∙ getD-at a 0 b 0 (length a) refl in
-    let o : getD sixOnes (length a) 0 ≡ 1 = getD-replicate 6 (length a) 1 0 l in
-    omega (arith, ap (λ (x : List ℕ). getD x (length a) 0) e))
-
-joined : (a b : List ℕ) → absent sixOnes a → absent sixOnes b → absent sixOnes (a ++ (0 ∷ b))
-joined a b ha hb zero e = at-front a b ha e
-joined [] b ha hb (suc i) e = hb i e
-joined (x ∷ a) b ha hb (suc i) e = joined a b (absent-drop sixOnes (x ∷ a) 1 ha) hb i e
+use Rattle.promises.proofs.Steps.{split, each-below, ones-on}
+use Rattle.promises.proofs.Stuffing.{too-few, short-run, joined}
+use Rattle.promises.proofs.States.{hunted-state, view-held}
 
 -- what stands before a run of ones
 data Before : List ℕ → Type 0 where
@@ -50,8 +30,8 @@ before-join nothing b hb = hb
 before-join (zeroed a ha) b hb = rw (append-assoc a (0 ∷ []) b) (joined a b ha hb)
 
 before-absent : {pre : List ℕ} → Before pre → absent sixOnes pre
-before-absent nothing = few [] (lit≤ tt)
-before-absent (zeroed a ha) = joined a [] ha (few [] (lit≤ tt))
+before-absent nothing = too-few sixOnes [] (lit< tt)
+before-absent (zeroed a ha) = joined a [] ha (too-few sixOnes [] (lit< tt))
 
 before-last : {pre : List ℕ} → Before pre → getD pre (length pre - 1) 0 ≡ 0
 before-last nothing = refl
@@ -66,9 +46,6 @@ six-found {pre = pre} p none = six-last pre (before-absent p) (before-last p)
 six-found {bits = b ∷ bits} nothing (more (inl z) h) = rw z (shares bits)
 six-found {bits = b ∷ bits} (zeroed a ha) (more (inl z) h) = rw (z, append-assoc a (0 ∷ []) (sixOnes ++ (0 ∷ bits))) (closes a bits ha)
 six-found {pre = pre} {bits = b ∷ bits} p (more (inr z) h) = rw z (aborts pre bits (before-absent p) (before-last p))
-
-short-run : (k : ℕ) → k ≤ 5 → absent sixOnes (replicate k 1)
-short-run k h = few (replicate k 1) (rw length-replicate h)
 
 module _ (pre : List ℕ) (k : ℕ) (bits : List ℕ) where
   zero-found : (b : ℕ) → b ≡ 0 → AfterFlag (((pre ++ replicate k 1) ++ (0 ∷ [])) ++ bits) → AfterFlag (pre ++ (replicate k 1 ++ (b ∷ bits)))
@@ -97,23 +74,11 @@ all-cases input start = scan (bits-drop start (bits-wire input)) [] 0 nothing (l
 
 -- ---- hunting: the first flag
 
-same : (l m : List ℕ) → (l ≡ m) ⊎ (l ≡ m → ⊥)
-same [] [] = inl refl
-same [] (y ∷ m) = inr (λ e. omega (arith, ap length e))
-same (x ∷ l) [] = inr (λ e. omega (arith, ap length e))
-same (x ∷ l) (y ∷ m) =
-    split (eqb x y)
-    (λ t. ⊎-elim (λ e. inl (ap₂ (λ (z : ℕ) (r : List ℕ). z ∷ r) (eqb-true x y t) e)) (λ n. inr (λ e. n (ap (drop 1) e))) (same l m))
-    (λ t. inr (λ e. eqb-false x y t (ap (λ (r : List ℕ). getD r 0 0) e)))
-
 record FirstFlag (l : List ℕ) : Type 0 where
   before : List ℕ
   rest : List ℕ
   bits : l ≡ before ++ (flag ++ rest)
   none-yet : absent flag (before ++ take 7 flag)
-
-under-eight : (l : List ℕ) → length l ≤ 7 → absent flag l
-under-eight l h i e = omega (arith, simp (length-take, length-drop) at (ap length e))
 
 absent-more : (b : ℕ) (l : List ℕ) → (take 8 (b ∷ l) ≡ flag → ⊥) → absent flag l → absent flag (b ∷ l)
 absent-more b l n h zero e = n e
@@ -125,42 +90,34 @@ not-further p rest =
     let l : 7 ≤ length (p ++ take 7 flag) = rw (length-append p (take 7 flag)) (omega arith) in
     ap (take 7) (sym (append-assoc p (take 7 flag) (0 ∷ rest))) ∙ take-append-le 7 (p ++ take 7 flag) (0 ∷ rest) l
 
-later : (b : ℕ) (l : List ℕ) → (take 8 (b ∷ l) ≡ flag → ⊥) → absent flag l ⊎ FirstFlag l → absent flag (b ∷ l) ⊎ FirstFlag (b ∷ l)
-later b l n (inl h) = inl (absent-more b l n h)
-later b l n (inr f) =
-    let same-front : take 7 l ≡ take 7 (f .before ++ take 7 flag) = ap (take 7) (f .bits) ∙ not-further (f .before) (f .rest) in
-    inr
-    (record {
-      before = b ∷ f .before;
-      rest = f .rest;
-      bits = ap (λ (r : List ℕ). b ∷ r) (f .bits);
-      none-yet =
-          absent-more b (f .before ++ take 7 flag) (λ e. n (ap (λ (r : List ℕ). b ∷ r) same-front ∙ e)) (f .none-yet);
-    })
-
 find : (l : List ℕ) → absent flag l ⊎ FirstFlag l
-find [] = inl (under-eight [] (lit≤ tt))
-find (b ∷ l) =
-    ⊎-elim
-    (λ (e : take 8 (b ∷ l) ≡ flag).
-    inr
-    (record {
-      before = [];
-      rest = drop 8 (b ∷ l);
-      bits = sym (take-append-drop 8 (b ∷ l)) ∙ ap (λ (r : List ℕ). r ++ drop 8 (b ∷ l)) e;
-      none-yet = under-eight (take 7 flag) (lit≤ tt);
-    }))
-    (λ (n : take 8 (b ∷ l) ≡ flag → ⊥). later b l n (find l)) (same (take 8 (b ∷ l)) flag)
+find [] = inl (too-few flag [] (lit< tt))
+find (b ∷ l) = by (List-discrete ℕ-discrete (take 8 (b ∷ l)) flag) (find l)
+  where
+    by : Dec (take 8 (b ∷ l) ≡ flag) → absent flag l ⊎ FirstFlag l → absent flag (b ∷ l) ⊎ FirstFlag (b ∷ l)
+    by (yes e) f =
+        inr
+        (record {
+          before = [];
+          rest = drop 8 (b ∷ l);
+          bits = sym (take-append-drop 8 (b ∷ l)) ∙ ap (λ (r : List ℕ). r ++ drop 8 (b ∷ l)) e;
+          none-yet = too-few flag (take 7 flag) (lit< tt);
+        })
+    by (no n) (inl h) = inl (absent-more b l n h)
+    by (no n) (inr f) =
+        let same-front : take 7 l ≡ take 7 (f .before ++ take 7 flag) = ap (take 7) (f .bits) ∙ not-further (f .before) (f .rest) in
+        inr
+        (record {
+          before = b ∷ f .before;
+          rest = f .rest;
+          bits = ap (λ (r : List ℕ). b ∷ r) (f .bits);
+          none-yet = absent-more b (f .before ++ take 7 flag) (λ e. n (ap (λ (r : List ℕ). b ∷ r) same-front ∙ e)) (f .none-yet);
+        })
 
 begun-end : (j : ℕ) (rest : List ℕ) → j ≤ 6 → drop j (sixOnes ++ (0 ∷ rest)) ≡ replicate (6 - j) 1 ++ (0 ∷ rest)
-begun-end zero rest h = refl
-begun-end (suc zero) rest h = refl
-begun-end (suc (suc zero)) rest h = refl
-begun-end (suc (suc (suc zero))) rest h = refl
-begun-end (suc (suc (suc (suc zero)))) rest h = refl
-begun-end (suc (suc (suc (suc (suc zero))))) rest h = refl
-begun-end (suc (suc (suc (suc (suc (suc zero)))))) rest h = refl
-begun-end (suc (suc (suc (suc (suc (suc (suc j))))))) rest h = absurd (omega arith)
+begun-end j rest h =
+    each-below 7 (λ j. drop j (sixOnes ++ (0 ∷ rest)) ≡ replicate (6 - j) 1 ++ (0 ∷ rest))
+    (refl, (refl, (refl, (refl, (refl, (refl, (refl, tt))))))) j (omega arith)
 
 seen-none : (j : ℕ) → j ≡ 7 → length (seen j) ≡ 0
 unfolding seen
@@ -210,12 +167,8 @@ module _ (j : ℕ) (bits : List ℕ) where
       begun-before (f .before) (f .rest) (omega arith) (ap (λ (r : List ℕ). r ++ bits) (sym s) ∙ f .bits) n)
       (eq-or-lt-of-le h))
 
-hunted-few : {s : State} → Held s → s .mode ≡ 0 → s .ones ≤ 7
-hunted-few (hunts-on h) m = h
-hunted-few (frames hk hl hc h bits) m = absurd (omega arith)
-
 -- NOR FOR A RECEIVER THAT HUNTS, whatever ones it has seen.
 pub all-cases-hunting : {rx : Receiver} {input output : List ℕ} {start : ℕ} → Accepted rx input start output → rx .mode ≡ 0
     → WhileHunting (rx .ones) (drop start (wire input))
 all-cases-hunting {rx} {input} {output} {start} a m =
-    by-place (rx .ones) (drop start (wire input)) (hunted-few (view-held rx (a .range) (a .size)) m) (find (seen (rx .ones) ++ drop start (wire input)))
+    by-place (rx .ones) (drop start (wire input)) (hunted-state (view-held rx (a .range) (a .size)) m .few) (find (seen (rx .ones) ++ drop start (wire input)))

@@ -5,7 +5,7 @@ use mathlib.Core.List.{List, [], _∷_, _++_, foldl, foldl-append, append-assoc,
 use Prim.Native.Nat.{ℕ, zero, suc, _+_, _-_, _≤_}
 use native.Mathlib.Nat.{zero-add}
 use native.Mathlib.Omega.{arith}
-use borrow.Author.Tests.{ne-eqb, eqb-true, eqb-false, leb-true}
+use borrow.Author.Tests.{eqb-true, leb-true}
 use lib.Dec.{eqb, leb}
 use lib.ListN.{length, take, drop, length-take, length-drop}
 use lib.Seq.{drop-drop, drop-nil, take-all}
@@ -17,7 +17,7 @@ use Rattle.promises.specs.Wire.{after}
 use Rattle.promises.specs.Calls.{spoken, verdict, heard}
 use Rattle.bits.proofs.Tests.{and-right}
 use Rattle.promises.proofs.Steps.{split, at-flag-answers}
-use Rattle.promises.proofs.Calls.{calls, decided, concluded-consumed, Took, took, Consumed, calls-consumed}
+use Rattle.promises.proofs.Calls.{calls, concluded-at, decided, concluded-consumed, Took, took, Consumed, calls-consumed}
 
 -- ---- a bit at a time
 
@@ -29,12 +29,6 @@ heard-append s (b ∷ p) q =
     (λ d. rw d (heard-append (next s b) p q))
 
 -- ---- a reading gives the first of them
-
-decided-answer : (s : State) (b n : ℕ) → concluded (record { state = s; used = n; hit = b + 1 }) .answer ≡ verdict s b
-decided-answer s b n =
-    let z : eqb (b + 1) 0 ≡ false = ne-eqb (b + 1) 0 (λ h. omega arith) in
-    split (eqb b 0) (λ e. let o : eqb (b + 1) 1 ≡ true = rw (eqb-true b 0 e) refl in rw (z, o, e) refl)
-    (λ e. let o : eqb (b + 1) 1 ≡ false = ne-eqb (b + 1) 1 (λ h. eqb-false b 0 e (omega arith)) in rw (z, o, e) refl)
 
 verdict-speaks : (s : State) (b : ℕ) → decides s b ≡ true → eqb (verdict s b .number) number.noFrame ≡ false
 verdict-speaks s b d =
@@ -53,7 +47,7 @@ Heard s bits p k = heard s bits ≡ spoken (concluded p .answer ∷ []) ++ heard
 heard-last : (s : State) (n b : ℕ) (bits : List ℕ) → decides s b ≡ true
     → Heard s (b ∷ bits) (record { state = s; used = n; hit = b + 1 }) 1
 unfolding heard spoken
-heard-last s n b bits d = rw (decided-answer s b n, decided s b n d, verdict-speaks s b d, d) refl
+heard-last s n b bits d = rw (ap (λ (r : Reading). r .answer) (concluded-at s b n), decided s b n d, verdict-speaks s b d, d) refl
 
 heard-go : (s : State) (b : ℕ) (bits : List ℕ) → decides s b ≡ false → heard s (b ∷ bits) ≡ heard (next s b) bits
 unfolding heard
@@ -115,17 +109,14 @@ spoken-append (x ∷ a) b =
 
 calls-heard : (n : ℕ) (s : State) (bits : List ℕ)
     → heard s bits ≡ spoken (calls n s bits .answers) ++ heard (calls n s bits .state) (calls n s bits .rest)
-unfolding calls reading spoken
+unfolding calls spoken
 calls-heard zero s bits = refl
 calls-heard (suc n) s bits =
-    let k = reading s bits .consumed in
-    let rest : List ℕ = drop k bits in
     let a = reading s bits .answer in
-    let t = reading s bits .state in
-    heard-first bits s 0 k (sym (zero-add k))
-    ∙ ap (λ (l : List Answer). spoken (a ∷ []) ++ l) (calls-heard n t rest)
-    ∙ sym (append-assoc (spoken (a ∷ [])) (spoken (calls n t rest .answers)) (heard (calls n t rest .state) (calls n t rest .rest)))
-    ∙ ap (λ (l : List Answer). l ++ heard (calls n t rest .state) (calls n t rest .rest)) (sym (spoken-append (a ∷ []) (calls n t rest .answers)))
+    let on = calls n (reading s bits .state) (drop (reading s bits .consumed) bits) in
+    let left : List Answer = heard (on .state) (on .rest) in
+    read-heard s bits ∙ ap (λ (l : List Answer). spoken (a ∷ []) ++ l) (calls-heard n (reading s bits .state) (drop (reading s bits .consumed) bits))
+    ∙ sym (ap (λ (l : List Answer). l ++ left) (spoken-append (a ∷ []) (on .answers)) ∙ append-assoc (spoken (a ∷ [])) (spoken (on .answers)) left)
 
 -- calls that have consumed all the bits
 module _ (n : ℕ) (s : State) (bits : List ℕ) (all : calls n s bits .rest ≡ []) where

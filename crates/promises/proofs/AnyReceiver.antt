@@ -10,15 +10,16 @@ use Rattle.wire.specs.Frame.{flag, stuff, contentOf}
 use Rattle.transmitter.specs.Frame.{frame}
 use Rattle.receiver.specs.declared.Receiver.{Receiver}
 use Rattle.receiver.specs.Receiver.{State, hunting, opened, view}
-use Rattle.receiver.specs.Receive.{Answer, bare, atFlag}
+use Rattle.receiver.specs.Receive.{Answer, bare, atFlag, reading}
 use Rattle.wire.proofs.Bits.{AreBits, bits-wire, bits-drop}
-use Rattle.promises.specs.Wire.{absent, sixOnes, sevenOnes, destuff, atAbort}
+use Rattle.promises.specs.Wire.{absent, sixOnes, sevenOnes, destuff, atAbort, after}
 use Rattle.promises.specs.Calls.{Accepted, receives, spoken, heard}
 use Rattle.promises.proofs.Steps.{bits-front, bits-back}
 use Rattle.promises.proofs.Readings.{frame-read, shared-zero, abort-read}
 use Rattle.promises.proofs.Calls.{calls, flag-last}
 use Rattle.promises.proofs.Answers.{heard-append, heard-after, all-heard}
 use Rattle.promises.proofs.Called.{Went, went, at-end}
+pub use Rattle.promises.proofs.RoundTrip.{frame-cut}
 use Rattle.promises.proofs.RoundTrip.{read-opened}
 
 -- ---- over bits
@@ -31,32 +32,6 @@ through-flag s bits rest =
 
 past : (raw end rest : List ℕ) (n : ℕ) → length end ≡ n → drop (length raw + n) (raw ++ (end ++ rest)) ≡ rest
 past raw end rest n e = drop-append-add raw (end ++ rest) n ∙ drop-at end rest n e
-
-heard-frame : {raw : List ℕ} → AreBits raw → (rest : List ℕ) → absent sixOnes raw
-    → heard opened (raw ++ (flag ++ rest)) ≡ spoken (atFlag (destuff raw) ∷ []) ++ heard opened rest
-heard-frame {raw = raw} hb rest h =
-    heard-after opened (raw ++ (flag ++ rest)) (atFlag (destuff raw)) opened (length raw + 8) rest (frame-read hb rest h) (past raw flag rest 8 refl)
-
-heard-shared : (rest : List ℕ) → heard opened (drop 1 flag ++ rest) ≡ heard opened rest
-unfolding spoken
-heard-shared rest = heard-after opened (drop 1 flag ++ rest) (bare number.noFrame) opened 7 rest (shared-zero rest) refl
-
-heard-abort : {raw : List ℕ} → AreBits raw → (rest : List ℕ) → absent sixOnes raw → getD raw (length raw - 1) 0 ≡ 0
-    → heard opened (raw ++ (sevenOnes ++ rest)) ≡ spoken (atAbort (destuff raw) ∷ []) ++ heard hunting rest
-heard-abort {raw = raw} hb rest h last =
-    heard-after opened (raw ++ (sevenOnes ++ rest)) (atAbort (destuff raw)) hunting (length raw + 7) rest (abort-read hb rest h last)
-    (past raw sevenOnes rest 7 refl)
-
-pub frame-cut : (body rest : List ℕ) → frame body ++ rest ≡ flag ++ (stuff 0 (contentOf body) ++ (flag ++ rest))
-unfolding frame
-frame-cut body rest = simp append-assoc refl
-
-heard-body : (body rest : List ℕ) → ((i : ℕ) → getD body i 0 < 256) → 2 ≤ length body → length body ≤ 16
-    → heard opened (stuff 0 (contentOf body) ++ (flag ++ rest)) ≡ record { number = number.hasFrame; body = body } ∷ heard opened rest
-unfolding spoken
-heard-body body rest small least most =
-    heard-after opened (stuff 0 (contentOf body) ++ (flag ++ rest)) (record { number = number.hasFrame; body = body }) opened
-    (length (stuff 0 (contentOf body)) + 8) rest (read-opened body small least most rest) (past (stuff 0 (contentOf body)) flag rest 8 refl)
 
 -- ---- over calls
 
@@ -76,21 +51,28 @@ module _ (n : ℕ) {rx : Receiver} {input output : List ℕ} {start : ℕ} (a : 
         let h : AreBits (before ++ (flag ++ (p ++ q))) = rw e at (bits-drop start (bits-wire input)) in
         bits-front p q (bits-back flag (bits-back before h))
 
+    -- what a reading says of the bits after a flag
+    after-flag : (bits rest : List ℕ) (x : Answer) (s : State) (m : ℕ) → drop start (wire input) ≡ before ++ (flag ++ bits)
+        → reading opened bits ≡ after x s m rest → drop m bits ≡ rest
+        → spoken (receives n rx input start output .answers) ≡ heard (view rx) (before ++ flag) ++ (spoken (x ∷ []) ++ heard s rest)
+    after-flag bits rest x s m e r d =
+        answers-along ∙ ap (heard (view rx)) e ∙ through-flag (view rx) before bits
+        ∙ ap (λ (l : List Answer). heard (view rx) (before ++ flag) ++ l) (heard-after opened bits x s m rest r d)
+
     -- A FRAME between two flags: after the answers to what came before, the answer of document 01's list for its content, then those
     -- to what follows, a frame being open.
     pub any-frame : (raw rest : List ℕ) → drop start (wire input) ≡ before ++ (flag ++ (raw ++ (flag ++ rest))) → absent sixOnes raw
         → spoken (receives n rx input start output .answers)
         ≡ heard (view rx) (before ++ flag) ++ (spoken (atFlag (destuff raw) ∷ []) ++ heard opened rest)
     any-frame raw rest e h =
-        answers-along ∙ ap (heard (view rx)) e ∙ through-flag (view rx) before (raw ++ (flag ++ rest))
-        ∙ ap (λ (l : List Answer). heard (view rx) (before ++ flag) ++ l) (heard-frame (cable-bits raw (flag ++ rest) e) rest h)
+        after-flag (raw ++ (flag ++ rest)) rest (atFlag (destuff raw)) opened (length raw + 8) e
+        (frame-read (cable-bits raw (flag ++ rest) e) rest h) (past raw flag rest 8 refl)
 
     -- TWO FLAGS THAT SHARE A ZERO: nothing between the answers to what came before and to what follows.
     pub any-shared : (rest : List ℕ) → drop start (wire input) ≡ before ++ (flag ++ (drop 1 flag ++ rest))
         → spoken (receives n rx input start output .answers) ≡ heard (view rx) (before ++ flag) ++ heard opened rest
-    any-shared rest e =
-        answers-along ∙ ap (heard (view rx)) e ∙ through-flag (view rx) before (drop 1 flag ++ rest)
-        ∙ ap (λ (l : List Answer). heard (view rx) (before ++ flag) ++ l) (heard-shared rest)
+    unfolding spoken
+    any-shared rest e = after-flag (drop 1 flag ++ rest) rest (bare number.noFrame) opened 7 e (shared-zero rest) refl
 
     -- AN ABORT: 24 where at least 32 content bits stand before the run of ones; what follows is read hunting.
     pub any-abort : (raw rest : List ℕ) → drop start (wire input) ≡ before ++ (flag ++ (raw ++ (sevenOnes ++ rest))) → absent sixOnes raw
@@ -98,15 +80,16 @@ module _ (n : ℕ) {rx : Receiver} {input output : List ℕ} {start : ℕ} (a : 
         → spoken (receives n rx input start output .answers)
         ≡ heard (view rx) (before ++ flag) ++ (spoken (atAbort (destuff raw) ∷ []) ++ heard hunting rest)
     any-abort raw rest e h last =
-        answers-along ∙ ap (heard (view rx)) e ∙ through-flag (view rx) before (raw ++ (sevenOnes ++ rest))
-        ∙ ap (λ (l : List Answer). heard (view rx) (before ++ flag) ++ l) (heard-abort (cable-bits raw (sevenOnes ++ rest) e) rest h last)
+        after-flag (raw ++ (sevenOnes ++ rest)) rest (atAbort (destuff raw)) hunting (length raw + 7) e
+        (abort-read (cable-bits raw (sevenOnes ++ rest) e) rest h last) (past raw sevenOnes rest 7 refl)
 
     -- A BODY OF 2 TO 16 BYTES that was framed comes back.
     pub any-body : (body rest : List ℕ) → ((i : ℕ) → getD body i 0 < 256) → 2 ≤ length body → length body ≤ 16
         → drop start (wire input) ≡ before ++ (frame body ++ rest)
         → spoken (receives n rx input start output .answers)
         ≡ heard (view rx) (before ++ flag) ++ (record { number = number.hasFrame; body = body } ∷ heard opened rest)
+    unfolding spoken
     any-body body rest small least most e =
-        answers-along ∙ ap (heard (view rx)) (e ∙ ap (λ (l : List ℕ). before ++ l) (frame-cut body rest))
-        ∙ through-flag (view rx) before (stuff 0 (contentOf body) ++ (flag ++ rest))
-        ∙ ap (λ (l : List Answer). heard (view rx) (before ++ flag) ++ l) (heard-body body rest small least most)
+        after-flag (stuff 0 (contentOf body) ++ (flag ++ rest)) rest (record { number = number.hasFrame; body = body }) opened
+        (length (stuff 0 (contentOf body)) + 8) (e ∙ ap (λ (l : List ℕ). before ++ l) (frame-cut body rest)) (read-opened body small least most rest)
+        (past (stuff 0 (contentOf body)) flag rest 8 refl)

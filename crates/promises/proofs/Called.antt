@@ -5,7 +5,6 @@ use mathlib.Core.List.{List, [], _∷_, _++_}
 use Prim.Native.Nat.{ℕ, zero, suc, _+_, _*_, _-_, _≤_}
 use native.Mathlib.Omega.{arith}
 use borrow.Author.Tests.{le-leb}
-use lib.Dec.{leb}
 use lib.ListN.{length, take, drop, length-drop, drop-of-length-le}
 use lib.Seq.{drop-drop, take-at}
 use Rattle.numbers.specs.Numbers as number
@@ -13,7 +12,6 @@ use Rattle.parts.specs.Parts.{put}
 use Rattle.parts.proofs.Laws.{put-none, length-put}
 use Rattle.wire.specs.Bits.{wire}
 use Rattle.receiver.specs.declared.Receiver.{Receiver}
-use Rattle.receiver.specs.declared.Received.{Received}
 use Rattle.receiver.specs.Receiver.{State, view, inRange}
 use Rattle.receiver.specs.Receive.{Answer, Reading, reading, readFrom, received, outputAfter}
 use Rattle.wire.proofs.Bits.{AreBits, bits-wire, bits-drop, length-wire}
@@ -27,11 +25,8 @@ use Rattle.promises.proofs.States.{Held, held-reading, view-held, view-
 pub accepted : {rx : Receiver} {input output : List ℕ} {start : ℕ} → Accepted rx input start output
     → Gives rx input start output (readFrom rx input start)
 unfolding received outputAfter
-accepted {rx} {input} {output} {start} a =
-    let i : leb (length input) 65536 ≡ true = le-leb (length input) 65536 (a .short) in
-    let s : leb start (8 * length input) ≡ true = le-leb start (8 * length input) (a .inside) in
-    let o : leb 16 (length output) ≡ true = le-leb 16 (length output) (a .room) in
-    record { result = rw (a .range, i, s, o) refl; bytes = rw (a .range, i, s, o) refl }
+accepted a =
+    record { result = simp (a .range, le-leb, a .short, a .inside, a .room); bytes = simp (a .range, le-leb, a .short, a .inside, a .room) }
 
 -- the same, where the state and what it reads are known
 pub reads : {rx : Receiver} {input output : List ℕ} {start : ℕ} → Accepted rx input start output → (s : State) (bits : List ℕ) (r : Reading)
@@ -72,12 +67,12 @@ module _ {rx : Receiver} {input output : List ℕ} {start : ℕ} (a : Accepted r
       }
 
   -- and it reads the bits that follow, from the state left.
+  bits-left : drop (start + received rx input start output .consumed) (wire input) ≡ drop (readFrom rx input start .consumed) (drop start (wire input))
+  bits-left = rw (accepted a .result) (sym (drop-drop (readFrom rx input start .consumed) start (wire input)))
+
   pub next-call : readFrom (received rx input start output .rx) input (start + received rx input start output .consumed)
       ≡ reading (readFrom rx input start .state) (drop (readFrom rx input start .consumed) (drop start (wire input)))
-  next-call =
-      let k : received rx input start output .consumed ≡ readFrom rx input start .consumed = ap (λ (r : Received). r .consumed) (accepted a .result) in
-      ap₂ reading returned-view
-      (ap (λ (n : ℕ). drop (start + n) (wire input)) k ∙ sym (drop-drop (readFrom rx input start .consumed) start (wire input)))
+  next-call = ap₂ reading returned-view bits-left
 
   -- the answer told is the reading's
   pub told-answer : told (received rx input start output) (outputAfter rx input start output) ≡ readFrom rx input start .answer
@@ -124,16 +119,13 @@ went (suc n) {rx} {input} {output} {start} a =
     let room : 16 ≤ length (outputAfter rx input start output) = rw (output-length a) (a .room) in
     let m : Went n (received rx input start output .rx) input (start + received rx input start output .consumed) (outputAfter rx input start output) =
     went n (accepted-again a (outputAfter rx input start output) room) in
-    let k : received rx input start output .consumed ≡ readFrom rx input start .consumed = ap (λ (r : Received). r .consumed) (accepted a .result) in
-    let bits : drop (start + received rx input start output .consumed) (wire input) ≡ drop (readFrom rx input start .consumed) (drop start (wire input)) =
-    ap (λ (i : ℕ). drop (start + i) (wire input)) k ∙ sym (drop-drop (readFrom rx input start .consumed) start (wire input)) in
     record {
       accepts = m .accepts;
-      state = m .state ∙ ap₂ (λ (s : State) (l : List ℕ). calls n s l .state) (returned-view a) bits;
+      state = m .state ∙ ap₂ (λ (s : State) (l : List ℕ). calls n s l .state) (returned-view a) (bits-left a);
       answers =
           ap₂ (λ (x : Answer) (l : List Answer). x ∷ l) (told-answer a)
-          (m .answers ∙ ap₂ (λ (s : State) (l : List ℕ). calls n s l .answers) (returned-view a) bits);
-      rest = m .rest ∙ ap₂ (λ (s : State) (l : List ℕ). calls n s l .rest) (returned-view a) bits;
+          (m .answers ∙ ap₂ (λ (s : State) (l : List ℕ). calls n s l .answers) (returned-view a) (bits-left a));
+      rest = m .rest ∙ ap₂ (λ (s : State) (l : List ℕ). calls n s l .rest) (returned-view a) (bits-left a);
     }
 
 -- as many calls as there are bits come to the end of the buffer

@@ -1,19 +1,21 @@
 -- Reading after reading: what each takes of the bits, and the state that it leaves, whatever it answered.
 use mathlib.Core.Path.{_≡_, refl, sym, ap, ap₂, _∙_}
-use mathlib.Core.Bool.{true, false}
+use mathlib.Core.Bool.{true, cond}
 use mathlib.Core.List.{List, [], _∷_, _++_, foldl, foldl-append, append-assoc}
 use Prim.Native.Nat.{ℕ, zero, suc, _+_, _-_, _≤_, _<_}
 use native.Mathlib.Nat.{add-zero, zero-add}
 use native.Mathlib.Omega.{arith}
-use borrow.Author.Tests.{ne-eqb, eqb-true, eqb-false, ltb-false}
-use lib.Dec.{eqb, ltb, lit<, lit≤}
+use borrow.Author.Tests.{eqb-true, ltb-false}
+use native.Mathlib.Numerals.{add-one}
+use lib.Dec.{eqb, ltb, eqb·suc-zero, eqb·suc-suc, lit<, lit≤}
 use lib.ListN.{length, take, drop, replicate, length-drop, length-append}
 use lib.Seq.{drop-nil, drop-drop, take-add, take-all, take-append-add}
 use Rattle.wire.specs.Frame.{flag}
-use Rattle.receiver.specs.Receiver.{State, Stop, opened, next, decides, runs}
-use Rattle.receiver.specs.Receive.{Answer, concluded, reading}
+use Rattle.receiver.specs.Receiver.{State, Stop, hunting, opened, next, decides, runs}
+use Rattle.receiver.specs.Receive.{Answer, Reading, concluded, reading}
 use Rattle.receiver.proofs.Machine.{runs-go, runs-stop, runs-end}
 use Rattle.promises.specs.Wire.{after}
+use Rattle.promises.specs.Calls.{verdict}
 use Rattle.bits.proofs.Tests.{and-left}
 use Rattle.promises.proofs.Steps.{split}
 use Rattle.promises.proofs.Readings.{read-split}
@@ -35,13 +37,16 @@ calls (suc n) s bits = onwards (reading s bits .answer) (calls n (reading s bits
 
 -- ---- what a reading takes
 
--- a bit that decides leaves what the step leaves
+-- a bit that decides gives its verdict,
+pub concluded-at : (s : State) (b n : ℕ) → concluded (record { state = s; used = n; hit = b + 1 })
+    ≡ record { answer = verdict s b; state = cond (eqb b 0) opened hunting; consumed = n }
+concluded-at s b n = rw (add-one b, eqb·suc-zero b, eqb·suc-suc b 0) (split (eqb b 0) (λ e. rw e refl) (λ e. rw e refl))
+
+-- and leaves what the step leaves
 pub decided : (s : State) (b n : ℕ) → decides s b ≡ true → concluded (record { state = s; used = n; hit = b + 1 }) .state ≡ next s b
 decided s b n d =
     let six : s .ones ≡ 6 = eqb-true (s .ones) 6 (and-left (eqb (s .ones) 6) _ d) in
-    let z : eqb (b + 1) 0 ≡ false = ne-eqb (b + 1) 0 (λ h. omega arith) in
-    split (eqb b 0) (λ e. let o : eqb (b + 1) 1 ≡ true = rw (eqb-true b 0 e) refl in rw (z, o, e, six) refl)
-    (λ e. let o : eqb (b + 1) 1 ≡ false = ne-eqb (b + 1) 1 (λ h. eqb-false b 0 e (omega arith)) in rw (z, o, e, six) refl)
+    ap (λ (r : Reading). r .state) (concluded-at s b n) ∙ rw six refl
 
 -- what a reading took
 pub record Took (s : State) (n : ℕ) (bits : List ℕ) : Type 0 where
@@ -54,32 +59,6 @@ pub record Took (s : State) (n : ℕ) (bits : List ℕ) : Type 0 where
 pub concluded-consumed : (p : Stop) → concluded p .consumed ≡ p .used
 concluded-consumed p = split (eqb (p .hit) 0) (λ e. rw e refl) (λ e. split (eqb (p .hit) 1) (λ f. rw (e, f) refl) (λ f. rw (e, f) refl))
 
-module _ (s : State) (n b : ℕ) (bits : List ℕ) where
-  took-last : decides s b ≡ true → Took s n (b ∷ bits)
-  took-last d =
-      let stop : Stop = record { state = s; used = n + 1; hit = b + 1 } in
-      let e : runs s n (b ∷ bits) ≡ stop = runs-stop s n b bits d in
-      record {
-        count = 1;
-        used = ap (λ (p : Stop). concluded p .consumed) e ∙ concluded-consumed stop;
-        most = omega arith;
-        least = λ h. lit< tt;
-        state = ap (λ (p : Stop). concluded p .state) e ∙ decided s b (n + 1) d;
-      }
-
-  took-more : decides s b ≡ false → Took (next s b) (n + 1) bits → Took s n (b ∷ bits)
-  took-more d m =
-      let e : runs s n (b ∷ bits) ≡ runs (next s b) (n + 1) bits = runs-go s n b bits d in
-      let f : n + 1 + m .count ≡ n + suc (m .count) = omega arith in
-      let l : m .count ≤ length bits = m .most in
-      record {
-        count = suc (m .count);
-        used = ap (λ (p : Stop). concluded p .consumed) e ∙ m .used ∙ f;
-        most = omega arith;
-        least = λ h. omega arith;
-        state = ap (λ (p : Stop). concluded p .state) e ∙ m .state;
-      }
-
 pub took : (s : State) (n : ℕ) (bits : List ℕ) → Took s n bits
 took s n [] =
     let e : runs s n [] ≡ record { state = s; used = n; hit = 0 } = runs-end s n in
@@ -91,7 +70,27 @@ took s n [] =
       state = ap (λ (p : Stop). concluded p .state) e;
     }
 took s n (b ∷ bits) =
-    split (decides s b) (λ d. took-last s n b bits d) (λ d. took-more s n b bits d (took (next s b) (n + 1) bits))
+    split (decides s b)
+    (λ d.
+    let stop : Stop = record { state = s; used = n + 1; hit = b + 1 } in
+    let e : runs s n (b ∷ bits) ≡ stop = runs-stop s n b bits d in
+    record {
+      count = 1;
+      used = ap (λ (p : Stop). concluded p .consumed) e ∙ concluded-consumed stop;
+      most = omega arith;
+      least = λ h. lit< tt;
+      state = ap (λ (p : Stop). concluded p .state) e ∙ decided s b (n + 1) d;
+    })
+    (λ d.
+    let m : Took (next s b) (n + 1) bits = took (next s b) (n + 1) bits in
+    let e : runs s n (b ∷ bits) ≡ runs (next s b) (n + 1) bits = runs-go s n b bits d in
+    record {
+      count = suc (m .count);
+      used = ap (λ (p : Stop). concluded p .consumed) e ∙ omega (arith, m .used);
+      most = omega (arith, m .most);
+      least = λ h. omega arith;
+      state = ap (λ (p : Stop). concluded p .state) e ∙ m .state;
+    })
 
 -- ONE CALL consumes at most the bits given, and at least one of them if there is one; the receiver it leaves is the one after the
 -- bits that it consumed, whatever it answered.
@@ -177,9 +176,8 @@ pub flag-opens : (n : ℕ) (s : State) (bits rest : List ℕ) → calls n s (bit
     → calls n s (bits ++ (flag ++ rest)) .state ≡ opened
 flag-opens n s bits rest e =
     let m : Consumed n s (bits ++ (flag ++ rest)) = calls-consumed n s (bits ++ (flag ++ rest)) in
-    let most : m .count ≤ length bits + (8 + length rest) = rw (length-append bits (flag ++ rest), length-append flag rest) at (m .most) in
+    let l : length (bits ++ (flag ++ rest)) ≡ length bits + (8 + length rest) = simp length-append in
     let left : length (bits ++ (flag ++ rest)) - m .count ≡ length rest = sym (length-drop (m .count) (bits ++ (flag ++ rest))) ∙ ap length (sym (m .rest) ∙ e) in
-    let left′ : length bits + (8 + length rest) - m .count ≡ length rest = rw (length-append bits (flag ++ rest), length-append flag rest) at left in
     let c : m .count ≡ length bits + 8 = omega arith in
     m .state ∙ ap (λ (k : ℕ). foldl next s (take k (bits ++ (flag ++ rest)))) c ∙ ap (foldl next s) (through bits rest) ∙ flag-last s bits
 

@@ -74,17 +74,7 @@ pub record InOrder (a : Adapter) (port : ℕ) (body : List ℕ) : Type 0 where
 in-order : (a : Adapter) (port : ℕ) (body : List ℕ) → InOrder a port body → reaction a (frame port body) ≡ requested (counted a) (informationOf body)
 unfolding reaction onFrame addressed carried numbered
 in-order a port body i =
-    simp (
-      eq-eqb _ _ (i .addressed),
-      i .no-connect,
-      i .no-reset,
-      i .no-test,
-      i .even,
-      i .not-looped,
-      eq-eqb _ _ (i .active),
-      eq-eqb _ _ (i .eight),
-      eq-eqb _ _ (i .number),
-    )
+    simp (i .addressed, i .no-connect, i .no-reset, i .no-test, i .even, i .not-looped, eq-eqb _ _ (i .active), i .eight, eq-eqb _ _ (i .number))
 
 -- THE FIRST ERROR: in whatever state, every request is answered with the ERR that `firstError` says, no register changed, and with no error
 -- where it is 0. `counted` is check 8's "the receive number goes up by one".

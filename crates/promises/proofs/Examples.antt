@@ -32,7 +32,7 @@ use Rattle.promises.specs.Runs.{Call, event, back, empty, AllOfTheirType
 use Rattle.promises.specs.Ours.{ours}
 use Rattle.promises.specs.Text.{text}
 use Rattle.promises.specs.Table.{listing, listingOutput, inputText, outputText, request, Give, everything, everythingOutput, Table}
-use Rattle.bits.proofs.Tests.{and-left, and-right}
+use Rattle.bits.proofs.Tests.{both, and-left, and-right}
 use Rattle.promises.proofs.Runs.{demand3}
 use Rattle.promises.proofs.Formats.{slots-64, any-17408}
 use Rattle.promises.proofs.Lines.{textLines, lines-told}
@@ -61,11 +61,9 @@ literal (empty ∷ ks) = literal ks
 typed : (ks : List Call) → literal ks ≡ true → AllOfTheirTypes ks
 unfolding literal
 typed [] h = tt
-typed (event (frame port body) o ∷ ks) h = (bytes body (and-left (below body) (literal ks) h), typed ks (and-right (below body) (literal ks) h))
-typed (event (completion (spi received)) o ∷ ks) h =
-    (bytes received (and-left (below received) (literal ks) h), typed ks (and-right (below received) (literal ks) h))
-typed (event (sample levels kind) o ∷ ks) h =
-    (ltb-true levels (2 ^ 32) (and-left (ltb levels (2 ^ 32)) (literal ks) h), typed ks (and-right (ltb levels (2 ^ 32)) (literal ks) h))
+typed (event (frame port body) o ∷ ks) h = let b = both (below body) (literal ks) h in (bytes body (b .0), typed ks (b .1))
+typed (event (completion (spi received)) o ∷ ks) h = let b = both (below received) (literal ks) h in (bytes received (b .0), typed ks (b .1))
+typed (event (sample levels kind) o ∷ ks) h = let b = both (ltb levels (2 ^ 32)) (literal ks) h in (ltb-true levels (2 ^ 32) (b .0), typed ks (b .1))
 typed (event upset o ∷ ks) h = (tt, typed ks h)
 typed (back ∷ ks) h = (tt, typed ks h)
 typed (empty ∷ ks) h = (tt, typed ks h)

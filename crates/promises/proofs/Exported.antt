@@ -1,17 +1,15 @@
 -- Demand 3 of the exports: packing loses nothing, so an export gives what the call of crate `adapter` gives. Assumes nothing.
 use Prim.Native.Nat.{ℕ, _+_, _*_, _/_, _%_, _≤_, _<_}
 use mathlib.Core.Path.{_≡_, refl, sym, ap, _∙_}
-use mathlib.Core.Bool.{Bool, true, false, not}
+use mathlib.Core.Bool.{true, false}
 use mathlib.Core.List.{List, []}
 use mathlib.Core.Logic.{_⊎_, inl, inr}
 use native.Mathlib.Omega.{arith}
 use lib.ListN.{length}
-use lib.Dec.{eqb, ltb, lit<}
+use lib.Dec.{lit<}
 use borrow.Author.Tests.{ltb-false}
-use Rattle.numbers.specs.Numbers as number
-use Rattle.bits.proofs.Tests.{either}
 use Rattle.state.specs.State.{Adapter}
-use Rattle.state.specs.Bytes.{stateSize, stateIn, isState}
+use Rattle.state.specs.Bytes.{stateIn}
 use Rattle.state.proofs.Good.{ranges}
 use Rattle.state.proofs.Spelling.{its-range}
 use Rattle.chip.specs.Answer.{Reaction, frontLength}
@@ -20,22 +18,21 @@ use Rattle.chip.specs.Request.{replies}
 use Rattle.chip.specs.Chip.{reaction}
 use Rattle.chip.proofs.Laws.{number-given}
 use Rattle.chip.proofs.Steps.{Shape, dropped, acknowledged, echoed, rejected, replied, quiet, moved-port, shapes}
-use Rattle.journal.specs.Layout.{slotsOf, wrongLength, wellFormed, keptOf, past}
-use Rattle.journal.specs.Record.{sound}
+use Rattle.journal.specs.Layout.{slotsOf, wellFormed, keptOf}
 use Rattle.journal.proofs.Formats.{slots-small}
 use Rattle.journal.proofs.Ring.{of-well}
 use Rattle.adapter.specs.declared.Answer.{Answer}
 use Rattle.adapter.specs.declared.KeptNumber.{KeptNumber}
-use Rattle.adapter.specs.declared.Verdict.{Verdict}
-use Rattle.adapter.specs.declared.Verdict.the-variants.{Refused, Passed}
-use Rattle.adapter.specs.Refusals.{wrongArgument, wrongBody, inOrder, verdict, backVerdict}
-use Rattle.adapter.specs.Calls.{Made, created, madeEmpty, keptIn, called, done, judgedBack, steppedBack}
-use Rattle.adapter.proofs.Laws.{called-refused, called-done}
+use Rattle.adapter.specs.declared.Verdict.the-variants.{Passed}
+use Rattle.adapter.specs.Refusals.{wrongArgument, wrongBody, verdict}
+use Rattle.adapter.specs.Calls.{created, madeEmpty, keptIn, called, done, steppedBack}
 use Rattle.adapter.proofs.Cases.{passing, body-short}
 use Rattle.sca.specs.Adapter.{packAnswer, packKept}
-use Rattle.promises.specs.Runs.{Call, event, back, empty, Given, Run, left, bare, refuses, Demand3}
+use Rattle.promises.specs.Runs.{Call, event, back, empty, Given, Run, left, bare, isRefusal, refuses, Demand3}
 use Rattle.promises.specs.Ours.{Handed, given, givesOurs, ours, unpacked, unpackedKept, givesExported, exported}
 use Rattle.promises.proofs.Runs.{demand3}
+use Rattle.promises.proofs.Steps.{split}
+use Rattle.promises.proofs.Cases.{refusal-most, event-cases, back-cases, empty-cases, create-cases}
 
 -- ---- packing loses nothing
 
@@ -55,12 +52,7 @@ record Small (x : Answer) : Type 0 where
   port : x .port < 256
 
 unpacked-answer : (x : Answer) (output : List ℕ) → Small x → unpacked (packAnswer x) output ≡ given x output
-unpacked-answer x output s =
-    simp (
-      its-number (x .number) (x .length) (x .port) (s .number),
-      its-length (x .number) (x .length) (x .port) (s .number) (s .length) (s .port),
-      its-port (x .number) (x .length) (x .port) (s .number) (s .length) (s .port),
-    )
+unpacked-answer x output s = simp (its-number, its-length, its-port, s .number, s .length, s .port)
 
 unpacked-number : (n : ℕ) → n < 256 → unpacked n [] ≡ bare n []
 unpacked-number n h =
@@ -71,15 +63,8 @@ unpacked-number n h =
 
 -- ---- what the calls give is small
 
-abbrev SmallVerdict : Verdict → Type 0
-SmallVerdict (Refused n) = n < 256
-SmallVerdict Passed = Unit
-
-small-order : (s j o g b : Bool) → SmallVerdict (inOrder s j o g b)
-unfolding inOrder
-small-order s j o g b =
-    either SmallVerdict s _ _ (lit< tt)
-    (either SmallVerdict j _ _ (lit< tt) (either SmallVerdict o _ _ (lit< tt) (either SmallVerdict g _ _ (lit< tt) (either SmallVerdict b _ _ (lit< tt) tt))))
+pub refusal-small : (n : ℕ) → isRefusal n ≡ true → n < 256
+refusal-small n r = omega (arith, refusal-most n r)
 
 small-given : (n : ℕ) → (n ≡ 0) ⊎ ((11 ≤ n) × (n ≤ 17)) → n < 256
 small-given n (inl z) = omega arith
@@ -111,41 +96,24 @@ small-frame a e f h k = by (reaction a e) (shapes a e)
 
 called-small : (s j : List ℕ) (e : Event) (o : List ℕ) → Small (called s j e o .answer)
 unfolding done verdict
-called-small s j e o = go (verdict s j e o) refl
-  where
-    go : (v : Verdict) → verdict s j e o ≡ v → Small (called s j e o .answer)
-    go (Refused n) q =
-        let c = called-refused s j e o n q in
-        let w : SmallVerdict (verdict s j e o) = small-order _ _ _ _ _ in
-        record { number = rw c (rw q at w); length = rw c (lit< tt); port = rw c (lit< tt) }
-    go Passed q =
-        let c = called-done s j e o q in
-        let p = passing s j e o Passed (sym q) refl in
-        let l = small-frame (stateIn s) e (ranges (stateIn s) (its-range s (p .state)) .2) (p .argument) (p .body) in
-        record { number = rw c (small-given _ (number-given (stateIn s) e)); length = rw c (l .length); port = rw c (l .port) }
+called-small s j e o =
+    event-cases s j e o (λ x. Small (x .answer)) (λ n r. record { number = refusal-small n r; length = lit< tt; port = lit< tt })
+    (λ q.
+    let p = passing s j e o Passed (sym q) refl in
+    let l = small-frame (stateIn s) e (ranges (stateIn s) (its-range s (p .state)) .2) (p .argument) (p .body) in
+    record { number = small-given _ (number-given (stateIn s) e); length = l .length; port = l .port })
 
 pub called-number : (s j : List ℕ) (e : Event) (o : List ℕ) → called s j e o .answer .number < 256
 called-number s j e o = called-small s j e o .number
 
 pub back-number : (s j : List ℕ) → steppedBack s j .number < 256
-unfolding steppedBack backVerdict
-back-number s j =
-    either Small₁ (not (isState s)) _ _ (lit< tt)
-    (either Small₁ (not (wellFormed j)) _ _ (lit< tt)
-    (either Small₁ (eqb (keptOf j) 0) _ _ (lit< tt) (either Small₁ (not (sound s (past j 0))) _ _ (lit< tt) (lit< tt))))
-  where
-    Small₁ : Verdict → Type 0
-    Small₁ v = judgedBack v s j .number < 256
+back-number s j = back-cases s j (λ x. x .number < 256) refusal-small (λ _. lit< tt)
 
 pub empty-number : (j : List ℕ) → madeEmpty j .number < 256
-unfolding madeEmpty
-empty-number j = either (λ (m : Made). m .number < 256) (wrongLength j) _ _ (lit< tt) (lit< tt)
+empty-number j = empty-cases j (λ m. m .number < 256) refusal-small (lit< tt)
 
 pub create-number : (s : List ℕ) (id : ℕ) → created s id .number < 256
-unfolding created
-create-number s id =
-    either (λ (m : Made). m .number < 256) (not (eqb (length s) stateSize)) _ _ (lit< tt)
-    (either (λ (m : Made). m .number < 256) (ltb 0xFFFFFF id) _ _ (lit< tt) (lit< tt))
+create-number s id = create-cases s id (λ m. m .number < 256) refusal-small (λ _. lit< tt)
 
 kept-again : (k n : ℕ) → k ≤ n → n < 256 → ((17 + 256 * k) % 256 ≡ 17) × ((17 + 256 * k) / 256 % 256 ≡ k)
 kept-again k n h l = (omega arith, omega arith)
@@ -160,12 +128,8 @@ gives-same p empty = unpacked-number (madeEmpty (p .journal) .number) (empty-num
 
 pub kept-same : (j : List ℕ) → unpackedKept (packKept (keptIn j)) ≡ keptIn j
 unfolding keptIn
-kept-same j = go (wellFormed j) refl
-  where
-    go : (b : Bool) → wellFormed j ≡ b → unpackedKept (packKept (keptIn j)) ≡ keptIn j
-    go true h =
-        let k = kept-again (keptOf j) (slotsOf j) (of-well j h .few) (slots-small j) in simp (h, k .0, k .1)
-    go false h = simp h
+kept-same j =
+    split (wellFormed j) (λ h. let k = kept-again (keptOf j) (slotsOf j) (of-well j h .few) (slots-small j) in simp (h, k .0, k .1)) (λ h. simp h)
 
 -- DEMAND 3 HOLDS of the exports.
 pub demand3-exported : Demand3 exported

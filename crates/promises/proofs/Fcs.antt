@@ -6,8 +6,8 @@ use mathlib.Core.Logic.{_↔_}
 use mathlib.Core.List.{List, _++_}
 use Prim.Native.Nat.{ℕ, _+_, _-_, _/_, _%_, _≤_}
 use native.Mathlib.Omega.{arith}
-use borrow.Author.Tests.{eq-eqb, ne-eqb, le-ltb, eqb-true, ltb-false}
-use lib.Dec.{eqb, ltb}
+use borrow.Author.Tests.{eq-eqb, ne-eqb, le-ltb}
+use lib.Dec.{eqb}
 use lib.ListN.{length, take, drop, length-take}
 use Rattle.numbers.specs.Numbers as number
 use Rattle.wire.specs.Bits.{wire}
@@ -20,7 +20,7 @@ use Rattle.wire.proofs.Bits.{AreBits, AreBytes, bits-take, bytes-pack, length-p
 use Rattle.wire.proofs.Residue.{residue-content, content-last, last-residue}
 use Rattle.promises.specs.Wire.{absent, sixOnes, destuff, bytesBefore, FcsRight}
 use Rattle.promises.specs.Calls.{Accepted, told}
-use Rattle.promises.proofs.Steps.{split, at-flag-answers}
+use Rattle.promises.proofs.Steps.{at-flag-cases, at-flag-answers}
 use Rattle.promises.proofs.Stuffing.{bits-unstuff}
 use Rattle.promises.proofs.Readings.{frame-read}
 use Rattle.promises.proofs.Called.{front-bits, told-answer}
@@ -68,20 +68,12 @@ module _ {c : List ℕ} (bits : AreBits c) (least : 32 ≤ length c) (most : len
 
 -- WHAT COMES BACK STOOD THERE: content that a flag answers with a body is that body and its FCS.
 pub sent-content : {c : List ℕ} → AreBits c → atFlag c .number ≡ number.hasFrame → c ≡ contentOf (atFlag c .body)
-unfolding atFlag
-sent-content {c = c} bits h =
-    split (ltb (length c) 32) (λ e. let z : number.noFrame ≡ number.hasFrame = rw e at h in absurd (omega arith))
-    (λ e. split (ltb 144 (length c)) (λ f. let z : number.longContent ≡ number.hasFrame = rw (e, f) at h in absurd (omega arith))
-    (λ f. split (eqb (length c % 8) 0)
-    (λ g. split (eqb (register preset c) residue)
-    (λ r.
-    let least : 32 ≤ length c = ltb-false (length c) 32 e in
-    let most : length c ≤ 144 = ltb-false 144 (length c) f in
-    let whole : length c % 8 ≡ 0 = eqb-true (length c % 8) 0 g in
-    let same : c ≡ contentOf (bytesBefore c) = residue-content bits (omega arith) whole (eqb-true (register preset c) residue r) in
+sent-content {c = c} bits =
+    at-flag-cases (λ a. a .number ≡ number.hasFrame → c ≡ contentOf (atFlag c .body)) c (λ _ h. absurd (omega arith)) (λ _ h. absurd (omega arith))
+    (λ least most whole r h.
+    let same : c ≡ contentOf (bytesBefore c) = residue-content bits (omega arith) whole r in
     same ∙ ap contentOf (sym (ap (λ (x : Answer). x .body) (right-fcs bits least most whole (content-last bits (omega arith) whole same)))))
-    (λ r. let z : number.wrongFcs ≡ number.hasFrame = rw (e, f, g, r) at h in absurd (omega arith)))
-    (λ g. let z : number.brokenContent ≡ number.hasFrame = rw (e, f, g) at h in absurd (omega arith))))
+    (λ h. absurd (omega arith)) (λ h. absurd (omega arith))
 
 -- ---- the call
 

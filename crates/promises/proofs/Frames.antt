@@ -1,8 +1,8 @@
 -- FRAMES ONE AFTER THE OTHER come back one after the other. The ones that fill a frame's last byte read as short content or as an abort
 -- without an answer: nothing is answered between two frames, nor after the last.
 use mathlib.Core.Path.{_≡_, refl, sym, ap, ap₂, _∙_}
-use mathlib.Core.List.{List, [], _∷_, _++_, append-assoc, append-nil, flatMap}
-use Prim.Native.Nat.{ℕ, zero, suc, _+_, _*_, _-_, _≤_}
+use mathlib.Core.List.{List, [], _∷_, _++_, append-nil, flatMap}
+use Prim.Native.Nat.{ℕ, suc, _+_, _*_, _≤_}
 use native.Mathlib.Omega.{arith}
 use lib.ListN.{length, drop, replicate, length-replicate}
 use lib.Seq.{drop-at, drop-append-add}
@@ -13,58 +13,36 @@ use Rattle.transmitter.specs.Frame.{frame, framed}
 use Rattle.receiver.specs.declared.Receiver.{Receiver}
 use Rattle.receiver.specs.declared.Received.{Received}
 use Rattle.receiver.specs.Receiver.{State, hunting, opened, runs, view, image}
-use Rattle.receiver.specs.Receive.{Answer, bare, Reading, reading, received}
-use Rattle.wire.proofs.Bits.{wire-append}
-use Rattle.promises.specs.Wire.{found, Body, Bodies, filling, cable, broughtBack}
+use Rattle.receiver.specs.Receive.{Answer, bare, Reading, concluded, reading, received}
+use Rattle.promises.specs.Wire.{after, found, Body, Bodies, filling, cable, broughtBack}
 use Rattle.promises.specs.Calls.{Accepted, Gives, receives, spoken, heard}
-use Rattle.promises.proofs.Steps.{goes-on}
+use Rattle.promises.proofs.Steps.{each-below, goes-on}
 use Rattle.promises.proofs.Calls.{calls}
 use Rattle.promises.proofs.Answers.{heard-after}
 use Rattle.promises.proofs.Called.{accepted, reads, accepted-again, went}
-use Rattle.promises.proofs.RoundTrip.{wire-filled, frame-bits, frame-length, read-opened, read-hunting, new-accepted, comes-back}
+use Rattle.promises.proofs.RoundTrip.{framed-bits, read-flagged, read-hunting, new-accepted, comes-back}
 use Rattle.promises.proofs.AnyReceiver.{frame-cut, any-body}
 
 -- ---- the ones that fill a byte
 
 -- before a flag
-filled-flag : (k : ℕ) (r : List ℕ) → k ≤ 7
-    → reading opened (replicate k 1 ++ (flag ++ r))
-    ≡ record { answer = reading opened r .answer; state = reading opened r .state; consumed = k + 8 + reading opened r .consumed }
+filled-flag : (k : ℕ) (r : List ℕ) → k ≤ 7 → reading opened (replicate k 1 ++ (flag ++ r)) ≡ after (bare number.noFrame) opened (k + 8) r
 unfolding reading runs
-filled-flag zero r h = goes-on opened 8 r
-filled-flag (suc zero) r h = goes-on opened 9 r
-filled-flag (suc (suc zero)) r h = goes-on opened 10 r
-filled-flag (suc (suc (suc zero))) r h = goes-on opened 11 r
-filled-flag (suc (suc (suc (suc zero)))) r h = goes-on opened 12 r
-filled-flag (suc (suc (suc (suc (suc zero))))) r h = goes-on opened 13 r
-filled-flag (suc (suc (suc (suc (suc (suc zero)))))) r h = goes-on opened 14 r
-filled-flag (suc (suc (suc (suc (suc (suc (suc zero))))))) r h = goes-on opened 15 r
-filled-flag (suc (suc (suc (suc (suc (suc (suc (suc k)))))))) r h = absurd (omega arith)
+filled-flag k r h =
+    let on : (n : ℕ) → concluded (runs opened n r) ≡ after (bare number.noFrame) opened n r = λ n. goes-on opened n r in
+    each-below 8 (λ k. reading opened (replicate k 1 ++ (flag ++ r)) ≡ after (bare number.noFrame) opened (k + 8) r)
+    (on 8, (on 9, (on 10, (on 11, (on 12, (on 13, (on 14, (on 15, tt)))))))) k (omega arith)
 
 -- at the end
 filled-end : (k : ℕ) → k ≤ 7 → reading opened (replicate k 1) .answer ≡ bare number.noFrame
 unfolding reading runs
-filled-end zero h = refl
-filled-end (suc zero) h = refl
-filled-end (suc (suc zero)) h = refl
-filled-end (suc (suc (suc zero))) h = refl
-filled-end (suc (suc (suc (suc zero)))) h = refl
-filled-end (suc (suc (suc (suc (suc zero))))) h = refl
-filled-end (suc (suc (suc (suc (suc (suc zero)))))) h = refl
-filled-end (suc (suc (suc (suc (suc (suc (suc zero))))))) h = refl
-filled-end (suc (suc (suc (suc (suc (suc (suc (suc k)))))))) h = absurd (omega arith)
+filled-end k h =
+    each-below 8 (λ k. reading opened (replicate k 1) .answer ≡ bare number.noFrame)
+    (refl, (refl, (refl, (refl, (refl, (refl, (refl, (refl, tt)))))))) k (omega arith)
 
 heard-end : (k : ℕ) → k ≤ 7 → heard opened (replicate k 1) ≡ []
 unfolding heard
-heard-end zero h = refl
-heard-end (suc zero) h = refl
-heard-end (suc (suc zero)) h = refl
-heard-end (suc (suc (suc zero))) h = refl
-heard-end (suc (suc (suc (suc zero)))) h = refl
-heard-end (suc (suc (suc (suc (suc zero))))) h = refl
-heard-end (suc (suc (suc (suc (suc (suc zero)))))) h = refl
-heard-end (suc (suc (suc (suc (suc (suc (suc zero))))))) h = refl
-heard-end (suc (suc (suc (suc (suc (suc (suc (suc k)))))))) h = absurd (omega arith)
+heard-end k h = each-below 8 (λ k. heard opened (replicate k 1) ≡ []) (refl, (refl, (refl, (refl, (refl, (refl, (refl, (refl, tt)))))))) k (omega arith)
 
 -- ---- a frame, and the ones that fill its last byte
 
@@ -74,26 +52,21 @@ filling-most body = omega arith
 module _ (body : List ℕ) (b : Body body) where
   filled-read : (k : ℕ) (rest : List ℕ) → k ≤ 7 → reading opened (replicate k 1 ++ (frame body ++ rest)) ≡ found body (k + length (frame body))
   filled-read k rest h =
-      let n : k + 8 + (length (stuff 0 (contentOf body)) + 8) ≡ k + length (frame body) =
-      omega (arith, frame-length body (b .small) (b .least) (b .most)) in
-      ap (λ (l : List ℕ). reading opened (replicate k 1 ++ l)) (frame-cut body rest)
-      ∙ filled-flag k (stuff 0 (contentOf body) ++ (flag ++ rest)) h
-      ∙ ap (λ (r : Reading). record { answer = r .answer; state = r .state; consumed = k + 8 + r .consumed })
-      (read-opened body (b .small) (b .least) (b .most) rest)
-      ∙ ap (found body) n
+      read-flagged body (b .small) (b .least) (b .most) opened (replicate k 1 ++ (frame body ++ rest)) rest k
+      (ap (λ (l : List ℕ). reading opened (replicate k 1 ++ l)) (frame-cut body rest) ∙ filled-flag k (stuff 0 (contentOf body) ++ (flag ++ rest)) h)
 
-  framed-bits : (following : List ℕ) → wire (framed body ++ following) ≡ frame body ++ (replicate (filling body) 1 ++ wire following)
-  unfolding framed
-  framed-bits following =
-      wire-append (framed body) following
-      ∙ ap (λ (l : List ℕ). l ++ wire following) (wire-filled (frame body) (frame-bits body (b .small) (b .least) (b .most)))
-      ∙ append-assoc (frame body) (replicate (filling body) 1) (wire following)
+  -- at the front of a cable, after k ones that fill a byte
+  cable-read : (k : ℕ) (following : List ℕ) → k ≤ 7 → reading opened (replicate k 1 ++ wire (framed body ++ following)) ≡ found body (k + length (frame body))
+  cable-read k following h =
+      ap (λ (l : List ℕ). reading opened (replicate k 1 ++ l)) (framed-bits body (b .small) (b .least) (b .most) following)
+      ∙ filled-read k (replicate (filling body) 1 ++ wire following) h
 
-  past-frame : (k : ℕ) (rest : List ℕ) → drop (k + length (frame body)) (replicate k 1 ++ (frame body ++ rest)) ≡ rest
-  past-frame k rest =
-      ap (λ (n : ℕ). drop (n + length (frame body)) (replicate k 1 ++ (frame body ++ rest))) (sym (length-replicate k 1))
-      ∙ drop-append-add (replicate k 1) (frame body ++ rest) (length (frame body))
-      ∙ drop-at (frame body) rest (length (frame body)) refl
+  cable-past : (k : ℕ) (following : List ℕ)
+      → drop (k + length (frame body)) (replicate k 1 ++ wire (framed body ++ following)) ≡ replicate (filling body) 1 ++ wire following
+  cable-past k following =
+      ap (λ (n : ℕ). drop (n + length (frame body)) (replicate k 1 ++ wire (framed body ++ following))) (sym (length-replicate k 1))
+      ∙ drop-append-add (replicate k 1) (wire (framed body ++ following)) (length (frame body))
+      ∙ ap (drop (length (frame body))) (framed-bits body (b .small) (b .least) (b .most) following) ∙ drop-at (frame body) _ (length (frame body)) refl
 
 -- ---- over bits
 
@@ -111,24 +84,17 @@ unfolding flatMap wire calls
 calls-cable [] bs k h =
     ap (λ (l : List ℕ). calls 1 opened l .answers) (append-nil (replicate k 1)) ∙ ap (λ (a : Answer). a ∷ []) (filled-end k h)
 calls-cable (body ∷ bodies) bs k h =
-    let b : Body body = bs .0 in
-    let rest : List ℕ = replicate (filling body) 1 ++ wire (cable bodies) in
-    ap (λ (l : List ℕ). calls (suc (suc (length bodies))) opened (replicate k 1 ++ l) .answers) (framed-bits body b (cable bodies))
-    ∙ calls-found (suc (length bodies)) opened (replicate k 1 ++ (frame body ++ rest)) body rest (k + length (frame body))
-    (filled-read body b k rest h) (past-frame body b k rest)
-    ∙ ap (λ (l : List Answer). record { number = number.hasFrame; body = body } ∷ l)
-    (calls-cable bodies (bs .1) (filling body) (filling-most body))
+    calls-found (suc (length bodies)) opened (replicate k 1 ++ wire (cable (body ∷ bodies))) body _ (k + length (frame body))
+    (cable-read body (bs .0) k (cable bodies) h) (cable-past body (bs .0) k (cable bodies))
+    ∙ ap (λ (l : List Answer). record { number = number.hasFrame; body = body } ∷ l) (calls-cable bodies (bs .1) (filling body) (filling-most body))
 
 heard-cable : (bodies : List (List ℕ)) → Bodies bodies → (k : ℕ) → k ≤ 7
     → heard opened (replicate k 1 ++ wire (cable bodies)) ≡ broughtBack bodies
 unfolding flatMap wire spoken
 heard-cable [] bs k h = ap (heard opened) (append-nil (replicate k 1)) ∙ heard-end k h
 heard-cable (body ∷ bodies) bs k h =
-    let b : Body body = bs .0 in
-    let rest : List ℕ = replicate (filling body) 1 ++ wire (cable bodies) in
-    ap (λ (l : List ℕ). heard opened (replicate k 1 ++ l)) (framed-bits body b (cable bodies))
-    ∙ heard-after opened (replicate k 1 ++ (frame body ++ rest)) (record { number = number.hasFrame; body = body }) opened (k + length (frame body)) rest
-    (filled-read body b k rest h) (past-frame body b k rest)
+    heard-after opened (replicate k 1 ++ wire (cable (body ∷ bodies))) (record { number = number.hasFrame; body = body }) opened (k + length (frame body)) _
+    (cable-read body (bs .0) k (cable bodies) h) (cable-past body (bs .0) k (cable bodies))
     ∙ ap (λ (l : List Answer). record { number = number.hasFrame; body = body } ∷ l) (heard-cable bodies (bs .1) (filling body) (filling-most body))
 
 -- ---- over calls
@@ -180,9 +146,9 @@ module _ (one two following output : List ℕ) (b₁ : Body one) (b₂ : Body tw
       let rest : List ℕ = replicate (filling two) 1 ++ wire following in
       let n : 0 + length (frame one) ≡ length (frame one) = omega arith in
       let e : drop (0 + length (frame one)) (wire both) ≡ replicate (filling one) 1 ++ (frame two ++ rest) =
-      ap₂ drop n (framed-bits one b₁ (framed two ++ following))
+      ap₂ drop n (framed-bits one (b₁ .small) (b₁ .least) (b₁ .most) (framed two ++ following))
       ∙ drop-at (frame one) (replicate (filling one) 1 ++ wire (framed two ++ following)) (length (frame one)) refl
-      ∙ ap (λ (l : List ℕ). replicate (filling one) 1 ++ l) (framed-bits two b₂ following) in
+      ∙ ap (λ (l : List ℕ). replicate (filling one) 1 ++ l) (framed-bits two (b₂ .small) (b₂ .least) (b₂ .most) following) in
       rw n at
       (then-next (new-accepted both output short room) one (length (frame one)) first-of-two output′ room′ (filling one) (filling-most one)
       two rest b₂ e)
@@ -198,7 +164,7 @@ frames-come-back (body ∷ bodies) bs output short room =
     let rest : List ℕ = replicate (filling body) 1 ++ wire (cable bodies) in
     rw n
     (went (suc (suc (length bodies))) (new-accepted (framed body ++ cable bodies) output short room) .answers
-    ∙ ap (λ (l : List ℕ). calls (suc (suc (length bodies))) hunting l .answers) (framed-bits body b (cable bodies))
+    ∙ ap (λ (l : List ℕ). calls (suc (suc (length bodies))) hunting l .answers) (framed-bits body (b .small) (b .least) (b .most) (cable bodies))
     ∙ calls-found (suc (length bodies)) hunting (frame body ++ rest) body rest (length (frame body))
     (read-hunting body (b .small) (b .least) (b .most) rest) (drop-at (frame body) rest (length (frame body)) refl)
     ∙ ap (λ (l : List Answer). record { number = number.hasFrame; body = body } ∷ l)
@@ -213,6 +179,7 @@ pub any-frames : (n : ℕ) {rx : Receiver} {input output : List ℕ} {start : �
 unfolding flatMap
 any-frames n {rx} {input} {output} {start} a end before body bodies b bs e =
     let rest : List ℕ = replicate (filling body) 1 ++ wire (cable bodies) in
-    any-body n a end before body rest (b .small) (b .least) (b .most) (e ∙ ap (λ (l : List ℕ). before ++ l) (framed-bits body b (cable bodies)))
+    any-body n a end before body rest (b .small) (b .least) (b .most)
+    (e ∙ ap (λ (l : List ℕ). before ++ l) (framed-bits body (b .small) (b .least) (b .most) (cable bodies)))
     ∙ ap (λ (l : List Answer). heard (view rx) (before ++ flag) ++ (record { number = number.hasFrame; body = body } ∷ l))
     (heard-cable bodies bs (filling body) (filling-most body))

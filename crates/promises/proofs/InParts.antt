@@ -18,7 +18,7 @@ use Rattle.promises.specs.Calls.{Accepted, onFrom, receives, spoken}
 use Rattle.promises.proofs.Readings.{read-split}
 use Rattle.promises.proofs.Calls.{calls}
 use Rattle.promises.proofs.Answers.{same-answers, same-state}
-use Rattle.promises.proofs.Called.{accepted, returned-view, returned-inRange, accepted-again, Went, went, at-end}
+use Rattle.promises.proofs.Called.{accepted, returned-view, returned-inRange, accepted-again, went, at-end}
 
 -- A BUFFER READ IN TWO CALLS, cut at any bit: the bits of the one call's buffer are those of the two others' together.
 module _ {rx : Receiver} {input input₁ output : List ℕ} {start start₁ : ℕ} (input₂ : List ℕ) (start₂ : ℕ) (a : Accepted rx input start output)
@@ -73,41 +73,32 @@ module _ {rx : Receiver} {input input₁ input₂ output output₁ output₂ : L
     (end : receives n rx input start output .start ≡ 8 * length input)
     (end₁ : receives i rx input₁ start₁ output₁ .start ≡ 8 * length input₁)
     (end₂ : receives j (receives i rx input₁ start₁ output₁ .rx) input₂ start₂ output₂ .start ≡ 8 * length input₂) where
-  m : Went n rx input start output
-  m = went n a
-
-  m₁ : Went i rx input₁ start₁ output₁
-  m₁ = went i a₁
-
-  m₂ : Went j (receives i rx input₁ start₁ output₁ .rx) input₂ start₂ output₂
-  m₂ = went j a₂
-
   read-whole : calls n (view rx) (drop start₁ (wire input₁) ++ drop start₂ (wire input₂)) .rest ≡ []
   read-whole =
-      ap (λ (l : List ℕ). calls n (view rx) l .rest) (sym cut) ∙ sym (m .rest) ∙ at-end input (receives n rx input start output .start) end
+      ap (λ (l : List ℕ). calls n (view rx) l .rest) (sym cut) ∙ sym (went n a .rest) ∙ at-end input (receives n rx input start output .start) end
 
   read-first : calls i (view rx) (drop start₁ (wire input₁)) .rest ≡ []
-  read-first = sym (m₁ .rest) ∙ at-end input₁ (receives i rx input₁ start₁ output₁ .start) end₁
+  read-first = sym (went i a₁ .rest) ∙ at-end input₁ (receives i rx input₁ start₁ output₁ .start) end₁
 
   read-second : calls j (calls i (view rx) (drop start₁ (wire input₁)) .state) (drop start₂ (wire input₂)) .rest ≡ []
   read-second =
-      ap (λ (s : State). calls j s (drop start₂ (wire input₂)) .rest) (sym (m₁ .state))
-      ∙ sym (m₂ .rest)
+      ap (λ (s : State). calls j s (drop start₂ (wire input₂)) .rest) (sym (went i a₁ .state))
+      ∙ sym (went j a₂ .rest)
       ∙ at-end input₂ (receives j (receives i rx input₁ start₁ output₁ .rx) input₂ start₂ output₂ .start) end₂
 
   pub cut-answers : spoken (receives n rx input start output .answers)
       ≡ spoken (receives i rx input₁ start₁ output₁ .answers)
       ++ spoken (receives j (receives i rx input₁ start₁ output₁ .rx) input₂ start₂ output₂ .answers)
   cut-answers =
-      ap spoken (m .answers ∙ ap (λ (l : List ℕ). calls n (view rx) l .answers) cut)
+      ap spoken (went n a .answers ∙ ap (λ (l : List ℕ). calls n (view rx) l .answers) cut)
       ∙ same-answers n i j (view rx) (drop start₁ (wire input₁)) (drop start₂ (wire input₂)) read-whole read-first read-second
       ∙ sym
-      (ap₂ (λ (x y : List Answer). spoken x ++ spoken y) (m₁ .answers)
-      (m₂ .answers ∙ ap (λ (s : State). calls j s (drop start₂ (wire input₂)) .answers) (m₁ .state)))
+      (ap₂ (λ (x y : List Answer). spoken x ++ spoken y) (went i a₁ .answers)
+      (went j a₂ .answers ∙ ap (λ (s : State). calls j s (drop start₂ (wire input₂)) .answers) (went i a₁ .state)))
 
   pub cut-receiver : view (receives n rx input start output .rx)
       ≡ view (receives j (receives i rx input₁ start₁ output₁ .rx) input₂ start₂ output₂ .rx)
   cut-receiver =
-      m .state ∙ ap (λ (l : List ℕ). calls n (view rx) l .state) cut
+      went n a .state ∙ ap (λ (l : List ℕ). calls n (view rx) l .state) cut
       ∙ same-state n i j (view rx) (drop start₁ (wire input₁)) (drop start₂ (wire input₂)) read-whole read-first read-second
-      ∙ sym (m₂ .state ∙ ap (λ (s : State). calls j s (drop start₂ (wire input₂)) .state) (m₁ .state))
+      ∙ sym (went j a₂ .state ∙ ap (λ (s : State). calls j s (drop start₂ (wire input₂)) .state) (went i a₁ .state))

@@ -1,15 +1,15 @@
 -- WHAT A CALL LEAVES, by the number that it gives: the column `leaves` of document 01's table, a theorem a row. 1 to 10 leave all
 -- unchanged (`Refused`). Assumes nothing.
-use Prim.Native.Nat.{ℕ, _+_, _*_, _≤_, _<_, min}
+use Prim.Native.Nat.{ℕ, _+_, _≤_, _<_, min}
 use mathlib.Core.Path.{_≡_, refl, sym, ap, _∙_}
-use mathlib.Core.Bool.{Bool, true, false, not, cond, true≢false}
+use mathlib.Core.Bool.{true, false, false≢true, true≢false}
 use mathlib.Core.List.{List, [], _∷_, foldl}
 use native.Mathlib.Omega.{arith}
-use borrow.Author.Tests.{leb-true, lt-leb, le-ltb}
+use borrow.Author.Tests.{lt-leb, le-ltb}
 use Rattle.bits.proofs.Tests.{and-right}
 use lib.ListN.{length, take, drop, getD}
 use lib.Seq.{drop-at}
-use lib.Dec.{eqb, leb}
+use lib.Dec.{leb}
 use Rattle.numbers.specs.Numbers as number
 use Rattle.parts.specs.Parts.{put}
 use Rattle.parts.proofs.Laws.{AreBytes, put-none, length-put}
@@ -17,7 +17,7 @@ use Rattle.wire.specs.Bits.{wire}
 use Rattle.receiver.specs.declared.Receiver.{Receiver}
 use Rattle.receiver.specs.declared.Received.{Received}
 use Rattle.receiver.specs.Receiver as receiver
-use Rattle.receiver.specs.Receive.{reading, readFrom, receivedAs, received, outputAfter}
+use Rattle.receiver.specs.Receive.{reading, readFrom, received, outputAfter}
 use Rattle.state.specs.State.{Adapter, powerOn}
 use Rattle.chip.specs.Answer.{Reaction, frontLength, laid}
 use Rattle.chip.specs.Event.{Event, frame, completion, sample, upset}
@@ -28,18 +28,18 @@ use Rattle.state.proofs.Good.{ranges, power-on-good}
 use Rattle.state.proofs.Spelling.{its-range, its-good, state-again, state-bytes}
 use Rattle.chip.proofs.Laws.{good-stays, dropped-keeps, accepted-reset, OneFrame, one-frame, sendable}
 use Rattle.chip.proofs.Bodies.{one, none, Every, Framable}
-use Rattle.journal.specs.Layout.{slotsOf, wellFormed, keptOf, past, pushed}
+use Rattle.journal.specs.Layout.{slotsOf, past, pushed}
 use Rattle.journal.specs.Record.{before, sound}
 use Rattle.journal.proofs.Ring.{Well, well-of, of-well}
-use Rattle.adapter.specs.declared.Verdict.the-variants.{Refused, Passed}
-use Rattle.adapter.specs.Refusals.{inOrder, verdict, backVerdict}
-use Rattle.adapter.specs.Calls.{created, Outcome, recorded, done, judged, called, keptIn, Stepped, judgedBack, steppedBack}
+use Rattle.adapter.specs.declared.Verdict.the-variants.{Passed}
+use Rattle.adapter.specs.Refusals.{verdict}
+use Rattle.adapter.specs.Calls.{created, Outcome, recorded, done, called, keptIn, steppedBack}
 use Rattle.adapter.proofs.Cases.{Passing, passing}
 use Rattle.adapter.proofs.Laws.{called-done, unsent, recorded-well, recorded-kept}
 use Rattle.promises.specs.Runs.{event, OfItsTypes, isRefusal}
 use Rattle.promises.specs.Calls.{Accepted}
 use Rattle.promises.proofs.Runs.{fits, any-bytes}
-use Rattle.promises.proofs.Refused.{receive-unchanged, event-unchanged}
+use Rattle.promises.proofs.Cases.{event-cases, back-cases, receive-cases}
 use Rattle.promises.proofs.Steps.{split}
 use Rattle.promises.proofs.Readings.{reading-sized}
 use Rattle.promises.proofs.Calls.{call-state, call-least}
@@ -66,44 +66,19 @@ front-alone n body output l least most room =
 -- ---- the receiver
 
 module _ (rx : Receiver) (input : List ℕ) (start : ℕ) (output : List ℕ) where
-  -- a call that is done
-  record Done : Type 0 where
-    result : received rx input start output ≡ receivedAs (readFrom rx input start)
-    bytes : outputAfter rx input start output ≡ put 0 (readFrom rx input start .answer .body) output
-    room : 16 ≤ length output
-
-  is-done : isRefusal (received rx input start output .number) ≡ false → Done
-  unfolding received outputAfter
-  is-done h =
-      split (receiver.inRange rx)
-      (λ r. split (leb (length input) 65536)
-      (λ i. split (leb start (8 * length input))
-      (λ s. split (leb 16 (length output))
-      (λ o. record { result = rw (r, i, s, o) refl; bytes = rw (r, i, s, o) refl; room = leb-true 16 (length output) o })
-      (λ o. absurd (true≢false (rw (r, i, s, o) at h))))
-      (λ s. absurd (true≢false (rw (r, i, s) at h))))
-      (λ i. absurd (true≢false (rw (r, i) at h))))
-      (λ r. absurd (true≢false (rw r at h)))
-
   -- Every number but 0 leaves every output byte.
   pub receiver-other : (received rx input start output .number ≡ number.hasFrame → ⊥) → outputAfter rx input start output ≡ output
-  receiver-other h =
-      split (isRefusal (received rx input start output .number)) (λ t. receive-unchanged rx input start output t .bytes)
-      (λ t.
-      let d : Done = is-done t in
-      let none : readFrom rx input start .answer .number ≡ number.hasFrame → ⊥ = λ z. h (ap (λ (r : Received). r .number) (d .result) ∙ z) in
-      d .bytes ∙ rw (reading-sized (receiver.view rx) (drop start (wire input)) .other none) (sym (put-none 0 output)))
+  receiver-other =
+      receive-cases rx input start output (λ x o. (x .number ≡ number.hasFrame → ⊥) → o ≡ output) (λ n r h. refl)
+      (λ r i s o h. rw (reading-sized (receiver.view rx) (drop start (wire input)) .other h) (sym (put-none 0 output)))
 
   -- 0: A BODY AT THE FRONT OF THE OUTPUT, as many bytes as the call gives, 2 to 16; no other byte changes.
   pub receiver-0 : received rx input start output .number ≡ number.hasFrame
       → FrontAlone (received rx input start output .length) output (outputAfter rx input start output)
-  receiver-0 h =
-      let d : Done = is-done (rw h refl) in
-      let sent : readFrom rx input start .answer .number ≡ number.hasFrame = sym (ap (λ (r : Received). r .number) (d .result)) ∙ h in
+  receiver-0 =
       let sized = reading-sized (receiver.view rx) (drop start (wire input)) in
-      let f : FrontAlone (length (readFrom rx input start .answer .body)) output (put 0 (readFrom rx input start .answer .body) output) =
-      front-alone _ (readFrom rx input start .answer .body) output refl (sized .least sent) (sized .most) (d .room) in
-      rw (d .result, d .bytes) f
+      receive-cases rx input start output (λ x o. x .number ≡ number.hasFrame → FrontAlone (x .length) output o) (λ n r h. absurd (false≢true (rw h at r)))
+      (λ r i s o h. front-alone _ (readFrom rx input start .answer .body) output refl (sized .least h) (sized .most) o)
 
   -- 17: OUTPUT UNCHANGED.
   pub receiver-17 : received rx input start output .number ≡ number.noFrame → outputAfter rx input start output ≡ output
@@ -144,16 +119,6 @@ laid-alone : (r : Reaction) (output : List ℕ) → OneFrame r → r .number ≡
 laid-alone r output (one b port body) h f room = front-alone (length body) body output refl (f .0 .least) (f .0 .most) room
 laid-alone r output (none b n other) h f room = absurd (other h)
 
-by-verdict : (x f o g b : Bool) (s j : List ℕ) (e : Event) (output : List ℕ)
-    → isRefusal (judged (inOrder x f o g b) s j e output .answer .number) ≡ false → inOrder x f o g b ≡ Passed
-unfolding inOrder
-by-verdict true f o g b s j e output h = absurd (true≢false h)
-by-verdict false true o g b s j e output h = absurd (true≢false h)
-by-verdict false false true g b s j e output h = absurd (true≢false h)
-by-verdict false false false true b s j e output h = absurd (true≢false h)
-by-verdict false false false false true s j e output h = absurd (true≢false h)
-by-verdict false false false false false s j e output h = refl
-
 -- an accepted RESET is answered
 reset-answered : (a : Adapter) (e : Event) → acceptedReset e ≡ true → reaction a e .number ≡ number.hasFrame
 reset-answered a (frame port body) h = ap (λ (r : Reaction). r .number) (accepted-reset a port body h)
@@ -170,42 +135,37 @@ over-ten : (n : ℕ) → 11 ≤ n → isRefusal n ≡ false
 over-ten n h = split (leb 1 n) (λ t. rw (t, lt-leb n 10 h) refl) (λ t. rw t refl)
 
 module _ (s : List ℕ) (j : List ℕ) (e : Event) (output : List ℕ) where
-  -- an event that is done
-  record Happened : Type 0 where
-    passes : Passing s j e output
-    call : called s j e output ≡ done s j e output
-    answer : called s j e output .answer .number ≡ reaction (stateIn s) e .number
+  -- an event that is not refused
+  passed : isRefusal (called s j e output .answer .number) ≡ false → verdict s j e output ≡ Passed
+  passed =
+      event-cases s j e output (λ x. isRefusal (x .answer .number) ≡ false → verdict s j e output ≡ Passed) (λ n r h. absurd (true≢false (sym r ∙ h)))
+      (λ v h. v)
 
-  happened : isRefusal (called s j e output .answer .number) ≡ false → Happened
-  unfolding called verdict done
-  happened h =
-      let v : verdict s j e output ≡ Passed = by-verdict _ _ _ _ _ s j e output h in
-      let c : called s j e output ≡ done s j e output = called-done s j e output v in
-      record { passes = passing s j e output (verdict s j e output) refl v; call = c; answer = ap (λ (x : Outcome). x .answer .number) c }
+  passes : verdict s j e output ≡ Passed → Passing s j e output
+  unfolding verdict
+  passes v = passing s j e output (verdict s j e output) refl v
 
-  of-types : Happened → OfItsTypes (event e output) → EventFits e
-  of-types d types =
-      let p : Passing s j e output = d .passes in
-      fits e output types (rw (le-ltb (length output) 16 (p .room), p .argument, p .body) refl)
+  of-types : Passing s j e output → OfItsTypes (event e output) → EventFits e
+  of-types p types = fits e output types (rw (le-ltb (length output) 16 (p .room), p .argument, p .body) refl)
 
   -- Every number but 0 leaves every output byte.
   pub event-other : (called s j e output .answer .number ≡ number.hasFrame → ⊥) → called s j e output .output ≡ output
   unfolding done
-  event-other h =
-      split (isRefusal (called s j e output .answer .number))
-      (λ t. ap (λ (x : Outcome). x .output) (event-unchanged s j e output t))
-      (λ t.
-      let d : Happened = happened t in
-      ap (λ (x : Outcome). x .output) (d .call) ∙ unsent (stateIn s) e output (λ z. h (d .answer ∙ z)))
+  event-other =
+      event-cases s j e output (λ x. (x .answer .number ≡ number.hasFrame → ⊥) → x .output ≡ output) (λ n r h. refl)
+      (λ v h. unsent (stateIn s) e output h)
 
   -- 0: A BODY AT THE FRONT OF THE OUTPUT, as many bytes as the call gives, 2 to 16; no other byte changes.
   pub event-0 : OfItsTypes (event e output) → called s j e output .answer .number ≡ number.hasFrame
       → FrontAlone (called s j e output .answer .length) output (called s j e output .output)
   unfolding done
-  event-0 types h =
-      let d : Happened = happened (rw h refl) in
-      let p : Passing s j e output = d .passes in
-      rw (d .call) (laid-alone (reaction (stateIn s) e) output (one-frame (stateIn s) e) (sym (d .answer) ∙ h) (sendable (stateIn s) e (ranges (stateIn s) (its-range s (p .state)) .2) (of-types d types) .1) (p .room))
+  event-0 types =
+      event-cases s j e output (λ x. x .answer .number ≡ number.hasFrame → FrontAlone (x .answer .length) output (x .output))
+      (λ n r h. absurd (false≢true (rw h at r)))
+      (λ v h.
+      let p = passes v in
+      let f = sendable (stateIn s) e (ranges (stateIn s) (its-range s (p .state)) .2) (of-types p types) .1 in
+      laid-alone (reaction (stateIn s) e) output (one-frame (stateIn s) e) h f (p .room))
 
   -- 11 TO 16: OUTPUT AND REGISTERS UNCHANGED, EVENT KEPT. The whole state stays, the event's record joins the journal, and the kept
   -- number goes up by one, to at most the journal's slots.
@@ -218,18 +178,18 @@ module _ (s : List ℕ) (j : List ℕ) (e : Event) (output : List ℕ) where
   pub event-11-to-16 : 11 ≤ called s j e output .answer .number → called s j e output .answer .number ≤ 16 → Dropped
   unfolding done
   event-11-to-16 l u =
-      let d : Happened = happened (over-ten (called s j e output .answer .number) l) in
-      let n : called s j e output .answer .number ≡ reaction (stateIn s) e .number = d .answer in
+      let v : verdict s j e output ≡ Passed = passed (over-ten (called s j e output .answer .number) l) in
+      let c : called s j e output ≡ done s j e output = called-done s j e output v in
+      let n : called s j e output .answer .number ≡ reaction (stateIn s) e .number = ap (λ (x : Outcome). x .answer .number) c in
       let least : 11 ≤ reaction (stateIn s) e .number = omega arith in
       let most : reaction (stateIn s) e .number ≤ 16 = omega arith in
       let other : acceptedReset e ≡ false =
       split (acceptedReset e) (λ t. absurd (omega (arith, reset-answered (stateIn s) e t))) (λ t. t) in
-      let w : Well j = of-well j (d .passes .formed) in
       record {
-        state = ap (λ (x : Outcome). x .state) (d .call) ∙ ap stateBytes (dropped-keeps (stateIn s) e least most) ∙ state-again s (d .passes .state);
+        state = ap (λ (x : Outcome). x .state) c ∙ ap stateBytes (dropped-keeps (stateIn s) e least most) ∙ state-again s (passes v .state);
         bytes = event-other (λ z. omega arith);
-        entry = ap (λ (x : Outcome). x .journal) (d .call) ∙ rw other refl;
-        kept = ap (λ (x : Outcome). keptIn (x .journal)) (d .call) ∙ kept-number s e j w other;
+        entry = ap (λ (x : Outcome). x .journal) c ∙ rw other refl;
+        kept = ap (λ (x : Outcome). keptIn (x .journal)) c ∙ kept-number s e j (of-well j (passes v .formed)) other;
       }
 
   -- 17: OUTPUT UNCHANGED.
@@ -240,24 +200,16 @@ module _ (s : List ℕ) (j : List ℕ) (e : Event) (output : List ℕ) where
   pub event-leaves-a-state : AreBytes s → OfItsTypes (event e output) → isRefusal (called s j e output .answer .number) ≡ false
       → isState (called s j e output .state) ≡ true
   unfolding done
-  event-leaves-a-state b types h =
-      let d : Happened = happened h in
-      rw (d .call) (state-bytes _ (good-stays (stateIn s) e (its-good s (d .passes .state) b) (of-types d types)))
+  event-leaves-a-state b types =
+      event-cases s j e output (λ x. isRefusal (x .answer .number) ≡ false → isState (x .state) ≡ true) (λ n r h. absurd (true≢false (sym r ∙ h)))
+      (λ v h. state-bytes _ (good-stays (stateIn s) e (its-good s (passes v .state) b) (of-types (passes v) types)))
 
 -- So does a step back that is granted, and a creation.
 pub back-leaves-a-state : (s j : List ℕ) → isRefusal (steppedBack s j .number) ≡ false → isState (steppedBack s j .state) ≡ true
-unfolding steppedBack backVerdict sound
-back-leaves-a-state s j h = go (not (isState s)) (not (wellFormed j)) (eqb (keptOf j) 0) (sound s (past j 0)) refl h
-  where
-    by : Bool → Bool → Bool → Bool → Stepped
-    by x f n r = judgedBack (cond x (Refused 6) (cond f (Refused 4) (cond n (Refused 5) (cond (not r) (Refused 4) Passed)))) s j
-
-    go : (x f n r : Bool) → sound s (past j 0) ≡ r → isRefusal (by x f n r .number) ≡ false → isState (by x f n r .state) ≡ true
-    go true f n r e q = absurd (true≢false q)
-    go false true n r e q = absurd (true≢false q)
-    go false false true r e q = absurd (true≢false q)
-    go false false false false e q = absurd (true≢false q)
-    go false false false true e q = and-right (leb (getD (past j 0) 0 0) 3) _ e
+unfolding sound
+back-leaves-a-state s j =
+    back-cases s j (λ x. isRefusal (x .number) ≡ false → isState (x .state) ≡ true) (λ n r h. absurd (true≢false (sym r ∙ h)))
+    (λ t h. and-right (leb (getD (past j 0) 0 0) 3) _ t)
 
 pub create-leaves-a-state : (s : List ℕ) (id : ℕ) → length s ≡ stateSize → id ≤ number.idMost → isState (created s id .bytes) ≡ true
 create-leaves-a-state s id n h = rw (any-bytes s id n h) (state-bytes (powerOn id) (power-on-good id))

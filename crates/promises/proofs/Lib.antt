@@ -4,6 +4,7 @@ pub mod Sentences
 pub mod Lines
 pub mod Text
 pub mod ShutOut
+pub mod Cases
 pub mod Runs
 pub mod Formats
 pub mod Refused

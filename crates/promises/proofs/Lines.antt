@@ -2,15 +2,16 @@
 use Prim.Native.Nat.{ℕ, _≤_}
 use mathlib.Core.Path.{_≡_, refl, sym, ap, ap₂, _∙_}
 use mathlib.Core.List.{List, [], _∷_, _++_, foldl, foldl-append}
-use mathlib.Core.Bool.{Bool, true, false, cond}
+use mathlib.Core.Bool.{false}
 use lib.Dec.{eqb}
 use borrow.Author.Tests.{eqb-true, eqb-false}
 use Rattle.journal.specs.Layout.{slotsOf, wrongLength}
 use Rattle.adapter.specs.declared.KeptNumber.{KeptNumber}
-use Rattle.promises.specs.Runs.{Call, event, back, empty, Calls, AllOfTheirTypes, Run, Standing, atStart, keeps, bare, Demand3}
+use Rattle.promises.specs.Runs.{Call, event, back, empty, Calls, AllOfTheirTypes, Run, Standing, atStart, keeps, Demand3}
 use Rattle.promises.specs.Table.{line, lines}
 use Rattle.promises.proofs.Runs.{told}
 use Rattle.promises.proofs.Standing.{typed-more}
+use Rattle.promises.proofs.Steps.{split}
 
 -- the text's lines
 abbrev pub textLines : ℕ → Standing → List Call → List (List ℕ)
@@ -21,26 +22,21 @@ module _ (c : Calls) (d : Demand3 c) (id : ℕ) (id-fits : id ≤ 0xFFFFFF) (byt
   abbrev first : Standing
   first = atStart (slotsOf bytes)
 
-  runOf : (ks : List Call) → AllOfTheirTypes ks → Run
+  abbrev runOf : (ks : List Call) → AllOfTheirTypes ks → Run
   runOf ks t = record { id = id; id-fits = id-fits; bytes = bytes; size = size; calls = ks; typed = t }
 
   abbrev pub after : List Call → c .Pair
   after ks = foldl (c .leaves) (c .start id bytes) ks
 
   gives-told : (ks : List Call) → AllOfTheirTypes ks → (k : Call) → c .gives (after ks) k ≡ told id (foldl keeps first ks) k
-  unfolding runOf
   gives-told ks t (event e o) = d .reply (runOf ks t) e o
-  gives-told ks t back = go (eqb (foldl keeps first ks .number) 0) refl
-    where
-      go : (b : Bool) → eqb (foldl keeps first ks .number) 0 ≡ b
-          → c .gives (after ks) back ≡ cond (eqb (foldl keeps first ks .number) 0) (bare 5 []) (bare 17 [])
-      go true e = rw e (d .refused-at-zero (runOf ks t) (ap (λ (x : KeptNumber). x .kept) (d .kept (runOf ks t)) ∙ eqb-true _ 0 e) .0)
-      go false e =
-          rw e (d .takes-back (runOf ks t) (λ z. eqb-false _ 0 e (sym (ap (λ (x : KeptNumber). x .kept) (d .kept (runOf ks t))) ∙ z)) .0)
+  gives-told ks t back =
+      let n : c .kept (after ks) .kept ≡ foldl keeps first ks .number = ap (λ (x : KeptNumber). x .kept) (d .kept (runOf ks t)) in
+      split (eqb (foldl keeps first ks .number) 0) (λ e. rw e (d .refused-at-zero (runOf ks t) (n ∙ eqb-true _ 0 e) .0))
+      (λ e. rw e (d .takes-back (runOf ks t) (λ z. eqb-false _ 0 e (sym n ∙ z)) .0))
   gives-told ks t empty = d .empties (runOf ks t)
 
   kept-told : (ks : List Call) → AllOfTheirTypes ks → c .kept (after ks) .kept ≡ foldl keeps first ks .number
-  unfolding runOf
   kept-told ks t = ap (λ (x : KeptNumber). x .kept) (d .kept (runOf ks t))
 
   from : (ks done : List Call) → AllOfTheirTypes done → AllOfTheirTypes ks → lines c (after done) ks ≡ textLines id (foldl keeps first done) ks

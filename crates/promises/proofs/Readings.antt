@@ -1,18 +1,17 @@
 -- What the receiver makes of bits, from a state on. `Wire` has the same over the call.
 use mathlib.Core.Path.{_≡_, refl, sym, ap, _∙_}
-use mathlib.Core.Bool.{true, false}
+use mathlib.Core.Bool.{true, false, true≢false}
 use mathlib.Core.Logic.{⊎-elim, inl, inr}
 use mathlib.Core.List.{List, [], _∷_, _++_, append-nil, foldl, foldl-append}
-use Prim.Native.Nat.{ℕ, zero, suc, _+_, _-_, _/_, _%_, _≤_, _<_}
+use Prim.Native.Nat.{ℕ, suc, _+_, _-_, _/_, _≤_, _<_}
 use native.Mathlib.Nat.{add-zero, zero-add, eq-or-lt-of-le}
 use native.Mathlib.Omega.{arith}
 use borrow.Author.Tests.{ne-eqb, eqb-true, eqb-false, lt-ltb, le-ltb, lt-leb, leb-true, ltb-true, ltb-false}
 use lib.Dec.{eqb, ltb, leb, lit≤}
 use lib.ListN.{length, take, drop, getD, replicate, length-take}
-use lib.Seq.{take-length, take-suc, drop-append-add}
+use lib.Seq.{take-length, take-suc}
 use Rattle.numbers.specs.Numbers as number
 use Rattle.wire.specs.Bits.{pack}
-use Rattle.wire.specs.Fcs.{register, preset, residue}
 use Rattle.wire.specs.Frame.{flag}
 use Rattle.receiver.specs.Receiver.{State, Stop, hunting, opened, next, decides, ended, runs}
 use Rattle.receiver.specs.Receive.{bare, atFlag, concluded, reading}
@@ -21,7 +20,7 @@ use Rattle.receiver.proofs.Machine.{runs-go, runs-end}
 use Rattle.promises.specs.Wire.{absent, sixOnes, sevenOnes, destuff, atAbort, after, hunter, seen}
 use Rattle.promises.specs.Calls.{Sized}
 use Rattle.bits.proofs.Tests.{and-right}
-use Rattle.promises.proofs.Steps.{split, absent-drop, ones-on, runs-append, run, within, Ran, ran, at-flag-answers, five, six-ones, goes-on, closing, aborting}
+use Rattle.promises.proofs.Steps.{split, each-below, at-flag-cases, concluded-cases, absent-drop, absent-after, ones-on, runs-append, run, within, Ran, ran, at-flag-answers, five, six-ones, goes-on, closing, aborting}
 
 -- ---- in a frame
 
@@ -78,12 +77,8 @@ flag-decided s n (b ∷ p) e =
 stop-answers : (p : Stop) → (eqb (p .hit) 1 ≡ true → 32 ≤ ended (p .state) 0) → eqb (p .hit) 0 ≡ false
     → eqb (concluded p .answer .number) number.noFrame ≡ false
 stop-answers p f e =
-    split (eqb (p .hit) 1)
-    (λ t.
-    let h : 32 ≤ ended (p .state) 0 = f t in
-    let l : 32 ≤ length (take (ended (p .state) 0) (p .state .content)) = rw length-take (omega arith) in
-    rw (e, t) (at-flag-answers (take (ended (p .state) 0) (p .state .content)) l))
-    (λ t. rw (e, t) refl)
+    concluded-cases (λ r. eqb (r .answer .number) number.noFrame ≡ false) p (λ z. absurd (true≢false (sym z ∙ e)))
+    (λ _ t. let h : 32 ≤ ended (p .state) 0 = f t in at-flag-answers _ (rw length-take (omega arith))) (λ _. refl)
 
 -- A BUFFER READ IN TWO CALLS, split at any bit: where the first call answers, the whole reading is that answer; where it gives 17,
 -- the second call goes on from the receiver left, with the same answer, body and receiver in the end, and the bits consumed add up.
@@ -97,13 +92,15 @@ read-split s p q =
     let stopped : runs s 0 (p ++ q) ≡ runs s 0 p = runs-append s 0 p q ∙ rw e refl in
     ap concluded stopped ∙ rw (stop-answers (runs s 0 p) (flag-decided s 0 p) e) refl)
 
--- 17 comes with no body
+-- 17 comes where the bits run out,
+ran-out : (s : State) (p : List ℕ) → reading s p .answer .number ≡ number.noFrame → eqb (runs s 0 p .hit) 0 ≡ true
+unfolding reading
+ran-out s p h = split (eqb (runs s 0 p .hit) 0) (λ e. e) (λ e. absurd (eqb-false _ number.noFrame (stop-answers (runs s 0 p) (flag-decided s 0 p) e) h))
+
+-- with no body
 pub silent : (s : State) (p : List ℕ) → reading s p .answer .number ≡ number.noFrame → reading s p .answer ≡ bare number.noFrame
 unfolding reading
-silent s p h =
-    split (eqb (runs s 0 p .hit) 0) (λ e. rw e refl)
-    (λ e.
-    absurd (eqb-false (concluded (runs s 0 p) .answer .number) number.noFrame (stop-answers (runs s 0 p) (flag-decided s 0 p) e) h))
+silent s p h = rw (ran-out s p h) refl
 
 -- and all bits are consumed
 runs-out : (s : State) (n : ℕ) (p : List ℕ) → eqb (runs s n p .hit) 0 ≡ true → runs s n p .used ≡ n + length p
@@ -117,19 +114,15 @@ runs-out s n (b ∷ p) e =
 
 pub silent-consumed : (s : State) (p : List ℕ) → reading s p .answer .number ≡ number.noFrame → reading s p .consumed ≡ length p
 unfolding reading
-silent-consumed s p h =
-    split (eqb (runs s 0 p .hit) 0) (λ e. rw e (runs-out s 0 p e ∙ zero-add (length p)))
-    (λ e.
-    absurd (eqb-false (concluded (runs s 0 p) .answer .number) number.noFrame (stop-answers (runs s 0 p) (flag-decided s 0 p) e) h))
+silent-consumed s p h = rw (ran-out s p h) (runs-out s 0 p (ran-out s p h) ∙ zero-add (length p))
 
 -- THE BITS RUN OUT in a frame, no six ones in a row: 17.
 pub frame-unended : {raw : List ℕ} → AreBits raw → absent sixOnes raw → reading opened raw .answer ≡ bare number.noFrame
 unfolding reading
 frame-unended {raw = raw} hb h =
     let m : Ran 0 0 0 [] raw [] = ran hb 0 0 0 [] [] (lit≤ tt) h in
-    let e : runs opened 0 raw ≡ record { state = within (foldl run 0 raw) (m .lead) (destuff raw); used = 0 + length raw; hit = 0 } =
-    ap (runs opened 0) (sym (append-nil raw)) ∙ m .bits ∙ runs-end (within (foldl run 0 raw) (m .lead) (destuff raw)) (0 + length raw) in
-    ap (λ (p : Stop). concluded p .answer) e
+    ap (λ (p : Stop). concluded p .answer)
+    (ap (runs opened 0) (sym (append-nil raw)) ∙ m .bits ∙ runs-end (within (foldl run 0 raw) (m .lead) (destuff raw)) (0 + length raw))
 
 -- and in six ones, too
 pub six-unended : {raw : List ℕ} → AreBits raw → absent sixOnes raw → getD raw (length raw - 1) 0 ≡ 0
@@ -137,38 +130,27 @@ pub six-unended : {raw : List ℕ} → AreBits raw → absent sixOnes raw → ge
 unfolding reading
 six-unended {raw = raw} hb h last =
     let m : Ran 0 0 0 [] raw sixOnes = ran hb 0 0 0 [] sixOnes (lit≤ tt) h in
-    let e : runs opened 0 (raw ++ sixOnes) ≡ record { state = within 6 (m .lead) (destuff raw ++ five); used = 0 + length raw + 6; hit = 0 } =
-    m .bits
-    ∙ ap (λ (k : ℕ). runs (within k (m .lead) (destuff raw)) (0 + length raw) sixOnes) (run-ended raw last)
-    ∙ six-ones (m .lead) (0 + length raw) (destuff raw) []
-    ∙ runs-end (within 6 (m .lead) (destuff raw ++ five)) (0 + length raw + 6) in
-    ap (λ (p : Stop). concluded p .answer) e
+    ap (λ (p : Stop). concluded p .answer)
+    (m .bits ∙ ap (λ (k : ℕ). runs (within k (m .lead) (destuff raw)) (0 + length raw) sixOnes) (run-ended raw last)
+    ∙ six-ones (m .lead) (0 + length raw) (destuff raw) [] ∙ runs-end (within 6 (m .lead) (destuff raw ++ five)) (0 + length raw + 6))
 
 -- bodies
 bare-sized : (n : ℕ) → (n ≡ number.hasFrame → ⊥) → Sized (bare n)
 bare-sized n h = record { most = lit≤ tt; least = λ e. absurd (h e); other = λ g. refl }
 
 flag-sized : (c : List ℕ) → Sized (atFlag c)
-unfolding atFlag
 flag-sized c =
-    split (ltb (length c) 32) (λ e. rw e (bare-sized number.noFrame (λ h. omega arith)))
-    (λ e. split (ltb 144 (length c)) (λ f. rw (e, f) (bare-sized number.longContent (λ h. omega arith)))
-    (λ f. split (eqb (length c % 8) 0)
-    (λ g. split (eqb (register preset c) residue)
-    (λ r.
-    let least : 32 ≤ length c = ltb-false (length c) 32 e in
-    let most : length c ≤ 144 = ltb-false 144 (length c) f in
+    at-flag-cases Sized c (λ _. bare-sized number.noFrame (λ h. omega arith)) (λ _. bare-sized number.longContent (λ h. omega arith))
+    (λ least most _ _.
     let l : length (take (length c / 8 - 2) (pack c)) ≡ length c / 8 - 2 = rw (length-take, length-pack) (omega arith) in
-    rw (e, f, g, r)
-    (record { most = rw l (omega arith); least = λ z. rw l (omega arith); other = λ z. absurd (z refl) }))
-    (λ r. rw (e, f, g, r) (bare-sized number.wrongFcs (λ h. omega arith)))) (λ g. rw (e, f, g) (bare-sized number.brokenContent (λ h. omega arith)))))
+    record { most = rw l (omega arith); least = λ z. rw l (omega arith); other = λ z. absurd (z refl) })
+    (bare-sized number.wrongFcs (λ h. omega arith)) (bare-sized number.brokenContent (λ h. omega arith))
 
 pub reading-sized : (s : State) (p : List ℕ) → Sized (reading s p .answer)
 unfolding reading
 reading-sized s p =
-    split (eqb (runs s 0 p .hit) 0) (λ e. rw e (bare-sized number.noFrame (λ h. omega arith)))
-    (λ e. split (eqb (runs s 0 p .hit) 1) (λ f. rw (e, f) (flag-sized (take (ended (runs s 0 p .state) 0) (runs s 0 p .state .content))))
-    (λ f. rw (e, f) (bare-sized number.aborted (λ h. omega arith))))
+    concluded-cases (λ r. Sized (r .answer)) (runs s 0 p) (λ _. bare-sized number.noFrame (λ h. omega arith)) (λ _ _. flag-sized _)
+    (λ _. bare-sized number.aborted (λ h. omega arith))
 
 -- ---- hunting
 
@@ -217,7 +199,7 @@ module _ (j n : ℕ) (p q r : List ℕ) where
   hunted-zero b z h m =
       let h₁ : absent flag (seen j ++ (0 ∷ (p ++ q))) = rw z at h in
       let no : j ≡ 6 → ⊥ = λ e. (rw e at h₁) 0 refl in
-      let h₂ : absent flag (0 ∷ (p ++ q)) = rw (drop-append-add (seen j) (0 ∷ (p ++ q)) 0) at (absent-drop flag (seen j ++ (0 ∷ (p ++ q))) (length (seen j) + 0) h₁) in
+      let h₂ : absent flag (0 ∷ (p ++ q)) = absent-after flag (seen j) (0 ∷ (p ++ q)) h₁ in
       rw z (hunted-on 0 0 (zero-hunted j no) (m h₂))
 
   hunted-one : (b : ℕ) → b ≡ 1 → j ≤ 7 → absent flag (seen j ++ (b ∷ (p ++ q)))
@@ -232,7 +214,7 @@ module _ (j n : ℕ) (p q r : List ℕ) where
       hunted-on 1 (j + 1) (one-hunted j l) (m (j + 1) (omega arith) (rw (seen-more j (p ++ q) l) at h₁)))
       (λ t.
       let l : 6 ≤ j = ltb-false j 6 t in
-      let h₂ : absent flag (p ++ q) = rw (drop-append-add (seen j) (1 ∷ (p ++ q)) 1) at (absent-drop flag (seen j ++ (1 ∷ (p ++ q))) (length (seen j) + 1) h₁) in
+      let h₂ : absent flag (p ++ q) = absent-drop flag (1 ∷ (p ++ q)) 1 (absent-after flag (seen j) (1 ∷ (p ++ q)) h₁) in
       hunted-on 1 7 (one-lost j l) (m 7 (lit≤ tt) h₂)))
 
 hunted : {p : List ℕ} → AreBits p → (j n : ℕ) (q r : List ℕ) → j ≤ 7 → absent flag (seen j ++ (p ++ q)) → Hunted j n p q r
@@ -276,11 +258,7 @@ first-flag {p = p} hb j rest hj h =
 pub begun-flag : (j : ℕ) (rest : List ℕ) → j ≤ 6
     → reading (hunter j) (replicate (6 - j) 1 ++ (0 ∷ rest)) ≡ after (bare number.noFrame) opened (7 - j) rest
 unfolding reading runs
-begun-flag zero rest h = goes-on opened 7 rest
-begun-flag (suc zero) rest h = goes-on opened 6 rest
-begun-flag (suc (suc zero)) rest h = goes-on opened 5 rest
-begun-flag (suc (suc (suc zero))) rest h = goes-on opened 4 rest
-begun-flag (suc (suc (suc (suc zero)))) rest h = goes-on opened 3 rest
-begun-flag (suc (suc (suc (suc (suc zero))))) rest h = goes-on opened 2 rest
-begun-flag (suc (suc (suc (suc (suc (suc zero)))))) rest h = goes-on opened 1 rest
-begun-flag (suc (suc (suc (suc (suc (suc (suc j))))))) rest h = absurd (omega arith)
+begun-flag j rest h =
+    let on : (n : ℕ) → concluded (runs opened n rest) ≡ after (bare number.noFrame) opened n rest = λ n. goes-on opened n rest in
+    each-below 7 (λ j. reading (hunter j) (replicate (6 - j) 1 ++ (0 ∷ rest)) ≡ after (bare number.noFrame) opened (7 - j) rest)
+    (on 7, (on 6, (on 5, (on 4, (on 3, (on 2, (on 1, tt))))))) j (omega arith)

@@ -1,28 +1,28 @@
 -- THE ROUND TRIP: every body of 2 to 16 bytes that `transmit` frames comes back from `receive`, whatever follows it on the cable.
 use mathlib.Core.Path.{_≡_, refl, ap, _∙_}
-use mathlib.Core.Bool.{true, false}
 use mathlib.Core.Logic.{inl, inr}
-use mathlib.Core.List.{List, [], _∷_, _++_, append-assoc}
+use mathlib.Core.List.{List, _++_, append-assoc}
 use Prim.Native.Nat.{ℕ, zero, suc, _+_, _*_, _-_, _/_, _%_, _≤_, _<_}
 use native.Mathlib.Nat.{zero-add}
 use native.Mathlib.Omega.{arith}
-use borrow.Author.Tests.{eq-eqb, le-ltb, le-leb}
-use lib.Dec.{eqb, ltb, lit≤}
+use borrow.Author.Tests.{le-ltb, le-leb}
+use lib.Dec.{lit≤}
 use lib.ListN.{length, take, drop, getD, replicate, length-append, length-drop, length-replicate}
 use lib.Seq.{take-at}
 use Rattle.numbers.specs.Numbers as number
 use Rattle.parts.specs.Parts.{put}
+use Rattle.parts.proofs.Laws.{bytes-append}
 use Rattle.wire.specs.Bits.{wire, pack}
-use Rattle.wire.specs.Fcs.{register, preset, residue, fcs}
+use Rattle.wire.specs.Fcs.{fcs}
 use Rattle.wire.specs.Frame.{flag, stuff, contentOf}
 use Rattle.transmitter.specs.Frame.{frame, filled, framed}
 use Rattle.transmitter.specs.Transmit as transmit
 use Rattle.receiver.specs.declared.Receiver.{Receiver}
-use Rattle.receiver.specs.Receiver.{hunting, opened, runs, view, image}
-use Rattle.receiver.specs.Receive.{atFlag, reading, outputAfter}
+use Rattle.receiver.specs.Receiver.{State, hunting, opened, runs, view, image}
+use Rattle.receiver.specs.Receive.{bare, atFlag, reading, outputAfter}
 use Rattle.wire.proofs.Bits.{AreBits, AreBytes, none, more, bits-append, bits-wire, length-wire, wire-append, length-pack, pack-wire, wire-pack}
 use Rattle.wire.proofs.Check.{good-residue}
-use Rattle.promises.specs.Wire.{found}
+use Rattle.promises.specs.Wire.{after, found, filling}
 use Rattle.promises.specs.Calls.{Accepted, Gives}
 use Rattle.promises.proofs.Steps.{goes-on}
 use Rattle.promises.proofs.Readings.{frame-read}
@@ -31,11 +31,6 @@ use Rattle.promises.proofs.Called.{reads}
 use Rattle.promises.proofs.States.{Held, hunts-on, image-inRange, image-size}
 
 -- ---- the content of a frame
-
-bytes-append : (p q : List ℕ) → AreBytes p → AreBytes q → AreBytes (p ++ q)
-bytes-append [] q hp hq i = hq i
-bytes-append (x ∷ p) q hp hq zero = hp 0
-bytes-append (x ∷ p) q hp hq (suc i) = bytes-append p q (λ j. hp (suc j)) hq i
 
 bytes-fcs : (body : List ℕ) → AreBytes (fcs body)
 unfolding fcs
@@ -51,12 +46,6 @@ bits-flag = more (inl refl) (more (inr refl) (more (inr refl) (more (inr refl) (
 bits-ones : (n : ℕ) → AreBits (replicate n 1)
 bits-ones zero = none
 bits-ones (suc n) = more (inr refl) (bits-ones n)
-
--- a flag opens a frame for a new receiver
-opening : (r : List ℕ) → reading hunting (flag ++ r)
-    ≡ record { answer = reading opened r .answer; state = reading opened r .state; consumed = 8 + reading opened r .consumed }
-unfolding reading runs
-opening r = goes-on opened 8 r
 
 pub new-accepted : (input output : List ℕ) → length input ≤ 65536 → 16 ≤ length output → Accepted (image hunting) input 0 output
 new-accepted input output short room =
@@ -78,6 +67,10 @@ module _ (bs : List ℕ) (h : AreBits bs) where
       let z : length (bs ++ padding) % 8 ≡ 0 = omega arith in
       wire-pack (bs ++ padding) (bits-append h (bits-ones ((8 - length bs % 8) % 8))) z
 
+pub frame-cut : (body rest : List ℕ) → frame body ++ rest ≡ flag ++ (stuff 0 (contentOf body) ++ (flag ++ rest))
+unfolding frame
+frame-cut body rest = simp append-assoc refl
+
 module _ (body : List ℕ) (small : (i : ℕ) → getD body i 0 < 256) (least : 2 ≤ length body) (most : length body ≤ 16) where
   content-length : length (contentOf body) ≡ 8 * (length body + 2)
   unfolding fcs
@@ -96,11 +89,10 @@ module _ (body : List ℕ) (small : (i : ℕ) → getD body i 0 < 256) (least : 
   unfolding atFlag
   content-answer =
       let l : length (contentOf body) ≡ 8 * (length body + 2) = content-length in
-      let t₁ : ltb (length (contentOf body)) 32 ≡ false = le-ltb (length (contentOf body)) 32 (omega arith) in
-      let t₂ : ltb 144 (length (contentOf body)) ≡ false = le-ltb 144 (length (contentOf body)) (omega arith) in
-      let t₃ : eqb (length (contentOf body) % 8) 0 ≡ true = eq-eqb (length (contentOf body) % 8) 0 (omega arith) in
-      let t₄ : eqb (register preset (contentOf body)) residue ≡ true = eq-eqb (register preset (contentOf body)) residue (good-residue body) in
-      rw (t₁, t₂, t₃, t₄, content-body) refl
+      let whole : length (contentOf body) % 8 ≡ 0 = omega arith in
+      let few : 32 ≤ length (contentOf body) = omega arith in
+      let many : length (contentOf body) ≤ 144 = omega arith in
+      simp (le-ltb, whole, good-residue body, content-body)
 
   pub frame-length : length (frame body) ≡ length (stuff 0 (contentOf body)) + 16
   unfolding frame
@@ -124,12 +116,19 @@ module _ (body : List ℕ) (small : (i : ℕ) → getD body i 0 < 256) (least : 
   pub read-opened : (rest : List ℕ) → reading opened (stuff 0 (contentOf body) ++ (flag ++ rest)) ≡ found body (length (stuff 0 (contentOf body)) + 8)
   read-opened rest = frame-read (bits-stuff content-bits) rest (no-six content-bits) ∙ rw (unstuff-stuff content-bits, content-answer) refl
 
+  -- whatever reads on from a frame opened k + 8 bits ago
+  pub read-flagged : (s : State) (bits rest : List ℕ) (k : ℕ)
+      → reading s bits ≡ after (bare number.noFrame) opened (k + 8) (stuff 0 (contentOf body) ++ (flag ++ rest))
+      → reading s bits ≡ found body (k + length (frame body))
+  read-flagged s bits rest k e =
+      let n : k + 8 + (length (stuff 0 (contentOf body)) + 8) ≡ k + length (frame body) = omega (arith, frame-length) in
+      e ∙ rw (read-opened rest) (ap (found body) n)
+
   pub read-hunting : (rest : List ℕ) → reading hunting (frame body ++ rest) ≡ found body (length (frame body))
-  unfolding frame
+  unfolding reading runs
   read-hunting rest =
-      let n : 8 + (length (stuff 0 (contentOf body)) + 8) ≡ length (frame body) = omega (arith, frame-length) in
-      let e : frame body ++ rest ≡ flag ++ (stuff 0 (contentOf body) ++ (flag ++ rest)) = simp append-assoc refl in
-      rw e (opening (stuff 0 (contentOf body) ++ (flag ++ rest)) ∙ rw (read-opened rest) (ap (found body) n))
+      read-flagged hunting (frame body ++ rest) rest 0
+      (ap (reading hunting) (frame-cut body rest) ∙ goes-on opened 8 (stuff 0 (contentOf body) ++ (flag ++ rest))) ∙ rw zero-add refl
 
   -- IT COMES BACK: a new receiver that reads a body's frame from any start bit on, whatever follows, gives 0 and that body, and has
   -- consumed flag, stuffed content and flag.
@@ -144,15 +143,16 @@ module _ (body : List ℕ) (small : (i : ℕ) → getD body i 0 < 256) (least : 
   comes-back-opened a rest v e = reads a opened (stuff 0 (contentOf body) ++ (flag ++ rest)) _ v e (read-opened rest)
 
   -- The same over bytes, padding included.
+  pub framed-bits : (following : List ℕ) → wire (framed body ++ following) ≡ frame body ++ (replicate (filling body) 1 ++ wire following)
+  unfolding framed
+  framed-bits following =
+      wire-append (framed body) following ∙ ap (λ (l : List ℕ). l ++ wire following) (wire-filled (frame body) frame-bits)
+      ∙ append-assoc (frame body) (replicate (filling body) 1) (wire following)
+
   pub comes-back : (following output : List ℕ) → length (framed body ++ following) ≤ 65536 → 16 ≤ length output
       → Gives (image hunting) (framed body ++ following) 0 output (found body (length (frame body)))
-  unfolding framed
   comes-back following output short room =
-      let e : wire (framed body ++ following) ≡ frame body ++ (padding (frame body) frame-bits ++ wire following) =
-      wire-append (framed body) following
-      ∙ ap (λ (l : List ℕ). l ++ wire following) (wire-filled (frame body) frame-bits)
-      ∙ append-assoc (frame body) (padding (frame body) frame-bits) (wire following) in
-      comes-back-at (new-accepted (framed body ++ following) output short room) (padding (frame body) frame-bits ++ wire following) e
+      comes-back-at (new-accepted (framed body ++ following) output short room) (replicate (filling body) 1 ++ wire following) (framed-bits following)
 
   -- FROM CALL TO CALL: `transmit` into a cable of 24 bytes or more answers 0 with the frame's length, and `receive` on that cable gives the
   -- body back.

@@ -1,16 +1,16 @@
 -- DEMAND 3 of the delivered calls. The invariant along a run: the state is that of the standing events, the journal is well formed, its
 -- number is the text's, and its i-th newest record takes the state with i events taken back to the one with i + 1 taken back. Assumes nothing.
 use Prim.Native.Nat.{ℕ, zero, suc, _+_, _-_, min, _≤_, _<_}
-use mathlib.Core.Path.{_≡_, refl, sym, ap, ap₂, subst, _∙_}
+use mathlib.Core.Path.{_≡_, refl, sym, ap, ap₂, _∙_}
 use mathlib.Core.List.{List, [], _∷_, foldl}
-use mathlib.Core.Bool.{Bool, true, false, not, cond, _&&_, _||_, false≢true, true≢false}
+use mathlib.Core.Bool.{Bool, true, false, not, cond, _||_, true≢false}
 use mathlib.Core.Logic.{_⊎_, inl, inr, ⊎-elim}
 use native.Mathlib.Nat.{eq-zero-or-pos}
 use native.Mathlib.Omega.{arith}
 use lib.ListN.{length, drop, replicate, length-drop, length-replicate}
 use lib.Seq.{drop-drop}
-use lib.Dec.{eqb, ltb, leb}
-use borrow.Author.Tests.{eq-eqb, ne-eqb, eqb-true, eqb-false, ltb-false, le-ltb, leb-true, not-false}
+use lib.Dec.{eqb, ltb}
+use borrow.Author.Tests.{eq-eqb, ne-eqb, eqb-true, ltb-false, le-ltb, not-false}
 use Rattle.numbers.specs.Numbers as number
 use Rattle.state.specs.State.{Adapter, powerOn}
 use Rattle.chip.specs.Event.{spi, Event, frame, completion, sample, upset}
@@ -34,9 +34,13 @@ use Rattle.adapter.specs.Calls.{Made, made, created, keptIn, Outcome, outcome, 
 use Rattle.adapter.proofs.Laws.{called-refused, called-done, own-refusals, recorded-well, recorded-slots, recorded-kept, newest-restores}
 use Rattle.adapter.proofs.Laws.{newest-sound, older-stay, back-refused, back-done, empty-done}
 use Rattle.promises.specs.Runs.{Call, event, back, empty, Given, OfItsTypes, AllOfTheirTypes, Run, left, refusal, refused, Standing, atStart}
-use Rattle.promises.specs.Runs.{keeps, standing, stateAfter, dueState, bare, answered, due, refuses, lent, Demand3}
+use Rattle.promises.specs.Runs.{keeps, standing, stateAfter, dueState, bare, due, refuses, lent, Demand3}
 use Rattle.promises.specs.Ours.{Handed, handed, given, givesOurs, leavesOurs, ours}
 use Rattle.promises.proofs.Formats.{always-64}
+pub use Rattle.promises.proofs.Cases.{not-one-to-ten}
+use Rattle.promises.proofs.Cases.{refusal-most, create-cases}
+use Rattle.promises.proofs.Refused.{event-unchanged, back-unchanged, empty-unchanged}
+use Rattle.promises.proofs.Steps.{split}
 
 -- ---- what refuses an event's own arguments
 
@@ -84,26 +88,26 @@ module _ (a : Adapter) (g : Good a) (j : List ℕ) (w : Well j) (e : Event) (o :
   unfolding done
   is-done h = called-done (stateBytes a) j e o (own ∙ rw h refl) ∙ rw (state-back a (g .registers .fits .long)) refl
 
--- the numbers that the chip gives are no refusals
-pub not-one-to-ten : (n : ℕ) → (n ≡ 0) ⊎ ((11 ≤ n) × (n ≤ 17)) → (leb 1 n && leb n 10) ≡ true → ⊥
-not-one-to-ten n (inl z) h = false≢true (rw z at h)
-not-one-to-ten n (inr l) h = go (leb 1 n) refl
-  where
-    go : (b : Bool) → leb 1 n ≡ b → ⊥
-    go true e = let u = leb-true n 10 (rw e at h) in omega arith
-    go false e = false≢true (rw e at h)
-
 -- ---- the states of runs of only the standing events
 
-AllFit : List Event → Type 0
-AllFit [] = Unit
-AllFit (e ∷ es) = EventFits e × AllFit es
+-- an event of its types that passes with an output of 16 bytes, and so with any longer one
+pub record Fine (e : Event) : Type 0 where
+  pub passes : refused e (replicate 16 0) ≡ false
+  pub typed : OfItsTypes (event e (replicate 16 0))
 
-drop-fit : (n : ℕ) (es : List Event) → AllFit es → AllFit (drop n es)
-unfolding AllFit
-drop-fit zero es f = f
-drop-fit (suc n) [] f = f
-drop-fit (suc n) (e ∷ es) f = drop-fit n es (f .1)
+abbrev pub AllFine : List Event → Type 0
+AllFine [] = Unit
+AllFine (e ∷ es) = Fine e × AllFine es
+
+fine : (e : Event) (o : List ℕ) → OfItsTypes (event e o) → refused e o ≡ false → Fine e
+fine e o t h = let b = both-right (ltb (length o) 16) (wrongArgument e) (wrongBody e) h in record { passes = simp (b .0, b .1); typed = t }
+
+fitting : (e : Event) → Fine e → EventFits e
+fitting e f = fits e (replicate 16 0) (f .typed) (f .passes)
+
+drop-fine : (es : List Event) → AllFine es → AllFine (drop 1 es)
+drop-fine [] f = f
+drop-fine (e ∷ es) f = f .1
 
 -- what the text says that a call gives
 abbrev pub told : ℕ → Standing → Call → Given
@@ -112,19 +116,20 @@ told id s back = cond (eqb (s .number) 0) (bare 5 []) (bare 17 [])
 told id s empty = bare 17 []
 
 module _ (id : ℕ) (small : id ≤ number.idMost) where
-  after-good : (es : List Event) → AllFit es → Good (stateAfter id es)
-  unfolding AllFit
+  after-good : (es : List Event) → AllFine es → Good (stateAfter id es)
   after-good [] f = power-on-good id
-  after-good (e ∷ es) f = good-stays (stateAfter id es) e (after-good es (f .1)) (f .0)
+  after-good (e ∷ es) f = good-stays (stateAfter id es) e (after-good es (f .1)) (fitting e (f .0))
 
-  id-after : (es : List Event) → AllFit es → read (stateAfter id es .registers) ChipId ≡ id
-  unfolding AllFit
+  id-after : (es : List Event) → AllFine es → read (stateAfter id es .registers) ChipId ≡ id
   id-after [] f = id-given 0 id small
   id-after (e ∷ es) f = id-stays (stateAfter id es) (after-good es (f .1) .registers) e ∙ id-after es (f .1)
 
   -- their bytes
-  bytesAfter : List Event → List ℕ
+  abbrev bytesAfter : List Event → List ℕ
   bytesAfter es = stateBytes (stateAfter id es)
+
+  spelled : (es : List Event) → AllFine es → stateIn (bytesAfter es) ≡ stateAfter id es
+  spelled es f = state-back (stateAfter id es) (after-good es f .registers .fits .long)
 
   -- ---- the invariant
 
@@ -134,59 +139,55 @@ module _ (id : ℕ) (small : id ≤ number.idMost) where
     is-sound : sound b r ≡ true
 
   -- the i-th newest record has one more event taken back than i
-  Past : List ℕ → List Event → Type 0
+  abbrev Past : List ℕ → List Event → Type 0
   Past j es = (i : ℕ) → i < keptOf j → TakesBack (past j i) (bytesAfter (drop i es)) (bytesAfter (drop (suc i) es))
 
   record Inv (s : Standing) (j : List ℕ) : Type 0 where
-    fit : AllFit (s .events)
+    fit : AllFine (s .events)
     well : Well j
     slots : slotsOf j ≡ s .most
     number : keptOf j ≡ s .number
     enough : s .number ≤ length (s .events)
     records : Past j (s .events)
 
-  pair : Standing → List ℕ → Handed
+  abbrev pair : Standing → List ℕ → Handed
   pair s j = handed (bytesAfter (s .events)) j
 
-  -- ---- an event that is kept
+  -- ---- an event that is recorded
 
-  module _ (s : Standing) (j : List ℕ) (i : Inv s j) (e : Event) (f : EventFits e) (other : acceptedReset e ≡ false) where
-    after : List ℕ
+  module _ (s : Standing) (j : List ℕ) (i : Inv s j) (e : Event) (f : Fine e) where
+    abbrev after : List ℕ
     after = recorded (bytesAfter (s .events)) e j
 
-    more : keptOf after ≡ min (slotsOf j) (keptOf j + 1)
-    unfolding after
-    more = recorded-kept (bytesAfter (s .events)) e j (i .well) ∙ rw other refl
+    more : keptOf after ≡ cond (acceptedReset e) 0 (min (slotsOf j) (keptOf j + 1))
+    more = recorded-kept (bytesAfter (s .events)) e j (i .well)
 
-    kept-records : Past after (e ∷ s .events)
-    unfolding after Past bytesAfter
-    kept-records zero l =
+    kept-records : acceptedReset e ≡ false → Past after (e ∷ s .events)
+    kept-records other zero l =
         let g = after-good (s .events) (i .fit) in
         record {
-          restores = newest-restores (stateAfter id (s .events)) e j (i .well) other g f;
-          is-sound = newest-sound (stateAfter id (s .events)) e j (i .well) other g f;
+          restores = newest-restores (stateAfter id (s .events)) e j (i .well) other g (fitting e f);
+          is-sound = newest-sound (stateAfter id (s .events)) e j (i .well) other g (fitting e f);
         }
-    kept-records (suc k) l =
-        let l′ : suc k < min (slotsOf j) (keptOf j + 1) = subst (λ (n : ℕ). suc k < n) more l in
+    kept-records other (suc k) l =
+        let l′ : suc k < min (slotsOf j) (keptOf j + 1) = rw (more, other) at l in
         rw (older-stay (bytesAfter (s .events)) e j (i .well) other k l′) (i .records k (omega arith))
 
-    kept-inv : Inv (record { events = e ∷ s .events; number = min (s .most) (s .number + 1); most = s .most }) after
-    unfolding after AllFit
-    kept-inv =
+    recorded-inv : Inv (record { events = e ∷ s .events; number = cond (acceptedReset e) 0 (min (s .most) (s .number + 1)); most = s .most }) after
+    recorded-inv =
         record {
           fit = (f, i .fit);
           well = recorded-well (bytesAfter (s .events)) e j (i .well);
           slots = recorded-slots (bytesAfter (s .events)) e j (i .well) ∙ i .slots;
-          number = more ∙ ap₂ (λ (m n : ℕ). min m (n + 1)) (i .slots) (i .number);
-          enough = omega (arith, i .enough);
-          records = kept-records;
+          number = more ∙ ap₂ (λ (m n : ℕ). cond (acceptedReset e) 0 (min m (n + 1))) (i .slots) (i .number);
+          enough = either (λ n. n ≤ suc (length (s .events))) (acceptedReset e) _ _ (omega arith) (omega (arith, i .enough));
+          records = split (acceptedReset e) (λ r k l. let l′ : k < 0 = rw (more, r) at l in absurd (omega arith)) kept-records;
         }
 
   -- ---- a journal made empty
 
-  emptied-inv : (s : Standing) (j : List ℕ) → AllFit (s .events) → wrongLength j ≡ false → slotsOf j ≡ s .most
+  emptied-inv : (s : Standing) (j : List ℕ) → AllFine (s .events) → wrongLength j ≡ false → slotsOf j ≡ s .most
       → Inv (record { events = s .events; number = 0; most = s .most }) (emptied j)
-  unfolding Past
   emptied-inv s j f n m =
       record {
         fit = f;
@@ -200,55 +201,36 @@ module _ (id : ℕ) (small : id ≤ number.idMost) where
   -- ---- a step back that is granted
 
   after-drop : (k : ℕ) (es : List Event) → bytesAfter (drop k (drop 1 es)) ≡ bytesAfter (drop (suc k) es)
-  after-drop k es =
-      let n : 1 + k ≡ suc k = omega arith in
-      ap bytesAfter (drop-drop k 1 es ∙ ap (λ (m : ℕ). drop m es) n)
+  after-drop k es = let n : 1 + k ≡ suc k = omega arith in ap bytesAfter (drop-drop k 1 es ∙ ap (λ (m : ℕ). drop m es) n)
 
   module _ (s : Standing) (j : List ℕ) (i : Inv s j) (some : keptOf j ≡ 0 → ⊥) where
-    newest : TakesBack (past j 0) (bytesAfter (s .events)) (bytesAfter (drop 1 (s .events)))
-    unfolding Past
-    newest = i .records 0 (omega arith)
-
-    back-records : Past (lowered j) (drop 1 (s .events))
-    unfolding Past
-    back-records k l =
-        let l′ : k < keptOf j - 1 = subst (λ (n : ℕ). k < n) (lowered-kept j (i .well)) l in
-        rw (lowered-past j (i .well) k, after-drop k (s .events), after-drop (suc k) (s .events)) (i .records (suc k) (omega arith))
-
     back-inv : Inv (record { events = drop 1 (s .events); number = s .number - 1; most = s .most }) (lowered j)
     back-inv =
         record {
-          fit = drop-fit 1 (s .events) (i .fit);
+          fit = drop-fine (s .events) (i .fit);
           well = lowered-well j (i .well);
           slots = lowered-slots j (i .well) ∙ i .slots;
           number = lowered-kept j (i .well) ∙ ap (λ (n : ℕ). n - 1) (i .number);
           enough = simp length-drop (omega (arith, i .enough));
-          records = back-records;
+          records = λ k l.
+              let l′ : k < keptOf j - 1 = rw (lowered-kept j (i .well)) at l in
+              rw (lowered-past j (i .well) k, after-drop k (s .events), after-drop (suc k) (s .events)) (i .records (suc k) (omega arith));
         }
 
     back-granted : steppedBack (bytesAfter (s .events)) j ≡ stepped 17 (bytesAfter (drop 1 (s .events))) (lowered j)
-    unfolding bytesAfter
     back-granted =
+        let newest : TakesBack (past j 0) (bytesAfter (s .events)) (bytesAfter (drop 1 (s .events))) = i .records 0 (omega arith) in
         back-done (bytesAfter (s .events)) j (state-bytes (stateAfter id (s .events)) (after-good (s .events) (i .fit))) (i .well) some (newest .is-sound)
         ∙ ap (λ (b : List ℕ). stepped 17 b (lowered j)) (newest .restores)
 
   -- ---- one call
 
-  record Told (s : Standing) (j : List ℕ) (k : Call) : Type 0 where
-    gives-eq : givesOurs (pair s j) k ≡ told id s k
-    same : refuses (told id s k) ≡ true → leavesOurs (pair s j) k ≡ pair s j
-
-  as-told : (s : Standing) (j : List ℕ) (k : Call) (g : Given) → told id s k ≡ g → givesOurs (pair s j) k ≡ g
-      → (refuses g ≡ true → leavesOurs (pair s j) k ≡ pair s j) → Told s j k
-  as-told s j k g e h u = record { gives-eq = h ∙ sym e; same = λ q. u (ap refuses (sym e) ∙ q) }
-
-  record Step (s : Standing) (j : List ℕ) (k : Call) : Type 0 where
+  -- what it gives and leaves is the text's, and the invariant stays
+  record Turn (s : Standing) (j : List ℕ) (k : Call) : Type 0 where
     next : List ℕ
+    gives-eq : givesOurs (pair s j) k ≡ told id s k
     leaves-eq : leavesOurs (pair s j) k ≡ pair (keeps s k) next
-    inv : Inv (keeps s k) next
-
-  stepsTo : (s : Standing) (j : List ℕ) (k : Call) (s′ : Standing) (j′ : List ℕ) → keeps s k ≡ s′ → leavesOurs (pair s j) k ≡ pair s′ j′ → Inv s′ j′ → Step s j k
-  stepsTo s j k s′ j′ e h i = record { next = j′; leaves-eq = rw e h; inv = rw e i }
+    inv : OfItsTypes k → Inv (keeps s k) next
 
   module _ (s : Standing) (j : List ℕ) (i : Inv s j) where
     abbrev now : Adapter
@@ -257,118 +239,47 @@ module _ (id : ℕ) (small : id ≤ number.idMost) where
     is-good : Good now
     is-good = after-good (s .events) (i .fit)
 
-    module _ (e : Event) (o : List ℕ) where
-      module _ (h : refused e o ≡ true) where
-        refused-leaves : leavesOurs (pair s j) (event e o) ≡ pair s j
-        unfolding pair bytesAfter
-        refused-leaves = ap (λ (x : Outcome). handed (x .state) (x .journal)) (is-refused now is-good j (i .well) e o h)
+    turns : (k : Call) (s′ : Standing) (j′ : List ℕ) → givesOurs (pair s j) k ≡ told id s k → keeps s k ≡ s′
+        → leavesOurs (pair s j) k ≡ pair s′ j′ → (OfItsTypes k → Inv s′ j′) → Turn s j k
+    turns k s′ j′ gives e leaves inv = record { next = j′; gives-eq = gives; leaves-eq = rw e leaves; inv = λ t. rw e (inv t) }
 
-        refused-told : Told s j (event e o)
-        unfolding pair bytesAfter
-        refused-told =
-            as-told s j (event e o) (bare (refusal e o) o) (rw h refl)
-            (ap (λ (x : Outcome). given (x .answer) (x .output)) (is-refused now is-good j (i .well) e o h)) (λ _. refused-leaves)
+    event-turn : (e : Event) (o : List ℕ) → Turn s j (event e o)
+    event-turn e o =
+        split (refused e o)
+        (λ h.
+        let x = is-refused now is-good j (i .well) e o h in
+        turns (event e o) s j (ap (λ (y : Outcome). given (y .answer) (y .output)) x ∙ rw h refl) (rw h refl)
+        (ap (λ (y : Outcome). handed (y .state) (y .journal)) x) (λ t. i))
+        (λ h.
+        let x = is-done now is-good j (i .well) e o h in
+        turns (event e o) _ _ (ap (λ (y : Outcome). given (y .answer) (y .output)) x ∙ rw h refl) (rw h refl)
+        (ap (λ (y : Outcome). handed (y .state) (y .journal)) x) (λ t. recorded-inv s j i e (fine e o t h)))
 
-        refused-step : Step s j (event e o)
-        refused-step = stepsTo s j (event e o) s j (rw h refl) refused-leaves i
+    back-turn : Turn s j back
+    back-turn =
+        let n : keptOf j ≡ s .number = i .number in
+        ⊎-elim
+        (λ (z : keptOf j ≡ 0).
+        let e : eqb (s .number) 0 ≡ true = eq-eqb (s .number) 0 (sym n ∙ z) in
+        let x = back-refused (stateBytes now) j (state-bytes now is-good) (i .well) z in
+        turns back s j (ap (λ (y : Stepped). bare (y .number) []) x ∙ rw e refl) (rw e refl) (ap (λ (y : Stepped). handed (y .state) (y .journal)) x) (λ t. i))
+        (λ (some : 0 < keptOf j).
+        let e : eqb (s .number) 0 ≡ false = ne-eqb (s .number) 0 (λ q. omega arith) in
+        let x = back-granted s j i (λ z. omega arith) in
+        turns back _ _ (ap (λ (y : Stepped). bare (y .number) []) x ∙ rw e refl) (rw e refl) (ap (λ (y : Stepped). handed (y .state) (y .journal)) x)
+        (λ t. back-inv s j i (λ z. omega arith)))
+        (eq-zero-or-pos (keptOf j))
 
-      module _ (h : refused e o ≡ false) where
-        done-leaves : leavesOurs (pair s j) (event e o) ≡ handed (stateBytes (reaction now e .adapter)) (recorded (bytesAfter (s .events)) e j)
-        unfolding pair bytesAfter
-        done-leaves = ap (λ (x : Outcome). handed (x .state) (x .journal)) (is-done now is-good j (i .well) e o h)
+    empty-turn : Turn s j empty
+    empty-turn =
+        let x = empty-done j (i .well .size) in
+        turns empty _ _ (ap (λ (y : Made). bare (y .number) []) x) refl (ap (λ (y : Made). handed (bytesAfter (s .events)) (y .bytes)) x)
+        (λ t. emptied-inv s j (i .fit) (i .well .size) (i .slots))
 
-        done-told : Told s j (event e o)
-        unfolding pair bytesAfter
-        done-told =
-            as-told s j (event e o) (answered (reaction now e) o) (rw h refl)
-            (ap (λ (x : Outcome). given (x .answer) (x .output)) (is-done now is-good j (i .well) e o h))
-            (λ q. absurd (not-one-to-ten _ (number-given now e) q))
-
-        module _ (t : OfItsTypes (event e o)) where
-          reset-step : acceptedReset e ≡ true → Step s j (event e o)
-          unfolding pair bytesAfter AllFit
-          reset-step r =
-              stepsTo s j (event e o) (record { events = e ∷ s .events; number = 0; most = s .most }) (emptied j) (simp (h, r)) (done-leaves ∙ simp r)
-              (emptied-inv (record { events = e ∷ s .events; number = 0; most = s .most }) j (fits e o t h, i .fit) (i .well .size) (i .slots))
-
-          kept-step : acceptedReset e ≡ false → Step s j (event e o)
-          unfolding pair bytesAfter after
-          kept-step r =
-              stepsTo s j (event e o) (record { events = e ∷ s .events; number = min (s .most) (s .number + 1); most = s .most })
-              (after s j i e (fits e o t h) r) (simp (h, r)) done-leaves
-              (kept-inv s j i e (fits e o t h) r)
-
-      event-told : Told s j (event e o)
-      event-told = go (refused e o) refl
-        where
-          go : (b : Bool) → refused e o ≡ b → Told s j (event e o)
-          go true h = refused-told h
-          go false h = done-told h
-
-      event-step : OfItsTypes (event e o) → Step s j (event e o)
-      event-step t = go (refused e o) refl (acceptedReset e) refl
-        where
-          go : (b : Bool) → refused e o ≡ b → (r : Bool) → acceptedReset e ≡ r → Step s j (event e o)
-          go true h r q = refused-step h
-          go false h true q = reset-step h t q
-          go false h false q = kept-step h t q
-
-    module _ (z : keptOf j ≡ 0) where
-      zero-number : s .number ≡ 0
-      zero-number = sym (i .number) ∙ z
-
-      back-none : steppedBack (bytesAfter (s .events)) j ≡ stepped 5 (bytesAfter (s .events)) j
-      unfolding bytesAfter
-      back-none = back-refused (stateBytes now) j (state-bytes now is-good) (i .well) z
-
-      zero-leaves : leavesOurs (pair s j) back ≡ pair s j
-      unfolding pair
-      zero-leaves = ap (λ (x : Stepped). handed (x .state) (x .journal)) back-none
-
-      zero-told : Told s j back
-      unfolding pair
-      zero-told =
-          as-told s j back (bare 5 []) (simp (eq-eqb _ _ zero-number)) (ap (λ (x : Stepped). bare (x .number) []) back-none) (λ _. zero-leaves)
-
-      zero-step : Step s j back
-      zero-step = stepsTo s j back s j (simp (eq-eqb _ _ zero-number)) zero-leaves i
-
-    module _ (z : keptOf j ≡ 0 → ⊥) where
-      some-number : s .number ≡ 0 → ⊥
-      some-number q = z (i .number ∙ q)
-
-      granted-told : Told s j back
-      unfolding pair
-      granted-told =
-          as-told s j back (bare 17 []) (simp (ne-eqb _ _ some-number)) (ap (λ (x : Stepped). bare (x .number) []) (back-granted s j i z))
-          (λ q. absurd (false≢true q))
-
-      granted-step : Step s j back
-      unfolding pair
-      granted-step =
-          stepsTo s j back (record { events = drop 1 (s .events); number = s .number - 1; most = s .most }) (lowered j) (simp (ne-eqb _ _ some-number))
-          (ap (λ (x : Stepped). handed (x .state) (x .journal)) (back-granted s j i z)) (back-inv s j i z)
-
-    empty-told : Told s j empty
-    unfolding pair
-    empty-told = as-told s j empty (bare 17 []) refl (ap (λ (x : Made). bare (x .number) []) (empty-done j (i .well .size))) (λ q. absurd (false≢true q))
-
-    empty-step : Step s j empty
-    unfolding pair
-    empty-step =
-        stepsTo s j empty (record { events = s .events; number = 0; most = s .most }) (emptied j) refl
-        (ap (λ (x : Made). handed (bytesAfter (s .events)) (x .bytes)) (empty-done j (i .well .size)))
-        (emptied-inv s j (i .fit) (i .well .size) (i .slots))
-
-    say : (k : Call) → Told s j k
-    say (event e o) = event-told e o
-    say back = ⊎-elim zero-told (λ pos. granted-told (λ z. omega arith)) (eq-zero-or-pos (keptOf j))
-    say empty = empty-told
-
-    step : (k : Call) → OfItsTypes k → Step s j k
-    step (event e o) t = event-step e o t
-    step back t = ⊎-elim zero-step (λ pos. granted-step (λ z. omega arith)) (eq-zero-or-pos (keptOf j))
-    step empty t = empty-step
+    turn : (k : Call) → Turn s j k
+    turn (event e o) = event-turn e o
+    turn back = back-turn
+    turn empty = empty-turn
 
   -- ---- every run
 
@@ -380,26 +291,29 @@ module _ (id : ℕ) (small : id ≤ number.idMost) where
   whole : (ks : List Call) (s : Standing) (j : List ℕ) → Inv s j → AllOfTheirTypes ks → Whole s j ks
   whole [] s j i t = record { last = j; left-eq = refl; inv = i }
   whole (k ∷ ks) s j i t =
-      let x = step s j i k (t .0) in
-      let w = whole ks (keeps s k) (x .next) (x .inv) (t .1) in
+      let x = turn s j i k in
+      let w = whole ks (keeps s k) (x .next) (x .inv (t .0)) (t .1) in
       record { last = w .last; left-eq = ap (λ (p : Handed). foldl leavesOurs p ks) (x .leaves-eq) ∙ w .left-eq; inv = w .inv }
 
 -- ---- the start
 
 -- any chip ID that `create` accepts
 pub accepted-id : (s : List ℕ) (id : ℕ) → created s id .number ≡ number.noFrame → id ≤ 0xFFFFFF
-unfolding created
-accepted-id s id h = go (eqb (length s) stateSize) refl (ltb 0xFFFFFF id) refl
-  where
-    go : (a : Bool) → eqb (length s) stateSize ≡ a → (b : Bool) → ltb 0xFFFFFF id ≡ b → id ≤ 0xFFFFFF
-    go false d b e = absurd (eqb-false 6 17 refl (rw d at h))
-    go true d true e = absurd (eqb-false 7 17 refl (rw (d, e) at h))
-    go true d false e = ltb-false 0xFFFFFF id e
+accepted-id s id =
+    create-cases s id (λ m. m .number ≡ number.noFrame → id ≤ 0xFFFFFF) (λ n r h. absurd (omega (arith, refusal-most n r))) (λ fits h. fits)
 
 -- A NEW ADAPTER is the same in any bytes of a state's length.
 pub any-bytes : (s : List ℕ) (id : ℕ) → length s ≡ stateSize → id ≤ 0xFFFFFF → created s id ≡ made number.noFrame (stateBytes (powerOn id))
 unfolding created
 any-bytes s id n h = rw (eq-eqb (length s) stateSize n, le-ltb 0xFFFFFF id h) refl
+
+-- a refused call leaves the pair and the output, whatever it was handed
+refused-same : (p : Handed) (k : Call) → refuses (givesOurs p k) ≡ true → (leavesOurs p k ≡ p) × (givesOurs p k .output ≡ lent k)
+refused-same p (event e o) h =
+    let x = event-unchanged (p .state) (p .journal) e o h in
+    (ap (λ (y : Outcome). handed (y .state) (y .journal)) x, ap (λ (y : Outcome). y .output) x)
+refused-same p back h = (ap (λ (y : Stepped). handed (y .state) (y .journal)) (back-unchanged (p .state) (p .journal) h), refl)
+refused-same p empty h = (ap (handed (p .state)) (empty-unchanged (p .journal) h), refl)
 
 -- after every run, the pair and the invariant
 module _ (r : Run) where
@@ -407,67 +321,49 @@ module _ (r : Run) where
   first = atStart (slotsOf (r .bytes))
 
   start-eq : ours .start (r .id) (r .bytes) ≡ pair (r .id) (r .id-fits) first (emptied (r .bytes))
-  unfolding pair bytesAfter
   start-eq =
       rw (any-bytes (replicate stateSize 0) (r .id) (length-replicate {A = ℕ} stateSize 0) (r .id-fits), empty-done (r .bytes) (r .size)) refl
 
   run-whole : Whole (r .id) (r .id-fits) first (emptied (r .bytes)) (r .calls)
-  unfolding AllFit
   run-whole =
       whole (r .id) (r .id-fits) (r .calls) first (emptied (r .bytes)) (emptied-inv (r .id) (r .id-fits) first (r .bytes) tt (r .size) refl) (r .typed)
 
-  last : List ℕ
+  abbrev last : List ℕ
   last = run-whole .last
 
   at-end : left ours r ≡ pair (r .id) (r .id-fits) (standing r) last
-  unfolding last
   at-end = ap (λ (p : Handed). foldl leavesOurs p (r .calls)) start-eq ∙ run-whole .left-eq
 
   inv-end : Inv (r .id) (r .id-fits) (standing r) last
-  unfolding last
   inv-end = run-whole .inv
 
   kept-end : keptIn (left ours r .journal) ≡ record { number = number.noFrame; kept = standing r .number }
-  unfolding keptIn pair
+  unfolding keptIn
   kept-end = rw at-end (simp (well-of (inv-end .well), inv-end .number))
 
-  said-end : (k : Call) → Told (r .id) (r .id-fits) (standing r) last k
-  said-end k = say (r .id) (r .id-fits) (standing r) last inv-end k
+  turn-end : (k : Call) → Turn (r .id) (r .id-fits) (standing r) last k
+  turn-end k = turn (r .id) (r .id-fits) (standing r) last inv-end k
 
   gives-end : (k : Call) → givesOurs (left ours r) k ≡ told (r .id) (standing r) k
-  gives-end k = ap (λ (p : Handed). givesOurs p k) at-end ∙ said-end k .gives-eq
+  gives-end k = ap (λ (p : Handed). givesOurs p k) at-end ∙ turn-end k .gives-eq
 
   -- ---- what the text never says
 
-  abbrev Fine : ℕ → Type 0
-  Fine n = (n ≡ 4 → ⊥) × (n ≡ 6 → ⊥)
+  abbrev Undamaged : ℕ → Type 0
+  Undamaged n = (n ≡ 4 → ⊥) × (n ≡ 6 → ⊥)
 
-  fine : (n : ℕ) → (n ≡ 0) ⊎ ((11 ≤ n) × (n ≤ 17)) → Fine n
-  fine n (inl z) = (λ e. omega arith, λ e. omega arith)
-  fine n (inr l) = (λ e. omega arith, λ e. omega arith)
+  undamaged : (n : ℕ) → (n ≡ 0) ⊎ ((11 ≤ n) × (n ≤ 17)) → Undamaged n
+  undamaged n (inl z) = omega arith
+  undamaged n (inr l) = omega arith
 
-  number-fine : (n : ℕ) → eqb n 4 ≡ false → eqb n 6 ≡ false → Fine n
-  number-fine n h k = (eqb-false n 4 h, eqb-false n 6 k)
-
-  own-fine : (short argument body : Bool) → Fine (cond short 1 (cond argument 3 (cond body 2 0)))
-  own-fine short argument body =
-      either Fine short _ _ (number-fine 1 refl refl)
-      (either Fine argument _ _ (number-fine 3 refl refl) (either Fine body _ _ (number-fine 2 refl refl) (number-fine 0 refl refl)))
-
-  never : (k : Call) → Fine (told (r .id) (standing r) k .number)
+  never : (k : Call) → Undamaged (told (r .id) (standing r) k .number)
   never (event e o) =
-      either (λ (g : Given). Fine (g .number)) (refused e o) _ _ (own-fine (ltb (length o) 16) (wrongArgument e) (wrongBody e))
-      (fine _ (number-given (dueState r) e))
-  never back = either (λ (g : Given). Fine (g .number)) (eqb (standing r .number) 0) _ _ (number-fine 5 refl refl) (number-fine 17 refl refl)
-  never empty = number-fine 17 refl refl
-
-  -- a refused call's output
-  output-same : (k : Call) → refuses (told (r .id) (standing r) k) ≡ true → told (r .id) (standing r) k .output ≡ lent k
-  output-same (event e o) =
-      either (λ (g : Given). refuses g ≡ true → g .output ≡ o) (refused e o) _ _ (λ h. refl)
-      (λ h. absurd (not-one-to-ten _ (number-given (dueState r) e) h))
-  output-same back = either (λ (g : Given). refuses g ≡ true → g .output ≡ []) (eqb (standing r .number) 0) _ _ (λ h. refl) (λ h. refl)
-  output-same empty = λ h. refl
+      either (λ (g : Given). Undamaged (g .number)) (refused e o) _ _
+      (either Undamaged (ltb (length o) 16) _ _ (omega arith)
+      (either Undamaged (wrongArgument e) _ _ (omega arith) (either Undamaged (wrongBody e) _ _ (omega arith) (omega arith))))
+      (undamaged _ (number-given (dueState r) e))
+  never back = either (λ (g : Given). Undamaged (g .number)) (eqb (standing r .number) 0) _ _ (omega arith) (omega arith)
+  never empty = omega arith
 
   -- ---- the sentences
 
@@ -476,42 +372,32 @@ module _ (r : Run) where
 
   zero-back : keptIn (left ours r .journal) .kept ≡ 0 → (givesOurs (left ours r) back ≡ bare 5 []) × (leavesOurs (left ours r) back ≡ left ours r)
   zero-back z =
-      let e : eqb (standing r .number) 0 ≡ true = eq-eqb _ _ (sym number-end ∙ z) in (
-        gives-end back ∙ rw e refl,
-        ap (λ (p : Handed). leavesOurs p back) at-end ∙ said-end back .same (rw e refl) ∙ sym at-end,
-      )
+      let e : eqb (standing r .number) 0 ≡ true = eq-eqb _ _ (sym number-end ∙ z) in
+      let g : givesOurs (left ours r) back ≡ bare 5 [] = gives-end back ∙ rw e refl in
+      (g, refused-same (left ours r) back (ap refuses g) .0)
 
   some-back : (keptIn (left ours r .journal) .kept ≡ 0 → ⊥)
       → (givesOurs (left ours r) back ≡ bare 17 []) × (stateIn (leavesOurs (left ours r) back .state) ≡ stateAfter (r .id) (drop 1 (standing r .events)))
-  unfolding pair bytesAfter
   some-back z =
       let e : eqb (standing r .number) 0 ≡ false = ne-eqb _ _ (λ q. z (number-end ∙ q)) in
-      let x = step (r .id) (r .id-fits) (standing r) last inv-end back tt in (
+      let x = turn-end back in (
         gives-end back ∙ rw e refl,
         ap (λ (p : Handed). stateIn (leavesOurs p back .state)) at-end ∙ ap (λ (p : Handed). stateIn (p .state)) (x .leaves-eq)
-            ∙ state-back _ (after-good (r .id) (r .id-fits) _ (x .inv .fit) .registers .fits .long) ∙ rw e refl,
-      )
-
-  refused-same : (k : Call) → refuses (givesOurs (left ours r) k) ≡ true → (leavesOurs (left ours r) k ≡ left ours r) × (givesOurs (left ours r) k .output ≡ lent k)
-  refused-same k h =
-      let q : refuses (told (r .id) (standing r) k) ≡ true = ap refuses (sym (gives-end k)) ∙ h in (
-        ap (λ (p : Handed). leavesOurs p k) at-end ∙ said-end k .same q ∙ sym at-end,
-        ap (λ (g : Given). g .output) (gives-end k) ∙ output-same k q,
+            ∙ spelled (r .id) (r .id-fits) (keeps (standing r) back .events) (x .inv tt .fit) ∙ rw e refl,
       )
 
 -- DEMAND 3 HOLDS of the delivered calls: for every chip ID that `create` accepts, all bytes of a journal's length made empty, every list of calls.
 pub demand3 : Demand3 ours
-unfolding pair bytesAfter
 demand3 =
     record {
       undamaged = λ r k. rw (gives-end r k) (never r k);
-      state = λ r. ap (λ (p : Handed). stateIn (p .state)) (at-end r) ∙ state-back (dueState r) (after-good (r .id) (r .id-fits) (standing r .events) (inv-end r .fit) .registers .fits .long);
+      state = λ r. ap (λ (p : Handed). stateIn (p .state)) (at-end r) ∙ spelled (r .id) (r .id-fits) (standing r .events) (inv-end r .fit);
       reply = λ r e output. gives-end r (event e output);
       takes-back = λ r. some-back r;
       refused-at-zero = λ r. zero-back r;
       kept = λ r. kept-end r;
       empties = λ r. gives-end r empty;
-      unchanged = λ r k h. refused-same r k h;
+      unchanged = λ r k h. refused-same (left ours r) k h;
     }
 
 -- The chip's ID is the one that the adapter was created with, whatever was called.
@@ -544,3 +430,7 @@ at-most-slots r =
 
 pub at-most-64 : (r : Run) → standing r .number ≤ 64
 at-most-64 r = let m = at-most-slots r in omega (arith, always-64 (r .bytes) (r .size))
+
+-- the standing events are of their types, and each passes alone
+pub standing-fine : (r : Run) → AllFine (standing r .events)
+standing-fine r = inv-end r .fit

@@ -46,25 +46,7 @@ module _ (a : Adapter) (port x c d : ℕ) (info : List ℕ) where
   pub high-bits-not-read : inLoopback (a .link) port ≡ false → bitOf c 0 ≡ false → bitOf d 0 ≡ false → numberIn c ≡ numberIn d
       → reaction a (frame port (x ∷ c ∷ info)) ≡ reaction a (frame port (x ∷ d ∷ info))
   unfolding reaction onFrame addressed carried numbered
-  high-bits-not-read l e f n =
-      simp (
-        l,
-        e,
-        f,
-        odd c 0x2F refl e,
-        odd c 0x3F refl e,
-        odd c 0x8F refl e,
-        odd c 0x9F refl e,
-        odd c 0xE3 refl e,
-        odd c 0xF3 refl e,
-        odd d 0x2F refl f,
-        odd d 0x3F refl f,
-        odd d 0x8F refl f,
-        odd d 0x9F refl f,
-        odd d 0xE3 refl f,
-        odd d 0xF3 refl f,
-        n,
-      )
+  high-bits-not-read l e f n = simp (l, odd, e, f, n)
 
 -- ---- "An upset adds 1 to a 32-bit counter that wraps to 0, and gives 17."
 

@@ -1,7 +1,7 @@
 -- WHAT DEMAND 3 SHUTS OUT: document 01's wrong adapters ("Strength of the promises"). First, for any calls at all, the kind of wrongness
 -- that no run forgives; then each wrong adapter, made from the delivered calls with one thing changed.
 use Prim.Native.Nat.{ℕ, zero, suc, _+_, _≤_, _<_}
-use mathlib.Core.Path.{_≡_, refl, sym, ap, _∙_}
+use mathlib.Core.Path.{_≡_, refl, ap, _∙_}
 use mathlib.Core.List.{List, [], _∷_, foldl}
 use mathlib.Core.Bool.{Bool, false, cond, _||_}
 use native.Mathlib.Omega.{arith}
@@ -31,13 +31,12 @@ zeros = replicate 17408 0
 as-long : length zeros ≡ 17408
 as-long = length-replicate {A = ℕ} 17408 0
 
-ran : (calls : List Call) → AllOfTheirTypes calls → Run
+abbrev ran : (calls : List Call) → AllOfTheirTypes calls → Run
 ran calls typed =
     record { id = 0x00000A; id-fits = lit≤ tt; bytes = zeros; size = any-17408 zeros as-long; calls = calls; typed = typed }
 
 -- of which at most 64 are kept
 ran-standing : (calls : List Call) (typed : AllOfTheirTypes calls) → standing (ran calls typed) ≡ foldl keeps (atStart 64) calls
-unfolding ran
 ran-standing calls typed = ap (λ (most : ℕ). foldl keeps (atStart most) calls) (slots-64 zeros as-long)
 
 abbrev pub output : List ℕ
@@ -57,16 +56,16 @@ reset-bytes zero = lit< tt
 reset-bytes (suc zero) = lit< tt
 reset-bytes (suc (suc i)) = lit< tt
 
-at-start : Run
+abbrev at-start : Run
 at-start = ran [] tt
 
-after-upset : Run
+abbrev after-upset : Run
 after-upset = ran (upset-call ∷ []) (tt, tt)
 
-after-back : Run
+abbrev after-back : Run
 after-back = ran (upset-call ∷ back ∷ []) (tt, (tt, tt))
 
-after-reset : Run
+abbrev after-reset : Run
 after-reset = ran (event reset output ∷ []) (reset-bytes, tt)
 
 abbrev pub start-of : (c : Calls) → c .Pair
@@ -78,93 +77,72 @@ start-of c = c .start 0x00000A (replicate 17408 0)
 abbrev upsets : Adapter → ℕ
 upsets a = read (a .registers) Seu
 
+abbrev numberOf : Given → ℕ
+numberOf g = g .number
+
 module _ (c : Calls) (d : Demand3 c) where
   -- the start, and the state after an upset
   state-at-start : c .state (start-of c) ≡ powerOn 0x00000A
-  unfolding at-start ran
   state-at-start = d .state at-start
 
   state-after-upset : upsets (c .state (c .leaves (start-of c) upset-call)) ≡ 1
-  unfolding after-upset ran reaction onUpset poweredOn read store part put number digits
+  unfolding reaction onUpset poweredOn read store part put number digits
   state-after-upset = ap upsets (d .state after-upset)
 
   -- answers to the first event
   upset-first : c .gives (start-of c) upset-call .number ≡ 17
-  unfolding at-start ran reaction onUpset
-  upset-first = ap (λ (g : Given). g .number) (d .reply at-start upset output)
+  unfolding reaction onUpset
+  upset-first = ap numberOf (d .reply at-start upset output)
 
   connect-first : c .gives (start-of c) (event connect output) .number ≡ 0
-  unfolding at-start ran reaction onFrame addressed commanded
-  connect-first = ap (λ (g : Given). g .number) (d .reply at-start connect output)
+  unfolding reaction onFrame addressed commanded
+  connect-first = ap numberOf (d .reply at-start connect output)
 
   -- and to the second
   connect-second : c .gives (c .leaves (start-of c) upset-call) (event connect output) .number ≡ 0
-  unfolding after-upset ran reaction onFrame addressed commanded
-  connect-second = ap (λ (g : Given). g .number) (d .reply after-upset connect output)
+  unfolding reaction onFrame addressed commanded
+  connect-second = ap numberOf (d .reply after-upset connect output)
 
   -- refuse every event
   pub refuses-all : ((p : c .Pair) (e : Event) (o : List ℕ) → c .gives p (event e o) .number ≤ 10) → ⊥
-  refuses-all h = let n = h (start-of c) upset output in let u = upset-first in omega arith
+  refuses-all h = omega (arith, h (start-of c) upset output, upset-first)
 
   -- give every event one reply
   pub one-reply : (g : Given) → ((p : c .Pair) (e : Event) (o : List ℕ) → c .gives p (event e o) ≡ g) → ⊥
-  one-reply g h =
-      let u : g .number ≡ 17 = ap (λ (x : Given). x .number) (sym (h (start-of c) upset output)) ∙ upset-first in
-      let v : g .number ≡ 0 = ap (λ (x : Given). x .number) (sym (h (start-of c) connect output)) ∙ connect-first in
-      omega arith
+  one-reply g h = omega (arith, upset-first, connect-first, ap numberOf (h (start-of c) upset output), ap numberOf (h (start-of c) connect output))
 
   -- leave the state as it came
   pub state-stays : ((p : c .Pair) (e : Event) (o : List ℕ) → c .state (c .leaves p (event e o)) ≡ c .state p) → ⊥
   unfolding poweredOn read store part put number digits
-  state-stays h =
-      let z : upsets (c .state (start-of c)) ≡ 0 = ap upsets state-at-start in
-      let s : upsets (c .state (c .leaves (start-of c) upset-call)) ≡ upsets (c .state (start-of c)) = ap upsets (h (start-of c) upset output) in
-      let u = state-after-upset in
-      omega arith
+  state-stays h = omega (arith, state-after-upset, ap upsets state-at-start, ap upsets (h (start-of c) upset output))
 
   -- give a second event the first one's reply
   pub copied-reply : ((e e′ : Event) (o : List ℕ) → c .gives (c .leaves (start-of c) (event e o)) (event e′ o) ≡ c .gives (start-of c) (event e o)) → ⊥
-  copied-reply h =
-      let s : c .gives (c .leaves (start-of c) upset-call) (event connect output) .number ≡ c .gives (start-of c) upset-call .number =
-      ap (λ (g : Given). g .number) (h upset connect output) in
-      let u = upset-first in
-      let v = connect-second in
-      omega arith
+  copied-reply h = omega (arith, upset-first, connect-second, ap numberOf (h upset connect output))
 
   -- step back and leave the state
   pub back-stays : ((p : c .Pair) → c .state (c .leaves p back) ≡ c .state p) → ⊥
-  unfolding after-back ran poweredOn read store part put number digits
+  unfolding poweredOn read store part put number digits
   back-stays h =
       let z : upsets (c .state (c .leaves (c .leaves (start-of c) upset-call) back)) ≡ 0 =
       ap upsets (d .state after-back)
       ∙ ap (λ (s : Standing). upsets (stateAfter 0x00000A (s .events))) (ran-standing (upset-call ∷ back ∷ []) (tt, (tt, tt))) in
-      let s : upsets (c .state (c .leaves (c .leaves (start-of c) upset-call) back)) ≡ upsets (c .state (c .leaves (start-of c) upset-call)) =
-      ap upsets (h (c .leaves (start-of c) upset-call)) in
-      let u = state-after-upset in
-      omega arith
+      omega (arith, state-after-upset, ap upsets (h (c .leaves (start-of c) upset-call)))
 
   -- show one kept number
   pub kept-stays : (n : ℕ) → ((p : c .Pair) → c .kept p .kept ≡ n) → ⊥
-  unfolding at-start after-upset ran
   kept-stays n h =
-      let z : c .kept (left c at-start) .kept ≡ 0 = ap (λ (k : KeptNumber). k .kept) (d .kept at-start) in
       let o : c .kept (left c after-upset) .kept ≡ 1 =
       ap (λ (k : KeptNumber). k .kept) (d .kept after-upset) ∙ ap (λ (s : Standing). s .number) (ran-standing (upset-call ∷ []) (tt, tt)) in
-      let s = h (left c at-start) in
-      let t = h (left c after-upset) in
-      omega arith
+      omega (arith, ap (λ (k : KeptNumber). k .kept) (d .kept at-start), h (left c at-start), h (left c after-upset))
 
   -- count a RESET as another event
   pub kept-through-reset : ((p : c .Pair) (e : Event) → c .kept (c .leaves p (event e output)) .kept ≡ c .kept p .kept + 1) → ⊥
-  unfolding after-reset ran isResetFrame
-  kept-through-reset h =
-      let z : c .kept (left c after-reset) .kept ≡ 0 = ap (λ (k : KeptNumber). k .kept) (d .kept after-reset) in
-      let s = h (c .start 0x00000A (replicate 17408 0)) reset in
-      omega arith
+  unfolding isResetFrame
+  kept-through-reset h = omega (arith, ap (λ (k : KeptNumber). k .kept) (d .kept after-reset), h (start-of c) reset)
 
   -- call the journal damaged after a RESET
   pub damaged-by-reset : ((p : c .Pair) (k : Call) → c .gives (c .leaves p (event reset output)) k .number ≡ 4) → ⊥
-  unfolding after-reset ran
   damaged-by-reset h = d .undamaged after-reset upset-call .0 (h (c .start 0x00000A (replicate 17408 0)) upset-call)
 
   -- have one state

@@ -5,17 +5,18 @@ use mathlib.Core.Logic.{⊎-elim, inl, inr}
 use mathlib.Core.List.{List, [], _∷_, _++_, foldl}
 use Prim.Native.Nat.{ℕ, zero, suc, _+_, _-_, _%_, _≤_, _<_, min}
 use native.Mathlib.Nat.{eq-or-lt-of-le}
+use lib.Pow.{pow-pos}
 use native.Mathlib.Omega.{arith}
 use borrow.Author.Tests.{le-leb, eqb-true, ltb-true, ltb-false}
 use lib.Dec.{eqb, ltb, lit≤}
 use lib.ListN.{length, take, drop, replicate, length-append, length-take, length-drop, length-replicate, take-append-drop}
 use lib.Seq.{take-at, drop-at}
-use Rattle.wire.specs.Bits.{wire, num, pack}
+use Rattle.wire.specs.Bits.{low, wire, num, pack}
 use Rattle.receiver.specs.Receiver.{State, push, next, view, image, fieldsFit, inRange}
 use Rattle.receiver.specs.Receive.{reading}
 use Rattle.receiver.specs.declared.Receiver.{Receiver}
-use Rattle.wire.proofs.Bits.{Bit, AreBits, AreBytes, none, more, bits-append, bits-take, bits-drop, bits-wire, bits-zeros, length-wire, length-pack, pack-wire, wire-pack}
-use Rattle.bits.proofs.Tests.{both}
+use Rattle.wire.proofs.Bits.{Bit, AreBits, AreBytes, none, more, bits-append, bits-take, bits-drop, bits-wire, bits-zeros, length-wire, num-low, low-num, length-pack, pack-wire, wire-pack}
+use Rattle.bits.proofs.Tests.{both, cond-cases, either}
 use Rattle.receiver.proofs.Fields.{Fields, fields}
 use Rattle.promises.specs.Wire.{hunter}
 use Rattle.promises.proofs.Steps.{split}
@@ -26,6 +27,15 @@ pub data Held : State → Type 0 where
   hunts-on : {j : ℕ} → j ≤ 7 → Held (hunter j)
   frames : {k l : ℕ} {c : List ℕ} → k ≤ 6 → l ≤ 1 → length c ≤ 152 → l + min k 5 ≤ length c → AreBits c
       → Held (record { mode = 1; ones = k; lead = l; content = c })
+
+-- a state that arises and hunts
+pub record HuntedState (s : State) : Type 0 where
+  pub few : s .ones ≤ 7
+  pub same : s ≡ hunter (s .ones)
+
+pub hunted-state : {s : State} → Held s → s .mode ≡ 0 → HuntedState s
+hunted-state (hunts-on h) m = record { few = h; same = refl }
+hunted-state (frames hk hl hc h bits) m = absurd (omega arith)
 
 -- ---- kept by every bit
 
@@ -43,43 +53,26 @@ pushes c b h hc hb =
     (record { most = simp length-append (omega arith); least = simp length-append (omega arith); bits = bits-append hc (more hb none) }))
     (λ e. let l : 152 ≤ length c = ltb-false (length c) 152 e in rw e (record { most = h; least = omega arith; bits = hc }))
 
-hunter-zero : (j : ℕ) → Held (next (hunter j) 0)
-hunter-zero j =
-    split (ltb j 5) (λ e. rw e (hunts-on (lit≤ tt)))
-    (λ e. split (eqb j 6) (λ f. rw (e, f) (frames (lit≤ tt) (lit≤ tt) (lit≤ tt) (lit≤ tt) none)) (λ f. rw (e, f) (hunts-on (lit≤ tt))))
-
-hunter-one : (j : ℕ) → Held (next (hunter j) 1)
-hunter-one j =
-    split (ltb j 5) (λ e. let l : j < 5 = ltb-true j 5 e in rw e (hunts-on {j = j + 1} (omega arith)))
-    (λ e. split (eqb j 5) (λ f. rw (e, f) (hunts-on (lit≤ tt))) (λ f. rw (e, f) (hunts-on (lit≤ tt))))
-
-module _ (k l : ℕ) (c : List ℕ) (hk : k ≤ 6) (hl : l ≤ 1) (hc : length c ≤ 152) (h : l + min k 5 ≤ length c) (bits : AreBits c) where
-  frame-zero : Held (next (record { mode = 1; ones = k; lead = l; content = c }) 0)
-  frame-zero =
-      split (ltb k 5)
-      (λ e.
-      let p : Pushed c (push 1 c 0) = pushes c 0 hc bits (inl refl) in
-      let least : min (length c + 1) 152 ≤ length (push 1 c 0) = p .least in
-      rw e (frames {k = 0} {l = 1} {c = push 1 c 0} (lit≤ tt) (lit≤ tt) (p .most) (omega arith) (p .bits)))
-      (λ e. split (eqb k 6) (λ f. rw (e, f) (frames (lit≤ tt) (lit≤ tt) (lit≤ tt) (lit≤ tt) none))
-      (λ f. rw (e, f) (frames {k = 0} {l = 0} {c = c} (lit≤ tt) (lit≤ tt) hc (omega arith) bits)))
-
-  frame-one : Held (next (record { mode = 1; ones = k; lead = l; content = c }) 1)
-  frame-one =
-      split (ltb k 5)
-      (λ e.
-      let p : Pushed c (push 1 c 1) = pushes c 1 hc bits (inr refl) in
-      let least : min (length c + 1) 152 ≤ length (push 1 c 1) = p .least in
-      let k5 : k < 5 = ltb-true k 5 e in
-      rw e (frames {k = k + 1} {l = l} {c = push 1 c 1} (omega arith) hl (p .most) (omega arith) (p .bits)))
-      (λ e. split (eqb k 5) (λ f. let k5 : k ≡ 5 = eqb-true k 5 f in rw (e, f) (frames {k = 6} {l = l} {c = c} (lit≤ tt) hl hc (omega arith) bits))
-      (λ f. rw (e, f) (hunts-on (lit≤ tt))))
-
 pub held-next : {s : State} (b : ℕ) → Bit b → Held s → Held (next s b)
-held-next b (inl z) (hunts-on {j} h) = rw z (hunter-zero j)
-held-next b (inr z) (hunts-on {j} h) = rw z (hunter-one j)
-held-next b (inl z) (frames {k} {l} {c} hk hl hc h bits) = rw z (frame-zero k l c hk hl hc h bits)
-held-next b (inr z) (frames {k} {l} {c} hk hl hc h bits) = rw z (frame-one k l c hk hl hc h bits)
+held-next b (inl z) (hunts-on {j} h) =
+    rw z
+    (either Held (ltb j 5) _ _ (hunts-on (lit≤ tt))
+    (either Held (eqb j 6) _ _ (frames (lit≤ tt) (lit≤ tt) (lit≤ tt) (lit≤ tt) none) (hunts-on (lit≤ tt))))
+held-next b (inr z) (hunts-on {j} h) =
+    rw z
+    (cond-cases Held (ltb j 5) (λ e. let l : j < 5 = ltb-true j 5 e in hunts-on (omega arith))
+    (λ e. either Held (eqb j 5) _ _ (hunts-on (lit≤ tt)) (hunts-on (lit≤ tt))))
+held-next b (inl z) (frames {k} {l} {c} hk hl hc h bits) =
+    let p : Pushed c (push 1 c 0) = pushes c 0 hc bits (inl refl) in
+    rw z
+    (cond-cases Held (ltb k 5) (λ e. let least = p .least in frames (lit≤ tt) (lit≤ tt) (p .most) (omega arith) (p .bits))
+    (λ e. either Held (eqb k 6) _ _ (frames (lit≤ tt) (lit≤ tt) (lit≤ tt) (lit≤ tt) none) (frames (lit≤ tt) (lit≤ tt) hc (omega arith) bits)))
+held-next b (inr z) (frames {k} {l} {c} hk hl hc h bits) =
+    let p : Pushed c (push 1 c 1) = pushes c 1 hc bits (inr refl) in
+    rw z
+    (cond-cases Held (ltb k 5)
+    (λ e. let least = p .least in let k5 : k < 5 = ltb-true k 5 e in frames (omega arith) hl (p .most) (omega arith) (p .bits))
+    (λ e. cond-cases Held (eqb k 5) (λ f. let k5 : k ≡ 5 = eqb-true k 5 f in frames (lit≤ tt) hl hc (omega arith) bits) (λ f. hunts-on (lit≤ tt))))
 
 pub held-all : {bits : List ℕ} → AreBits bits → (s : State) → Held s → Held (foldl next s bits)
 held-all none s h = h
@@ -92,10 +85,13 @@ held-reading {bits = bits} hb s h =
 
 -- ---- the struct that stands for a state
 
+low-zeros : (n : ℕ) → low n 0 ≡ replicate n 0
+unfolding low
+low-zeros zero = refl
+low-zeros (suc n) = ap (λ (l : List ℕ). 0 ∷ l) (low-zeros n)
+
 num-zeros : (n : ℕ) → num (replicate n 0) ≡ 0
-unfolding num
-num-zeros zero = refl
-num-zeros (suc n) = rw (num-zeros n) refl
+num-zeros n = ap num (sym (low-zeros n)) ∙ num-low n 0 (pow-pos n)
 
 module _ (c : List ℕ) (h : length c ≤ 152) (bits : AreBits c) where
   abbrev spelled : List ℕ
@@ -127,10 +123,7 @@ view-image (frames {k} {l} {c} hk hl hc h bits) =
 pub image-inRange : {s : State} → Held s → inRange (image s) ≡ true
 unfolding inRange fieldsFit
 image-inRange (hunts-on {j} h) = rw (le-leb j 7 h, drop-spelled [] (lit≤ tt) none) refl
-image-inRange (frames {k} {l} {c} hk hl hc h bits) =
-    rw
-    (le-leb k 7 (omega arith), le-leb l 1 hl, le-leb (length c) 152 hc, le-leb k 6 hk, le-leb (l + min k 5) (length c) h, drop-spelled c hc bits)
-    refl
+image-inRange (frames {k} {l} {c} hk hl hc h bits) = let seven : k ≤ 7 = omega arith in simp (le-leb, drop-spelled c hc bits)
 
 pub image-size : {s : State} → Held s → length (image s .bytes) ≡ 20
 image-size (hunts-on {j} h) = size-spelled [] (lit≤ tt) none
@@ -152,12 +145,7 @@ module _ (r : Receiver) (h : inRange r ≡ true) where
   rest-zero = eqb-true (num (drop (r .count) (wire (r .bytes)))) 0 (both (fieldsFit (r .mode) (r .ones) (r .lead) (r .count)) _ h .1)
 
 zeros : {l : List ℕ} → AreBits l → num l ≡ 0 → l ≡ replicate (length l) 0
-unfolding num
-zeros none e = refl
-zeros {l = b ∷ bs} (more z hb) e =
-    let b0 : b ≡ 0 = omega arith in
-    let bs0 : num bs ≡ 0 = omega arith in
-    ap₂ (λ (x : ℕ) (xs : List ℕ). x ∷ xs) b0 (zeros hb bs0)
+zeros {l = l} h e = sym (low-num h) ∙ ap (low (length l)) e ∙ low-zeros (length l)
 
 module _ (r : Receiver) (h : inRange r ≡ true) (size : length (r .bytes) ≡ 20) where
   kept-length : length (take (r .count) (wire (r .bytes))) ≡ r .count

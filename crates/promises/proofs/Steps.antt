@@ -1,20 +1,22 @@
 -- The receiver's machine over many bits: cut in two, shifted, through a frame, and where a reading ends.
 use mathlib.Core.Path.{_≡_, refl, sym, ap, _∙_}
-use mathlib.Core.Bool.{Bool, true, false, cond}
+use mathlib.Core.Bool.{Bool, true, false, not, cond}
 use mathlib.Core.Logic.{⊎-elim, inl, inr}
 use mathlib.Core.List.{List, [], _∷_, _++_, append-assoc, append-nil, foldl}
-use Prim.Native.Nat.{ℕ, zero, suc, _+_, _-_, _%_, _≤_, _<_, min}
+use Prim.Native.Nat.{ℕ, zero, suc, _+_, _-_, _/_, _%_, _≤_, _<_, min}
 use native.Mathlib.Nat.{add-assoc, add-zero, suc-add, eq-or-lt-of-le}
 use native.Mathlib.Omega.{arith}
-use borrow.Author.Tests.{ne-eqb, lt-ltb, le-ltb, le-leb, lt-leb, ltb-true, ltb-false}
+use borrow.Author.Tests.{ne-eqb, eqb-true, lt-ltb, le-ltb, le-leb, lt-leb, ltb-true, ltb-false}
+use Rattle.bits.proofs.Tests.{cond-cases}
 use lib.Dec.{eqb, ltb, lit<, lit≤}
 use lib.ListN.{length, take, drop, replicate, length-append, length-take}
-use lib.Seq.{take-all, take-append-le, take-take, take-at, drop-drop}
+use lib.Seq.{drop-append-seam, take-all, take-append-le, take-take, take-at, drop-drop}
 use Rattle.numbers.specs.Numbers as number
+use Rattle.wire.specs.Bits.{pack}
 use Rattle.wire.specs.Fcs.{register, preset, residue}
 use Rattle.wire.specs.Frame.{flag}
-use Rattle.receiver.specs.Receiver.{State, Stop, hunting, opened, push, next, decides, runs}
-use Rattle.receiver.specs.Receive.{bare, atFlag, concluded, reading}
+use Rattle.receiver.specs.Receiver.{State, Stop, hunting, opened, push, next, ended, decides, runs}
+use Rattle.receiver.specs.Receive.{Answer, bare, atFlag, Reading, concluded, reading}
 use Rattle.wire.proofs.Bits.{AreBits, none, more}
 use Rattle.receiver.proofs.Machine.{runs-go, runs-stop}
 use Rattle.promises.specs.Wire.{absent, sixOnes, sevenOnes, unstuff, atAbort, after}
@@ -23,6 +25,41 @@ use Rattle.promises.specs.Wire.{absent, sixOnes, sevenOnes, unstuff, atA
 pub split : (t : Bool) {A : Type 0} → (t ≡ true → A) → (t ≡ false → A) → A
 split true f g = f refl
 split false f g = g refl
+
+-- every number below n, one by one
+abbrev pub EachBelow : ℕ → (ℕ → Type 0) → Type 0
+EachBelow zero P = Unit
+EachBelow (suc n) P = P 0 × EachBelow n (λ k. P (suc k))
+
+pub each-below : (n : ℕ) (P : ℕ → Type 0) → EachBelow n P → (k : ℕ) → k < n → P k
+each-below zero P each k h = absurd (omega arith)
+each-below (suc n) P each zero h = each .0
+each-below (suc n) P each (suc k) h = each-below n (λ k. P (suc k)) (each .1) k (omega arith)
+
+-- ---- the answers, case by case
+
+-- of a flag
+pub at-flag-cases : (P : Answer → Type 0) (c : List ℕ) → (length c < 32 → P (bare number.noFrame)) → (144 < length c → P (bare number.longContent))
+    → (32 ≤ length c → length c ≤ 144 → length c % 8 ≡ 0 → register preset c ≡ residue
+    → P (record { number = number.hasFrame; body = take (length c / 8 - 2) (pack c) }))
+    → P (bare number.wrongFcs) → P (bare number.brokenContent) → P (atFlag c)
+unfolding atFlag
+at-flag-cases P c short long body wrong broken =
+    cond-cases P (ltb (length c) 32) (λ e. short (ltb-true (length c) 32 e))
+    (λ e. cond-cases P (ltb 144 (length c)) (λ f. long (ltb-true 144 (length c) f))
+    (λ f. cond-cases P (eqb (length c % 8) 0)
+    (λ g. cond-cases P (eqb (register preset c) residue)
+    (λ r. body (ltb-false (length c) 32 e) (ltb-false 144 (length c) f) (eqb-true (length c % 8) 0 g) (eqb-true (register preset c) residue r)) (λ r. wrong))
+    (λ g. broken)))
+
+-- of a reading
+pub concluded-cases : (P : Reading → Type 0) (p : Stop)
+    → (eqb (p .hit) 0 ≡ true → P (record { answer = bare number.noFrame; state = p .state; consumed = p .used }))
+    → (eqb (p .hit) 0 ≡ false → eqb (p .hit) 1 ≡ true
+    → P (record { answer = atFlag (take (ended (p .state) 0) (p .state .content)); state = opened; consumed = p .used }))
+    → (eqb (p .hit) 0 ≡ false → P (record { answer = bare number.aborted; state = hunting; consumed = p .used })) → P (concluded p)
+concluded-cases P p out flagged aborted =
+    cond-cases P (eqb (p .hit) 0) out (λ e. cond-cases P (eqb (p .hit) 1) (flagged e) (λ f. aborted e))
 
 -- parts of bits are bits
 pub bits-front : (p q : List ℕ) → AreBits (p ++ q) → AreBits p
@@ -89,19 +126,15 @@ sixth-one l n c r = runs-go (within 5 l c) n 1 r refl
 pub absent-drop : (p l : List ℕ) (n : ℕ) → absent p l → absent p (drop n l)
 absent-drop p l n h i e = h (n + i) (ap (take (length p)) (sym (drop-drop i n l)) ∙ e)
 
+pub absent-after : (p a b : List ℕ) → absent p (a ++ b) → absent p b
+absent-after p a b h = rw (drop-append-seam a b) at (absent-drop p (a ++ b) (length a) h)
+
 pub ones-on : (k : ℕ) (r : List ℕ) → replicate k 1 ++ 1 ∷ r ≡ replicate (k + 1) 1 ++ r
 ones-on zero r = refl
 ones-on (suc k) r = rw (suc-add k 1) (ap (λ (l : List ℕ). 1 ∷ l) (ones-on k r))
 
-absent-ones : (k : ℕ) (r : List ℕ) → absent sixOnes (replicate k 1 ++ 1 ∷ r) → absent sixOnes (replicate (k + 1) 1 ++ r)
-absent-ones k r h = rw (ones-on k r) at h
-
 absent-zero : (k : ℕ) (r : List ℕ) → absent sixOnes (replicate k 1 ++ 0 ∷ r) → absent sixOnes r
-absent-zero k r h = rw (past k r) at (absent-drop sixOnes (replicate k 1 ++ 0 ∷ r) (suc k) h)
-  where
-    past : (k : ℕ) (r : List ℕ) → drop (suc k) (replicate k 1 ++ 0 ∷ r) ≡ r
-    past zero r = refl
-    past (suc k) r = past k r
+absent-zero k r h = absent-drop sixOnes (0 ∷ r) 1 (absent-after sixOnes (replicate k 1) (0 ∷ r) h)
 
 -- the ones since the last zero
 abbrev pub run : ℕ → ℕ → ℕ
@@ -113,61 +146,42 @@ pub record Ran (k l n : ℕ) (c raw r : List ℕ) : Type 0 where
   pub short : foldl run k raw ≤ 5
   pub bits : runs (within k l c) n (raw ++ r) ≡ runs (within (foldl run k raw) lead (c ++ unstuff k raw)) (n + length raw) r
 
+-- one bit of it more in front
 module _ (k l n : ℕ) (c bs r : List ℕ) where
-  ran-zero : k < 5 → Ran 0 1 (n + 1) (c ++ (0 ∷ [])) bs r → Ran k l n c (0 ∷ bs) r
+  ran-on : (b l′ : ℕ) (c′ : List ℕ) → runs (within k l c) n (b ∷ (bs ++ r)) ≡ runs (within (run k b) l′ c′) (n + 1) (bs ++ r)
+      → c′ ++ unstuff (run k b) bs ≡ c ++ unstuff k (b ∷ bs) → Ran (run k b) l′ (n + 1) c′ bs r → Ran k l n c (b ∷ bs) r
+  ran-on b l′ c′ bit content m =
+      let f : n + 1 + length bs ≡ n + suc (length bs) = omega arith in
+      record { lead = m .lead; short = m .short; bits = bit ∙ m .bits ∙ rw (content, f) refl }
+
+  ran-zero : (b : ℕ) → b ≡ 0 → k ≤ 5 → Ran 0 0 (n + 1) c bs r → Ran 0 1 (n + 1) (c ++ (0 ∷ [])) bs r → Ran k l n c (b ∷ bs) r
   unfolding unstuff
-  ran-zero h m =
-      let e : n + 1 + length bs ≡ n + suc (length bs) = omega arith in
-      let f : eqb k 5 ≡ false = ne-eqb k 5 (λ q. omega arith) in
-      record {
-        lead = m .lead;
-        short = m .short;
-        bits =
-            zero-bit k l n c (bs ++ r) h ∙ m .bits
-            ∙ rw (f, e, append-assoc c (0 ∷ []) (unstuff 0 bs)) refl;
-      }
+  ran-zero b z hk stuffed pushed =
+      rw z
+      (⊎-elim (λ (e : k ≡ 5). ran-on 0 0 c (rw e (stuffed-zero l n c (bs ++ r))) (rw e refl) stuffed)
+      (λ (e : k < 5).
+      let other : eqb k 5 ≡ false = ne-eqb k 5 (λ q. omega arith) in
+      ran-on 0 1 (c ++ (0 ∷ [])) (zero-bit k l n c (bs ++ r) e) (rw (other, append-assoc c (0 ∷ []) (unstuff 0 bs)) refl) pushed)
+      (eq-or-lt-of-le hk))
 
-  ran-stuffed : k ≡ 5 → Ran 0 0 (n + 1) c bs r → Ran k l n c (0 ∷ bs) r
-  unfolding unstuff
-  ran-stuffed h m =
-      let e : n + 1 + length bs ≡ n + suc (length bs) = omega arith in
-      rw h
-      (record { lead = m .lead; short = m .short; bits = stuffed-zero l n c (bs ++ r) ∙ m .bits ∙ rw e refl })
-
-  ran-one : k < 5 → Ran (k + 1) l (n + 1) (c ++ (1 ∷ [])) bs r → Ran k l n c (1 ∷ bs) r
-  unfolding unstuff
-  ran-one h m =
-      let e : n + 1 + length bs ≡ n + suc (length bs) = omega arith in
-      record {
-        lead = m .lead;
-        short = m .short;
-        bits =
-            one-bit k l n c (bs ++ r) h ∙ m .bits
-            ∙ rw (e, append-assoc c (1 ∷ []) (unstuff (k + 1) bs)) refl;
-      }
-
-  ran-at-zero : (b : ℕ) → b ≡ 0 → k ≤ 5 → Ran 0 0 (n + 1) c bs r → Ran 0 1 (n + 1) (c ++ (0 ∷ [])) bs r → Ran k l n c (b ∷ bs) r
-  ran-at-zero b z hk stuffed pushed = rw z (⊎-elim (λ e. ran-stuffed e stuffed) (λ e. ran-zero e pushed) (eq-or-lt-of-le hk))
-
-  ran-at-one : (b : ℕ) → b ≡ 1 → k ≤ 5 → absent sixOnes (replicate k 1 ++ b ∷ bs)
+  ran-one : (b : ℕ) → b ≡ 1 → k ≤ 5 → absent sixOnes (replicate k 1 ++ b ∷ bs)
       → (k + 1 ≤ 5 → absent sixOnes (replicate (k + 1) 1 ++ bs) → Ran (k + 1) l (n + 1) (c ++ (1 ∷ [])) bs r) → Ran k l n c (b ∷ bs) r
-  ran-at-one b z hk h m =
+  unfolding unstuff
+  ran-one b z hk h m =
       let h₁ : absent sixOnes (replicate k 1 ++ 1 ∷ bs) = rw z at h in
       rw z
       (⊎-elim (λ (e : k ≡ 5). absurd ((rw e at h₁) 0 refl))
-      (λ (e : k < 5). ran-one e (m (omega arith) (absent-ones k bs h₁))) (eq-or-lt-of-le hk))
-
-ran-none : (k l n : ℕ) (c r : List ℕ) → k ≤ 5 → Ran k l n c [] r
-unfolding unstuff
-ran-none k l n c r hk = record { lead = l; short = hk; bits = rw (append-nil c, add-zero n) refl }
+      (λ (e : k < 5).
+      ran-on 1 l (c ++ (1 ∷ [])) (one-bit k l n c (bs ++ r) e) (append-assoc c (1 ∷ []) (unstuff (k + 1) bs)) (m (omega arith) (rw (ones-on k bs) at h₁)))
+      (eq-or-lt-of-le hk))
 
 pub ran : {raw : List ℕ} → AreBits raw → (k l n : ℕ) (c r : List ℕ) → k ≤ 5 → absent sixOnes (replicate k 1 ++ raw) → Ran k l n c raw r
-ran none k l n c r hk h = ran-none k l n c r hk
+unfolding unstuff
+ran none k l n c r hk h = record { lead = l; short = hk; bits = rw (append-nil c, add-zero n) refl }
 ran {raw = b ∷ bs} (more (inl z) hb) k l n c r hk h =
     let h′ : absent sixOnes bs = absent-zero k bs (rw z at h) in
-    ran-at-zero k l n c bs r b z hk (ran hb 0 0 (n + 1) c r (lit≤ tt) h′) (ran hb 0 1 (n + 1) (c ++ (0 ∷ [])) r (lit≤ tt) h′)
-ran {raw = b ∷ bs} (more (inr z) hb) k l n c r hk h =
-    ran-at-one k l n c bs r b z hk h (λ e h′. ran hb (k + 1) l (n + 1) (c ++ (1 ∷ [])) r e h′)
+    ran-zero k l n c bs r b z hk (ran hb 0 0 (n + 1) c r (lit≤ tt) h′) (ran hb 0 1 (n + 1) (c ++ (0 ∷ [])) r (lit≤ tt) h′)
+ran {raw = b ∷ bs} (more (inr z) hb) k l n c r hk h = ran-one k l n c bs r b z hk h (λ e h′. ran hb (k + 1) l (n + 1) (c ++ (1 ∷ [])) r e h′)
 
 -- ---- where a reading ends
 
@@ -189,8 +203,7 @@ six-ones l n c r =
 concluded-on : (p : Stop) (m : ℕ)
     → concluded (record { state = p .state; used = m + p .used; hit = p .hit })
     ≡ record { answer = concluded p .answer; state = concluded p .state; consumed = m + concluded p .consumed }
-concluded-on p m =
-    split (eqb (p .hit) 0) (λ e. rw e refl) (λ e. split (eqb (p .hit) 1) (λ f. rw (e, f) refl) (λ f. rw (e, f) refl))
+concluded-on p m = split (eqb (p .hit) 0) (λ e. rw e refl) (λ e. split (eqb (p .hit) 1) (λ f. rw (e, f) refl) (λ f. rw (e, f) refl))
 
 -- a reading that goes on after n bits
 pub goes-on : (s : State) (n : ℕ) (r : List ℕ)
@@ -212,12 +225,8 @@ unfolding atFlag
 at-flag-short c h = rw (lt-ltb (length c) 32 h) refl
 
 pub at-flag-answers : (c : List ℕ) → 32 ≤ length c → eqb (atFlag c .number) number.noFrame ≡ false
-unfolding atFlag
 at-flag-answers c h =
-    rw (le-ltb (length c) 32 h)
-    (split (ltb 144 (length c)) (λ e. rw e refl)
-    (λ e. split (eqb (length c % 8) 0)
-    (λ f. split (eqb (register preset c) residue) (λ g. rw (e, f, g) refl) (λ g. rw (e, f, g) refl)) (λ f. rw (e, f) refl)))
+    at-flag-cases (λ a. eqb (a .number) number.noFrame ≡ false) c (λ l. absurd (omega arith)) (λ _. refl) (λ _ _ _ _. refl) refl refl
 
 at-flag-cut : (c z : List ℕ) (m : ℕ) → length z ≡ m → m ≤ 6
     → atFlag (take (length (take 152 (c ++ z)) - m) (take 152 (c ++ z))) ≡ atFlag c
@@ -233,31 +242,31 @@ at-flag-cut c z m e h =
     ap atFlag (rw (kept c z m e h, k, take-take (length c) 152 (c ++ z) (omega arith)) (take-at c z (length c) refl)))
 
 module _ (l n : ℕ) (c z r : List ℕ) where
+  -- the bit after six ones decides where 32 bits of content stand before the flag's bits, z
+  by-content : (b : ℕ) → length z ≡ 5 + cond (eqb b 0) l 0 → length z ≤ 6 → decides (within 6 l (c ++ z)) b ≡ not (ltb (length c) 32)
+  by-content b e h =
+      let m : ℕ = min (152 - (5 + cond (eqb b 0) l 0)) (length c) in
+      rw (kept c z (5 + cond (eqb b 0) l 0) e (rw e at h))
+      (split (ltb (length c) 32) (λ t. rw (t, lt-leb 32 m (omega (arith, ltb-true (length c) 32 t))) refl)
+      (λ t. rw (t, le-leb 32 m (omega (arith, ltb-false (length c) 32 t))) refl))
+
   -- a flag's last zero
   flag-end : length z ≡ 5 + l → l ≤ 1 → concluded (runs (within 6 l (c ++ z)) n (0 ∷ r)) ≡ after (atFlag c) opened (n + 1) r
   flag-end e h =
       split (ltb (length c) 32)
       (λ t.
-      let g : length c < 32 = ltb-true (length c) 32 t in
-      let d : decides (within 6 l (c ++ z)) 0 ≡ false = rw (kept c z (5 + l) e (omega arith)) (lt-leb 32 (min (152 - (5 + l)) (length c)) (omega arith)) in
-      rw (at-flag-short c g) (ap concluded (runs-go (within 6 l (c ++ z)) n 0 r d) ∙ goes-on opened (n + 1) r))
+      rw (at-flag-short c (ltb-true (length c) 32 t))
+      (ap concluded (runs-go (within 6 l (c ++ z)) n 0 r (by-content 0 e (omega arith) ∙ rw t refl)) ∙ goes-on opened (n + 1) r))
       (λ t.
-      let g : 32 ≤ length c = ltb-false (length c) 32 t in
-      let d : decides (within 6 l (c ++ z)) 0 ≡ true = rw (kept c z (5 + l) e (omega arith)) (le-leb 32 (min (152 - (5 + l)) (length c)) (omega arith)) in
-      rw (at-flag-answers c g) (ap concluded (runs-stop (within 6 l (c ++ z)) n 0 r d) ∙ rw (at-flag-cut c z (5 + l) e (omega arith)) refl))
+      rw (at-flag-answers c (ltb-false (length c) 32 t))
+      (ap concluded (runs-stop (within 6 l (c ++ z)) n 0 r (by-content 0 e (omega arith) ∙ rw t refl)) ∙ rw (at-flag-cut c z (5 + l) e (omega arith)) refl))
 
   -- a seventh one
   abort-end : length z ≡ 5 → concluded (runs (within 6 l (c ++ z)) n (1 ∷ r)) ≡ after (atAbort c) hunting (n + 1) r
   abort-end e =
       split (ltb (length c) 32)
-      (λ t.
-      let g : length c < 32 = ltb-true (length c) 32 t in
-      let d : decides (within 6 l (c ++ z)) 1 ≡ false = rw (kept c z 5 e (omega arith)) (lt-leb 32 (min 147 (length c)) (omega arith)) in
-      rw t (ap concluded (runs-go (within 6 l (c ++ z)) n 1 r d) ∙ goes-on hunting (n + 1) r))
-      (λ t.
-      let g : 32 ≤ length c = ltb-false (length c) 32 t in
-      let d : decides (within 6 l (c ++ z)) 1 ≡ true = rw (kept c z 5 e (omega arith)) (le-leb 32 (min 147 (length c)) (omega arith)) in
-      rw t (ap concluded (runs-stop (within 6 l (c ++ z)) n 1 r d)))
+      (λ t. rw t (ap concluded (runs-go (within 6 l (c ++ z)) n 1 r (by-content 1 e (omega arith) ∙ rw t refl)) ∙ goes-on hunting (n + 1) r))
+      (λ t. rw t (ap concluded (runs-stop (within 6 l (c ++ z)) n 1 r (by-content 1 e (omega arith) ∙ rw t refl))))
 
 -- a whole flag in a frame
 pub closing : (k l n : ℕ) (c r : List ℕ) → k ≤ 5 → concluded (runs (within k l c) n (flag ++ r)) ≡ after (atFlag c) opened (n + 8) r

@@ -2,7 +2,6 @@
 use Prim.Native.Nat.{ℕ}
 use mathlib.Core.Path.{_≡_, refl, ap, ap₂, _∙_}
 use mathlib.Core.List.{List, [], _∷_, _++_}
-use mathlib.Core.Bool.{Bool, true, false}
 use lib.ListN.{length, take}
 use lib.Dec.{eqb}
 use Rattle.chip.specs.Event.{Event}
@@ -12,6 +11,7 @@ use Rattle.player.specs.Play.{noReply, heard, answerOf, Turn, turn, answers}
 use Rattle.promises.specs.Runs.{Call, event, back, Given}
 use Rattle.promises.specs.Ours.{ours, handed}
 use Rattle.promises.specs.Table.{line, lines}
+use Rattle.promises.proofs.Steps.{split}
 
 -- a line of numbers as text
 unfoldable pub ofLine : List ℕ → List ℕ
@@ -33,11 +33,7 @@ pub data Says : List (List ℕ) → List Call → Type 0 where
 -- one line
 of-line : (g : Given) (kept : ℕ) (body : List ℕ) → body ≡ take (g .length) (g .output) → answerText (g .number) kept (g .port) body ≡ ofLine (line g kept)
 unfolding ofLine answerText
-of-line g kept body e = by (eqb (g .number) 0) refl
-  where
-    by : (t : Bool) → eqb (g .number) 0 ≡ t → answerText (g .number) kept (g .port) body ≡ ofLine (line g kept)
-    by true h = rw (h, h, e) refl
-    by false h = rw (h, h) refl
+of-line g kept body e = split (eqb (g .number) 0) (λ h. rw (h, h, e) refl) (λ h. rw (h, h) refl)
 
 -- what a line does is what it says
 turned : (s j l : List ℕ) (x : Line.Line) → Line.read l ≡ x

@@ -4,7 +4,6 @@
 use mathlib.Core.Path.{_≡_, refl, sym, ap, ap₂, _∙_}
 use mathlib.Core.List.{List, _∷_, _++_}
 use Prim.Native.Nat.{ℕ, _+_, _-_, _≤_}
-use native.Mathlib.Omega.{arith}
 use lib.ListN.{length, take, drop, getD, replicate}
 use lib.Seq.{drop-drop, drop-append-add}
 use Rattle.numbers.specs.Numbers as number
@@ -19,7 +18,7 @@ use Rattle.promises.specs.Wire.{absent, sixOnes, sevenOnes, destuff, atA
 use Rattle.promises.specs.Calls.{Accepted, Gives, StillHunts, receives}
 use Rattle.promises.proofs.Readings.{frame-unended, six-unended, frame-read, shared-zero, abort-read, StillHunting, hunts, first-flag, begun-flag}
 use Rattle.promises.proofs.Calls.{calls, flag-opens, flag-read}
-use Rattle.promises.proofs.States.{Held, frames, hunts-on, view-held}
+use Rattle.promises.proofs.States.{HuntedState, hunted-state, view-held}
 use Rattle.promises.proofs.Called.{accepted, reads, front-bits, Went, went}
 
 -- A FLAG LEAVES EVERY RECEIVER WITH A FRAME JUST OPENED, whatever came before it and whatever was answered on the way:
@@ -34,15 +33,6 @@ flag-opens-received {rx} {input} {output} {start} a n bits rest e at =
     ap (λ (l : List ℕ). calls n (view rx) l .rest) (sym e) ∙ sym (m .rest) ∙ ap (λ (i : ℕ). drop i (wire input)) at
     ∙ sym (drop-drop (length bits + 8) start (wire input)) ∙ ap (drop (length bits + 8)) e ∙ past in
     m .state ∙ ap (λ (l : List ℕ). calls n (view rx) l .state) e ∙ flag-opens n (view rx) bits rest r
-
--- a state that arises and hunts
-record HuntedState (s : State) : Type 0 where
-  few : s .ones ≤ 7
-  same : s ≡ hunter (s .ones)
-
-hunted-state : {s : State} → Held s → s .mode ≡ 0 → HuntedState s
-hunted-state (hunts-on h) m = record { few = h; same = refl }
-hunted-state (frames hk hl hc h bits) m = absurd (omega arith)
 
 module _ {rx : Receiver} {input output : List ℕ} {start : ℕ} (a : Accepted rx input start output) where
   numbered : readFrom rx input start .answer ≡ bare number.noFrame → received rx input start output .number ≡ number.noFrame

@@ -1,0 +1,113 @@
+-- EVERY CALL CASE BY CASE: it is refused by a number of 1 to 10, which leaves what was lent, or it is done. A law a call, for whatever is said of what
+-- it gives and leaves. Assumes nothing.
+use Prim.Native.Nat.{ℕ, _*_, _≤_}
+use mathlib.Core.Path.{_≡_, refl}
+use mathlib.Core.List.{List}
+use mathlib.Core.Bool.{true, not, _&&_, false≢true}
+use mathlib.Core.Logic.{_⊎_, inl, inr}
+use native.Mathlib.Omega.{arith}
+use lib.ListN.{length}
+use lib.Dec.{eqb, ltb, leb}
+use borrow.Author.Tests.{leb-true, ltb-false, not-false}
+use Rattle.numbers.specs.Numbers as number
+use Rattle.bits.proofs.Tests.{and-right, cond-cases, either}
+use Rattle.parts.specs.Parts.{put}
+use Rattle.transmitter.specs.declared.Sent.{Sent}
+use Rattle.transmitter.specs.Frame.{framed}
+use Rattle.transmitter.specs.Transmit as transmit
+use Rattle.receiver.specs.declared.Receiver.{Receiver}
+use Rattle.receiver.specs.declared.Received.{Received}
+use Rattle.receiver.specs.Receiver.{inRange}
+use Rattle.receiver.specs.Receive as receive
+use Rattle.state.specs.State.{powerOn}
+use Rattle.state.specs.Bytes.{stateSize, stateBytes, isState}
+use Rattle.chip.specs.Event.{Event}
+use Rattle.journal.specs.Layout.{wrongLength, wellFormed, keptOf, past, emptied, lowered}
+use Rattle.journal.specs.Record.{restored, sound}
+use Rattle.adapter.specs.declared.Verdict.{Verdict}
+use Rattle.adapter.specs.declared.Verdict.the-variants.{Refused, Passed}
+use Rattle.adapter.specs.Refusals.{wrongArgument, wrongBody, inOrder, verdict, backVerdict}
+use Rattle.adapter.specs.Calls.{Made, made, created, madeEmpty, Outcome, outcome, plain, done, judged, called, Stepped, stepped, judgedBack, steppedBack}
+use Rattle.promises.specs.Runs.{isRefusal}
+use Rattle.promises.proofs.Steps.{split}
+
+-- the numbers of refusals are small, and none of the chip's
+pub refusal-most : (n : ℕ) → isRefusal n ≡ true → n ≤ 10
+refusal-most n h = leb-true n 10 (and-right (leb 1 n) (leb n 10) h)
+
+pub not-one-to-ten : (n : ℕ) → (n ≡ 0) ⊎ ((11 ≤ n) × (n ≤ 17)) → (leb 1 n && leb n 10) ≡ true → ⊥
+not-one-to-ten n (inl z) h = false≢true (rw z at h)
+not-one-to-ten n (inr l) h = omega (arith, refusal-most n h)
+
+-- ---- the adapter
+
+abbrev Refusing : Verdict → Type 0
+Refusing (Refused n) = isRefusal n ≡ true
+Refusing Passed = Unit
+
+module _ (s j : List ℕ) where
+  refusing : (e : Event) (o : List ℕ) → Refusing (verdict s j e o)
+  unfolding verdict inOrder
+  refusing e o =
+      either Refusing (not (isState s)) _ _ refl
+      (either Refusing (not (wellFormed j)) _ _ refl
+      (either Refusing (ltb (length o) 16) _ _ refl (either Refusing (wrongArgument e) _ _ refl (either Refusing (wrongBody e) _ _ refl tt))))
+
+  pub event-cases : (e : Event) (o : List ℕ) (P : Outcome → Type 0) → ((n : ℕ) → isRefusal n ≡ true → P (outcome (plain n) s j o))
+      → (verdict s j e o ≡ Passed → P (done s j e o)) → P (called s j e o)
+  unfolding called
+  event-cases e o P refused passed = by (verdict s j e o) refl (refusing e o)
+    where
+      by : (v : Verdict) → verdict s j e o ≡ v → Refusing v → P (judged v s j e o)
+      by (Refused n) q r = refused n r
+      by Passed q r = passed q
+
+  pub back-cases : (P : Stepped → Type 0) → ((n : ℕ) → isRefusal n ≡ true → P (stepped n s j))
+      → (sound s (past j 0) ≡ true → P (stepped 17 (restored s (past j 0)) (lowered j))) → P (steppedBack s j)
+  unfolding steppedBack backVerdict
+  back-cases P refused granted =
+      let Q : Verdict → Type 0 = λ v. P (judgedBack v s j) in
+      either Q (not (isState s)) _ _ (refused 6 refl)
+      (either Q (not (wellFormed j)) _ _ (refused 4 refl)
+      (either Q (eqb (keptOf j) 0) _ _ (refused 5 refl)
+      (cond-cases Q (not (sound s (past j 0))) (λ _. refused 4 refl) (λ t. granted (not-false _ t)))))
+
+pub empty-cases : (j : List ℕ) (P : Made → Type 0) → ((n : ℕ) → isRefusal n ≡ true → P (made n j)) → P (made 17 (emptied j)) → P (madeEmpty j)
+unfolding madeEmpty
+empty-cases j P refused done = either P (wrongLength j) _ _ (refused 4 refl) done
+
+pub create-cases : (s : List ℕ) (id : ℕ) (P : Made → Type 0) → ((n : ℕ) → isRefusal n ≡ true → P (made n s))
+    → (id ≤ 0xFFFFFF → P (made 17 (stateBytes (powerOn id)))) → P (created s id)
+unfolding created
+create-cases s id P refused done =
+    either P (not (eqb (length s) stateSize)) _ _ (refused 6 refl)
+    (cond-cases P (ltb 0xFFFFFF id) (λ _. refused 7 refl) (λ t. done (ltb-false 0xFFFFFF id t)))
+
+-- ---- the link: the result, and the output's bytes
+
+pub transmit-cases : (body output : List ℕ) (P : Sent → List ℕ → Type 0)
+    → ((n : ℕ) → isRefusal n ≡ true → P (record { number = n; count = 0 }) output)
+    → P (record { number = number.hasFrame; count = length (framed body) }) (put 0 (framed body) output)
+    → P (transmit.transmitted body output) (transmit.outputAfter body output)
+unfolding transmit.transmitted transmit.outputAfter
+transmit-cases body output P refused done =
+    split (leb 2 (length body) && leb (length body) 16)
+    (λ b. split (leb 24 (length output)) (λ o. rw (b, o) done) (λ o. rw (b, o) (refused 1 refl)))
+    (λ b. rw b (refused 2 refl))
+
+pub receive-cases : (rx : Receiver) (input : List ℕ) (start : ℕ) (output : List ℕ) (P : Received → List ℕ → Type 0)
+    → ((n : ℕ) → isRefusal n ≡ true → P (record { rx = rx; number = n; consumed = 0; length = 0 }) output)
+    → (inRange rx ≡ true → length input ≤ 65536 → start ≤ 8 * length input → 16 ≤ length output
+    → P (receive.receivedAs (receive.readFrom rx input start)) (put 0 (receive.readFrom rx input start .answer .body) output))
+    → P (receive.received rx input start output) (receive.outputAfter rx input start output)
+unfolding receive.received receive.outputAfter
+receive-cases rx input start output P refused done =
+    split (inRange rx)
+    (λ r. split (leb (length input) 65536)
+    (λ i. split (leb start (8 * length input))
+    (λ s. split (leb 16 (length output))
+    (λ o. rw (r, i, s, o) (done r (leb-true (length input) 65536 i) (leb-true start (8 * length input) s) (leb-true 16 (length output) o)))
+    (λ o. rw (r, i, s, o) (refused 1 refl)))
+    (λ s. rw (r, i, s) (refused 9 refl)))
+    (λ i. rw (r, i) (refused 8 refl)))
+    (λ r. rw r (refused 6 refl))
