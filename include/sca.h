@@ -50,8 +50,8 @@ extern "C" {
 
 /* ------------------------------------------------------------------ version */
 
-/* The version that this header is of, 1.0.0: major << 16 | minor << 8 | patch. */
-#define SCA_VERSION 0x010000
+/* The version that this header is of, 1.1.0: major << 16 | minor << 8 | patch. */
+#define SCA_VERSION 0x010100
 
 /* ------------------------------------------------------------------ numbers */
 

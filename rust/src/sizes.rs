@@ -1,7 +1,7 @@
 //! The version and the sizes of what calls take, under the names of `include/sca.h`, there with `SCA_` in front.
 
-/// The version that this crate is made for, 1.0.0: major << 16 | minor << 8 | patch. [`crate::version`] gives the archive's.
-pub const VERSION: u64 = 0x01_0000;
+/// The version that this crate is made for, 1.1.0: major << 16 | minor << 8 | patch. [`crate::version`] gives the archive's.
+pub const VERSION: u64 = 0x01_0100;
 
 /// The bytes of the shortest body.
 pub const BODY_LEAST: usize = 2;

@@ -183,7 +183,7 @@ fn the_version() {
     assert_eq!(VERSION, 0x01_0000);
     assert_eq!(sca::version(), VERSION);
     let manifest = include_str!("../Cargo.toml");
-    assert!(manifest.lines().any(|line| line == "version = \"1.0.0\""));
+    assert!(manifest.lines().any(|line| line == "version = \"1.1.0\""));
 }
 
 #[test]

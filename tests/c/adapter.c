@@ -122,7 +122,7 @@ static void order_of_refusals(void) {
 }
 
 static void version(void) {
-    check(SCA_VERSION == (1 << 16 | 0 << 8 | 0) && sca_version() == SCA_VERSION, "the library is of the header's version, 1.0.0");
+    check(SCA_VERSION == (1 << 16 | 1 << 8 | 0) && sca_version() == SCA_VERSION, "the library is of the header's version, 1.1.0");
 }
 
 static void readers(void) {

@@ -6,7 +6,7 @@ use mathlib.Core.List.{List, _++_, append-nil}
 use native.Mathlib.Omega.{arith}
 use lib.ListN.{length, take, drop, length-drop, drop-of-length-le}
 use lib.Seq.{drop-at, length-take-le}
-use lib.Dec.{eqb, ltb, lit<}
+use lib.Dec.{eqb, ltb}
 use borrow.Author.Tests.{eq-eqb, ne-eqb, lt-ltb, le-ltb, ltb-false, eqb-true, not-false}
 use borrow.Rule.Slice.PartMut.{putMid}
 use Rattle.parts.specs.Parts.{part, put}
@@ -23,15 +23,14 @@ use Rattle.chip.specs.Event.{Event, frame}
 use Rattle.chip.specs.Inner.{Said, said, says}
 use Rattle.chip.specs.Chip.{reaction, acceptedReset}
 use Rattle.chip.specs.Group.{groupOf}
-use Rattle.journal.specs.Layout.{wrongLength, keptOf, wellFormed, past, emptied, pushed, lowered}
+use Rattle.chip.proofs.Cases.{tested}
+use Rattle.journal.specs.Layout.{keptOf, wellFormed, past, lowered}
 use Rattle.journal.specs.Record.{keptFor, before, sound, restored}
-use Rattle.journal.proofs.Ring.{in-journal}
 use Rattle.adapter.specs.declared.Answer.{Answer}
-use Rattle.adapter.specs.declared.KeptNumber.{KeptNumber}
 use Rattle.adapter.specs.declared.Verdict.{Verdict}
 use Rattle.adapter.specs.declared.Verdict.the-variants.{Refused, Passed}
 use Rattle.adapter.specs.Refusals.{wrongArgument, wrongBody, inOrder, verdict, backVerdict}
-use Rattle.adapter.specs.Calls.{made, created, madeEmpty, keptIn, Outcome, outcome, plain, shown, joined, happened, done, called, Stepped, stepped, judgedBack, steppedBack}
+use Rattle.adapter.specs.Calls.{made, created, Outcome, outcome, plain, shown, joined, happened, done, called, Stepped, stepped, judgedBack, steppedBack}
 
 -- ---- a state's bytes, part by part
 
@@ -46,6 +45,20 @@ anew s n rs m s₁ s₂ l e f =
     (ap (λ (t : List ℕ). linkImage l ++ t)
     (drop-at (take linkBytes s) (rs ++ drop (stateSize - linkBytes) (drop linkBytes s)) linkBytes k
     ∙ ap (λ (t : List ℕ). rs ++ t) (drop-of-length-le (drop linkBytes s) z) ∙ append-nil rs))
+
+-- ---- a choice, as code makes it
+
+module _ {A : Type 0} (x v w : A) (t : Bool) where
+  pub applies : t ≡ true → x ≡ v → x ≡ cond t v w
+  applies h e = rw h e
+
+  pub applies-not : t ≡ false → x ≡ w → x ≡ cond t v w
+  applies-not h e = rw h e
+
+pub ruleset choices = (applies, applies-not, tested)
+
+pub made-same : (n : ℕ) (s t : List ℕ) → s ≡ t → made n s ≡ made n t
+made-same n s t e = ap (made n) e
 
 -- ---- creation
 
@@ -68,75 +81,11 @@ module _ (s : List ℕ) (id : ℕ) where
 
 pub ruleset creations = (other-length, too-long, in-24-bits)
 
--- ---- the journal alone
-
-module _ (j : List ℕ) (b : Bool) (e : b ≡ wellFormed j) where
-  pub counted : b ≡ true → _≡_ {A = KeptNumber} (record { number = 17; kept = keptOf j }) (keptIn j)
-  unfolding keptIn
-  counted h = simp (sym e ∙ h)
-
-  pub uncounted : b ≡ false → _≡_ {A = KeptNumber} (record { number = 4; kept = 0 }) (keptIn j)
-  unfolding keptIn
-  uncounted h = simp (sym e ∙ h)
-
-pub ruleset counts = (counted, uncounted)
-
-module _ (j : List ℕ) (b : Bool) (e : b ≡ wrongLength j) where
-  pub no-journal : b ≡ true → made 4 j ≡ madeEmpty j
-  unfolding madeEmpty
-  no-journal h = simp (sym e ∙ h)
-
-  pub a-journal : b ≡ false → wrongLength j ≡ false
-  a-journal h = sym e ∙ h
-
-  pub emptied-journal : (k : List ℕ) → b ≡ false → k ≡ emptied j → made 17 k ≡ madeEmpty j
-  unfolding madeEmpty
-  emptied-journal k h g = simp (sym e ∙ h, g)
-
-pub ruleset emptying = (no-journal, a-journal, emptied-journal)
-
--- ---- the order of the refusals
-
-module _ (state journal output argument body : Bool) where
-  pub by-state : state ≡ true → Refused 6 ≡ inOrder state journal output argument body
-  unfolding inOrder
-  by-state e = simp e
-
-  pub by-journal : state ≡ false → journal ≡ true → Refused 4 ≡ inOrder state journal output argument body
-  unfolding inOrder
-  by-journal e g = simp (e, g)
-
-  pub by-output : state ≡ false → journal ≡ false → output ≡ true → Refused 1 ≡ inOrder state journal output argument body
-  unfolding inOrder
-  by-output e g h = simp (e, g, h)
-
-  pub by-argument : state ≡ false → journal ≡ false → output ≡ false → argument ≡ true → Refused 3 ≡ inOrder state journal output argument body
-  unfolding inOrder
-  by-argument e g h k = simp (e, g, h, k)
-
-  pub by-body : state ≡ false → journal ≡ false → output ≡ false → argument ≡ false → body ≡ true → Refused 2 ≡ inOrder state journal output argument body
-  unfolding inOrder
-  by-body e g h k l = simp (e, g, h, k, l)
-
-  pub by-none : state ≡ false → journal ≡ false → output ≡ false → argument ≡ false → body ≡ false → Passed ≡ inOrder state journal output argument body
-  unfolding inOrder
-  by-none e g h k l = simp (e, g, h, k, l)
-
-pub ruleset order = (by-state, by-journal, by-output, by-argument, by-body, by-none)
-
--- ---- an event's record
-
-module _ (resets : Bool) (j k : List ℕ) where
-  pub empties : (r : List ℕ) → resets ≡ true → k ≡ emptied j → k ≡ joined resets r j
-  empties r h g = simp h g
-
-  pub pushes : (r : List ℕ) → resets ≡ false → k ≡ pushed r j → k ≡ joined resets r j
-  pushes r h g = simp h g
-
 -- ---- an event on a state's bytes: the chip's reaction to its link and registers, and the link stored
 
 module _ (s : List ℕ) (n : length s ≡ stateSize) (e : Event) (l : Link) (d : l ≡ linkOf s) (r : Response) (rs s₁ s₂ : List ℕ)
-    (m : length rs ≡ length (take (stateSize - linkBytes) (drop linkBytes s))) (u : s₁ ≡ putMid linkBytes (stateSize - linkBytes) s rs) (x : Answer) (w : x ≡ shown r) (v : s₂ ≡ put 0 (linkImage (r .link)) s₁) where
+    (m : length rs ≡ length (take (stateSize - linkBytes) (drop linkBytes s)))
+    (u : s₁ ≡ putMid linkBytes (stateSize - linkBytes) s rs) (x : Answer) (w : x ≡ shown r) (v : s₂ ≡ put 0 (linkImage (r .link)) s₁) where
   long : length rs ≡ size
   long = let k = length-drop linkBytes s in m ∙ length-take-le size (drop linkBytes s) (omega arith)
 
@@ -193,6 +142,9 @@ no-refusal false false true g b h = not-passed h
 no-refusal false false false true b h = not-passed h
 no-refusal false false false false true h = not-passed h
 
+pub unrefused : (v : Verdict) (s j o g b : Bool) → v ≡ Passed → v ≡ inOrder s j o g b → (s ≡ false) × (j ≡ false) × (o ≡ false) × (g ≡ false) × (b ≡ false)
+unrefused v s j o g b q h = no-refusal s j o g b (sym q ∙ h)
+
 module _ (s : List ℕ) (j : List ℕ) (e : Event) (o : List ℕ) (v : Verdict)
     (h : v ≡ inOrder (not (isState s)) (not (wellFormed j)) (ltb (length o) 16) (wrongArgument e) (wrongBody e)) where
   pub refuses : (number : ℕ) (x : Answer) → v ≡ Refused number → x ≡ plain number → outcome x s j o ≡ called s j e o
@@ -209,7 +161,7 @@ module _ (s : List ℕ) (j : List ℕ) (e : Event) (o : List ℕ) (v : Verdict)
 
   pub passing : v ≡ Passed → Passing s j e o
   passing q =
-      let p = no-refusal _ _ _ _ _ (sym q ∙ h) in
+      let p = unrefused v _ _ _ _ _ q h in
       record {
         state = not-false _ (p .0);
         formed = not-false _ (p .1);
@@ -226,65 +178,65 @@ or-right : (x y : Bool) → (x || y) ≡ false → y ≡ false
 or-right false y h = h
 or-right true y h = absurd (true≢false h)
 
--- a body that nothing refuses has at most 16 bytes
+-- a body that nothing refuses has 2 to 16 bytes
+pub body-bounds : (n : ℕ) → (ltb n 2 || ltb 16 n) ≡ false → (2 ≤ n) × (n ≤ 16)
+body-bounds n h = (ltb-false n 2 (or-left _ (ltb 16 n) h), ltb-false 16 n (or-right (ltb n 2) _ h))
+
 pub body-short : (port : ℕ) (s : List ℕ) → wrongBody (frame port s) ≡ false → length s ≤ 16
-body-short port s h = ltb-false 16 (length s) (or-right (ltb (length s) 2) _ h)
+body-short port s h = body-bounds (length s) h .1
 
 -- ---- what a verdict that refuses nothing says of each argument
 
 module _ (v : Verdict) (l : List ℕ) (q : v ≡ Passed) where
   pub passed-state : (j o g b : Bool) → v ≡ inOrder (not (isState l)) j o g b → length l ≡ stateSize
-  passed-state j o g b h = its-length l (not-false _ (no-refusal _ j o g b (sym q ∙ h) .0))
+  passed-state j o g b h = its-length l (not-false _ (unrefused v _ j o g b q h .0))
 
-  pub passed-both : (k : List ℕ) (o g b : Bool) → v ≡ inOrder (not (isState l)) (not (wellFormed k)) o g b
-      → (wellFormed k ≡ true) × (length l ≡ stateSize)
-  passed-both k o g b h = let n = no-refusal _ _ o g b (sym q ∙ h) in (not-false _ (n .1), its-length l (not-false _ (n .0)))
+  pub passed-journal : (s o g b : Bool) → v ≡ inOrder s (not (wellFormed l)) o g b → wellFormed l ≡ true
+  passed-journal s o g b h = not-false _ (unrefused v s _ o g b q h .1)
 
   pub passed-output : (s j g b : Bool) → v ≡ inOrder s j (ltb (length l) 16) g b → 16 ≤ length l
-  passed-output s j g b h = ltb-false _ 16 (no-refusal s j _ g b (sym q ∙ h) .2)
+  passed-output s j g b h = ltb-false _ 16 (unrefused v s j _ g b q h .2)
 
   pub passed-received : (s j o b : Bool) → v ≡ inOrder s j o (not (eqb (length l) 16)) b → length l ≡ 16
-  passed-received s j o b h = eqb-true (length l) 16 (not-false _ (no-refusal s j o _ b (sym q ∙ h) .3))
+  passed-received s j o b h = eqb-true (length l) 16 (not-false _ (unrefused v s j o _ b q h .3))
 
-  pub passed-long : (s j o g : Bool) → v ≡ inOrder s j o g (ltb (length l) 2 || ltb 16 (length l)) → 2 ≤ length l
-  passed-long s j o g h = ltb-false (length l) 2 (or-left _ (ltb 16 (length l)) (no-refusal s j o g _ (sym q ∙ h) .4))
+-- a port and an edge kind, which are at most some m, fit a byte
+pub passed-byte : (m : ℕ) → m < 256 → (v : Verdict) (n : ℕ) → v ≡ Passed → (s j o b : Bool) → v ≡ inOrder s j o (ltb m n) b → n < 256
+passed-byte m k v n q s j o b h = omega (arith, ltb-false m n (unrefused v s j o _ b q h .3))
 
-  pub passed-short : (s j o g : Bool) → v ≡ inOrder s j o g (ltb (length l) 2 || ltb 16 (length l)) → length l ≤ 16
-  passed-short s j o g h = ltb-false 16 (length l) (or-right (ltb (length l) 2) _ (no-refusal s j o g _ (sym q ∙ h) .4))
-
--- a port and an edge kind fit a byte
-module _ (v : Verdict) (n : ℕ) (q : v ≡ Passed) (s j o b : Bool) where
-  pub passed-port : v ≡ inOrder s j o (ltb 1 n) b → n < 256
-  passed-port h = omega (arith, ltb-false 1 n (no-refusal s j o _ b (sym q ∙ h) .3))
-
-  pub passed-kind : v ≡ inOrder s j o (ltb 2 n) b → n < 256
-  passed-kind h = omega (arith, ltb-false 2 n (no-refusal s j o _ b (sym q ∙ h) .3))
+pub ruleset passed = (passed-state, passed-journal, passed-output, passed-received)
 
 -- ---- a step back
 
-module _ (s j : List ℕ) (spelled : Bool) (is-state : spelled ≡ isState s) where
-  pub back-state : not spelled ≡ true → stepped 6 s j ≡ steppedBack s j
+-- a test of what a call gave, turned round
+pub tested-not : (b t u : Bool) → b ≡ t → not b ≡ u → t ≡ not u
+tested-not true t u e h = sym e ∙ ap not h
+tested-not false t u e h = sym e ∙ ap not h
+
+module _ (s j : List ℕ) where
+  pub back-state : isState s ≡ false → stepped 6 s j ≡ steppedBack s j
   unfolding steppedBack backVerdict
-  back-state h = rw (← is-state, h) refl
+  back-state h = simp h
 
-  module _ (formed : Bool) (well-formed : formed ≡ wellFormed j) (h : not spelled ≡ false) where
-    pub back-journal : not formed ≡ true → stepped 4 s j ≡ steppedBack s j
+  module _ (h : isState s ≡ true) where
+    pub back-journal : wellFormed j ≡ false → stepped 4 s j ≡ steppedBack s j
     unfolding steppedBack backVerdict
-    back-journal g = rw (← is-state, h, ← well-formed, g) refl
+    back-journal g = simp (h, g)
 
-    pub back-none : not formed ≡ false → keptOf j ≡ 0 → stepped 5 s j ≡ steppedBack s j
-    unfolding steppedBack backVerdict
-    back-none g n = rw (← is-state, h, ← well-formed, g, eq-eqb (keptOf j) 0 n) refl
+    module _ (w : wellFormed j ≡ true) where
+      pub back-none : keptOf j ≡ 0 → stepped 5 s j ≡ steppedBack s j
+      unfolding steppedBack backVerdict
+      back-none n = simp (h, w, eq-eqb (keptOf j) 0 n)
 
-    pub back-tried : (x : Stepped) → not formed ≡ false → (keptOf j ≡ 0 → ⊥)
-        → x ≡ cond (sound s (past j 0)) (stepped 17 (restored s (past j 0)) (lowered j)) (stepped 4 s j) → x ≡ steppedBack s j
-    unfolding steppedBack backVerdict
-    back-tried x g n e = rw (← is-state, h, ← well-formed, g, ne-eqb (keptOf j) 0 n) (e ∙ by (sound s (past j 0)))
-      where
-        by : (t : Bool) → cond t (stepped 17 (restored s (past j 0)) (lowered j)) (stepped 4 s j)
-            ≡ judgedBack (cond (not t) (Refused 4) Passed) s j
-        by true = refl
-        by false = refl
+      pub back-tried : (x : Stepped) → (keptOf j ≡ 0 → ⊥)
+          → x ≡ cond (sound s (past j 0)) (stepped 17 (restored s (past j 0)) (lowered j)) (stepped 4 s j) → x ≡ steppedBack s j
+      unfolding steppedBack backVerdict
+      back-tried x n e = simp (h, w, ne-eqb (keptOf j) 0 n) (e ∙ by (sound s (past j 0)))
+        where
+          by : (t : Bool) → cond t (stepped 17 (restored s (past j 0)) (lowered j)) (stepped 4 s j)
+              ≡ judgedBack (cond (not t) (Refused 4) Passed) s j
+          by true = refl
+          by false = refl
 
 module _ (s j t : List ℕ) (x : Bool) (judged : x ≡ sound s (past j 0)) (tried : t ≡ cond x (restored s (past j 0)) s) where
   pub back-damaged : x ≡ false → stepped 4 t j ≡ cond (sound s (past j 0)) (stepped 17 (restored s (past j 0)) (lowered j)) (stepped 4 s j)
@@ -293,14 +245,3 @@ module _ (s j t : List ℕ) (x : Bool) (judged : x ≡ sound s (past j 0)) (trie
   pub back-restored : (k : List ℕ) → x ≡ true → k ≡ lowered j
       → stepped 17 t k ≡ cond (sound s (past j 0)) (stepped 17 (restored s (past j 0)) (lowered j)) (stepped 4 s j)
   back-restored k d f = rw (← judged, tried, d, f) refl
-
--- what the tests so far tell the next one
-module _ (j : List ℕ) (formed : Bool) (e : formed ≡ wellFormed j) (h : not formed ≡ false) where
-  pub back-header : 6 < length j
-  back-header = in-journal j 6 (sym e ∙ not-false formed h) (lit< tt)
-
-  pub back-formed : wellFormed j ≡ true
-  back-formed = sym e ∙ not-false formed h
-
-pub back-length : (s : List ℕ) (spelled : Bool) → spelled ≡ isState s → not spelled ≡ false → length s ≡ stateSize
-back-length s spelled e h = its-length s (sym e ∙ not-false spelled h)

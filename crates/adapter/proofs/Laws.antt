@@ -1,12 +1,11 @@
 -- The laws of the public calls, for what stands above them: what an event that is not refused leaves to be taken back, and what a step
 -- back makes of it. A journal that is well formed stays so. Assumes nothing.
-use Prim.Native.Nat.{ℕ, suc, _+_, _-_, min, _<_}
-use mathlib.Core.Path.{_≡_, refl, ap}
+use Prim.Native.Nat.{ℕ, suc, _+_, min, _<_}
+use mathlib.Core.Path.{_≡_, refl, sym, ap}
 use mathlib.Core.Bool.{Bool, true, false, cond}
 use mathlib.Core.List.{List, _++_}
 use lib.ListN.{length}
 use lib.Dec.{ltb}
-use borrow.Author.Tests.{eq-eqb, ne-eqb}
 use Rattle.bits.proofs.Tests.{either}
 use Rattle.state.specs.State.{Adapter}
 use Rattle.state.specs.Bytes.{stateBytes, isState}
@@ -21,7 +20,8 @@ use Rattle.journal.specs.Record.{before, restored, sound}
 use Rattle.journal.proofs.Record.{length-before, taken-back, sound-back}
 use Rattle.journal.proofs.Ring.{Well, well-of, emptied-well, emptied-slots, emptied-kept, behind, pushed-well, pushed-slots, pushed-kept, pushed-newest, pushed-older}
 use Rattle.adapter.specs.declared.Verdict.the-variants.{Refused, Passed}
-use Rattle.adapter.specs.Refusals.{wrongArgument, wrongBody, inOrder, verdict, backVerdict}
+use Rattle.adapter.specs.Refusals.{wrongArgument, wrongBody, inOrder, verdict}
+use Rattle.adapter.proofs.Cases.{back-none, back-tried}
 use Rattle.adapter.specs.Calls.{outcome, plain, recorded, done, called, stepped, steppedBack, made, madeEmpty}
 
 -- ---- an event
@@ -84,12 +84,10 @@ module _ (a : Adapter) (e : Event) (j : List ℕ) (w : Well j) (kept : acceptedR
 
 module _ (s j : List ℕ) (h : isState s ≡ true) (w : Well j) where
   pub back-refused : keptOf j ≡ 0 → steppedBack s j ≡ stepped 5 s j
-  unfolding steppedBack backVerdict
-  back-refused z = simp (h, well-of w, eq-eqb (keptOf j) 0 z)
+  back-refused z = sym (back-none s j h (well-of w) z)
 
   pub back-done : (keptOf j ≡ 0 → ⊥) → sound s (past j 0) ≡ true → steppedBack s j ≡ stepped 17 (restored s (past j 0)) (lowered j)
-  unfolding steppedBack backVerdict
-  back-done z r = simp (h, well-of w, ne-eqb (keptOf j) 0 z, r)
+  back-done z r = sym (back-tried s j h (well-of w) _ z (simp r))
 
 -- ---- a journal made empty
 

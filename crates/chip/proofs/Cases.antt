@@ -1,17 +1,16 @@
 -- What the frame checks come to, case by case. `search` finds the premises in what a need knows, wherever they stand.
 use Prim.Native.Nat.{ℕ, suc, _-_, _≤_}
-use mathlib.Core.Bool.{Bool, true, false}
+use mathlib.Core.Bool.{Bool, true, false, not, cond}
 use mathlib.Core.List.{List, [], _∷_}
 use mathlib.Core.Path.{_≡_, refl, sym, _∙_}
 use native.Mathlib.Nat.{le-of-eq}
 use native.Mathlib.Omega.{arith}
 use borrow.Author.Tests.{eq-eqb, ne-eqb}
 use lib.Dec.{eqb, eqb·suc-suc}
-use lib.Bits.{bitAnd}
 use lib.ListN.{length, getD, take, drop, length-drop}
 use lib.Seq.{take-all}
 use Rattle.bits.proofs.Bits.{bit-set, bit-clear}
-use Rattle.numbers.specs.Numbers.{otherAddress, otherPort, otherControl, badInformation}
+use Rattle.numbers.specs.Numbers.{badInformation}
 use Rattle.parts.specs.Parts.{put}
 use Rattle.packets.specs.Packets.{requestOf}
 use Rattle.commands.specs.declared.command.Register.the-variants.{ChipId}
@@ -20,11 +19,12 @@ use Rattle.registers.specs.Registers.{read}
 use Rattle.channels.specs.Groups.{groupFor}
 use Rattle.channels.specs.declared.groups.Group.{Group}
 use Rattle.channels.specs.declared.groups.Group.the-variants.{Nothing}
-use Rattle.state.specs.State.{adapter, blank, poweredOn}
+use Rattle.state.specs.State.{Adapter, adapter, blank, poweredOn}
+use Rattle.chip.specs.Answer.{Reaction, gives}
 use Rattle.chip.specs.Inner.{sent, given, Said, said, says}
 use Rattle.link.specs.Link.{acknowledgeControl, rejectControl, receiveNumber, receiveUp, numberIn, freshLink, loopedAt, inLoopback}
 use Rattle.chip.specs.Request.{requested}
-use Rattle.chip.specs.Frame.{isConnect, isReset, isResetFrame, isTest, reset, acknowledges, commanded, numbered, carried, addressed, onFrame}
+use Rattle.chip.specs.Frame.{isConnect, isReset, isResetFrame, isTest, reset, acknowledges, commanded, numbered, carried, addressed}
 use Rattle.chip.specs.Group.{groupOfFrame}
 use Rattle.chip.specs.declared.Response.{Response}
 use Rattle.link.specs.declared.Link.{Link}
@@ -36,6 +36,31 @@ rest n s = take-all (length s - n) (drop n s) (le-of-eq (length-drop n s))
 -- the information of a body has 2 bytes less
 information : (s : List ℕ) (n m : ℕ) → length s ≡ n → n - 2 ≡ m → length (drop 2 s) ≡ m
 information s n m e f = length-drop 2 s ∙ (let g : length s - 2 ≡ m = omega arith in g)
+
+-- ---- a choice of answers, as code makes it
+
+module _ (x : Said) (v w : Reaction) (o : List ℕ) (t : Bool) where
+  pub says-first : t ≡ true → x ≡ says v o → x ≡ says (cond t v w) o
+  says-first h e = simp (h, e)
+
+  pub says-else : t ≡ false → x ≡ says w o → x ≡ says (cond t v w) o
+  says-else h e = simp (h, e)
+
+-- its test, turned round, and from what a call gave for it
+pub off : (t : Bool) → t ≡ false → not t ≡ true
+off t h = simp h
+
+pub on : (t : Bool) → t ≡ true → not t ≡ false
+on t h = simp h
+
+pub tested : (b t u : Bool) → b ≡ t → b ≡ u → t ≡ u
+tested b t u e h = sym e ∙ h
+
+-- no frame
+pub gives-none : (l : Link) (rs : List ℕ) (n : ℕ) (o : List ℕ) (r : Response) → r ≡ given l n → said r rs o ≡ says (gives (adapter l rs) n) o
+gives-none l rs n o r e = simp e
+
+pub ruleset choices = (says-first, says-else, off, on, tested, eq-eqb, ne-eqb, bit-set, bit-clear, gives-none)
 
 -- ---- commands
 
@@ -56,12 +81,6 @@ module _ (l m : Link) (port : ℕ) (s o p : List ℕ) (r : Response) where
   unfolding commanded
   acknowledged n e rs = simp (empty s n, e rs)
 
-module _ (l m : Link) (port : ℕ) (s o : List ℕ) (r : Response) where
-  pub informed : (length s ≡ 2 → ⊥) → 2 ≤ length s → r ≡ given l badInformation
-      → (rs : List ℕ) → said r rs o ≡ says (commanded (adapter l rs) (adapter m rs) port s) o
-  unfolding commanded
-  informed n h e rs = simp (full s n h, e)
-
 module _ (l : Link) (rs : List ℕ) (port : ℕ) (s o : List ℕ) (r : Response) where
   pub reset-done : (m : Link) (id : ℕ) (ss p : List ℕ) → length s ≡ 2 → id ≡ read rs ChipId → ss ≡ blank id → m ≡ freshLink port
       → ((ts : List ℕ) → said r ts p ≡ says (acknowledges (adapter m ts) port (getD s 1 0)) o)
@@ -69,10 +88,10 @@ module _ (l : Link) (rs : List ℕ) (port : ℕ) (s o : List ℕ) (r : Response)
   unfolding commanded poweredOn
   reset-done m id ss p n e f g h = h ss ∙ simp (empty s n, f, e, g)
 
-  pub reset-informed : (length s ≡ 2 → ⊥) → 2 ≤ length s → r ≡ given l badInformation
-      → said r rs o ≡ says (commanded (adapter l rs) (reset (adapter l rs) port) port s) o
+  -- whatever the command is
+  pub informed : (b : Adapter) → (length s ≡ 2 → ⊥) → 2 ≤ length s → r ≡ given l badInformation → said r rs o ≡ says (commanded (adapter l rs) b port s) o
   unfolding commanded
-  reset-informed n h e = simp (full s n h, e)
+  informed b n h e = simp (full s n h, e)
 
 -- ---- checks 7 and 8
 
@@ -93,10 +112,6 @@ module _ (l : Link) (rs : List ℕ) (port : ℕ) (s o : List ℕ) (t : Bool) (q 
   unfolding carried
   echoed r p e g h = simp (sym q ∙ e, g, h)
 
-  pub inactive : (r : Response) → t ≡ false → (port ≡ l .port → ⊥) → r ≡ given l otherPort → said r rs o ≡ says (carried (adapter l rs) port s) o
-  unfolding carried
-  inactive r e h g = simp (sym q ∙ e, ne-eqb _ _ h, g)
-
   pub misfit : (r : Response) → t ≡ false → port ≡ l .port → (length s - 2 ≡ 8 → ⊥) → r ≡ given l badInformation
       → said r rs o ≡ says (carried (adapter l rs) port s) o
   unfolding carried
@@ -115,38 +130,11 @@ module _ (l : Link) (rs : List ℕ) (port : ℕ) (s o : List ℕ) (t : Bool) (f 
   unfolding addressed
   connects r p m e g h = simp (sym f ∙ e, h rs, g)
 
-  module _ (u : Bool) (q : u ≡ isReset (getD s 1 0)) where
-    pub resets : (x : Said) → t ≡ false → u ≡ true → x ≡ says (commanded (adapter l rs) (reset (adapter l rs) port) port s) o
-        → x ≡ says (addressed (adapter l rs) port s) o
-    unfolding addressed
-    resets x e g h = simp (sym f ∙ e, sym q ∙ g, h)
-
-    module _ (v : Bool) (w : v ≡ isTest (getD s 1 0)) where
-      pub tests : (r : Response) (p : List ℕ) (m : Link) → t ≡ false → u ≡ false → v ≡ true → m ≡ loopedAt l port
-          → ((ts : List ℕ) → said r ts p ≡ says (commanded (adapter l ts) (adapter m ts) port s) o) → said r rs p ≡ says (addressed (adapter l rs) port s) o
-      unfolding addressed
-      tests r p m e g h i k = simp (sym f ∙ e, sym q ∙ g, sym w ∙ h, k rs, i)
-
-      pub odd : (r : Response) → t ≡ false → u ≡ false → v ≡ false → (bitAnd (getD s 1 0) 1 ≡ 0 → ⊥) → r ≡ given l otherControl
-          → said r rs o ≡ says (addressed (adapter l rs) port s) o
-      unfolding addressed
-      odd r e g h i k = simp (sym f ∙ e, sym q ∙ g, sym w ∙ h, bit-set (getD s 1 0) 0 i, k)
-
-      pub carries : (x : Said) → t ≡ false → u ≡ false → v ≡ false → bitAnd (getD s 1 0) 1 ≡ 0 → x ≡ says (carried (adapter l rs) port s) o
-          → x ≡ says (addressed (adapter l rs) port s) o
-      unfolding addressed
-      carries x e g h i k = simp (sym f ∙ e, sym q ∙ g, sym w ∙ h, bit-clear (getD s 1 0) 0 i, k)
-
--- ---- checks 1 to 8
-
-module _ (l : Link) (rs : List ℕ) (port : ℕ) (s o : List ℕ) where
-  pub other-chip : (r : Response) → (getD s 0 0 ≡ 0 → ⊥) → r ≡ given l otherAddress → said r rs o ≡ says (onFrame (adapter l rs) port s) o
-  unfolding onFrame
-  other-chip r h g = simp (ne-eqb _ _ h, g)
-
-  pub this-chip : (x : Said) → getD s 0 0 ≡ 0 → x ≡ says (addressed (adapter l rs) port s) o → x ≡ says (onFrame (adapter l rs) port s) o
-  unfolding onFrame
-  this-chip x h g = simp (eq-eqb _ _ h, g)
+  pub tests : (r : Response) (p : List ℕ) (m : Link) (u v : Bool) → u ≡ isReset (getD s 1 0) → v ≡ isTest (getD s 1 0) → t ≡ false → u ≡ false → v ≡ true
+      → m ≡ loopedAt l port → ((ts : List ℕ) → said r ts p ≡ says (commanded (adapter l ts) (adapter m ts) port s) o)
+      → said r rs p ≡ says (addressed (adapter l rs) port s) o
+  unfolding addressed
+  tests r p m u v q w e g h i k = simp (sym f ∙ e, sym q ∙ g, sym w ∙ h, k rs, i)
 
 -- ---- a RESET that every state accepts
 

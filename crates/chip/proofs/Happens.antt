@@ -3,29 +3,23 @@ use Prim.Native.Nat.{ℕ, _+_, _%_, _^_}
 use mathlib.Core.Bool.{Bool, true, false}
 use mathlib.Core.List.{List}
 use mathlib.Core.Path.{_≡_, sym, _∙_}
-use Rattle.numbers.specs.Numbers.{notBusy, linesDisabled, noFrame}
-use Rattle.commands.specs.declared.channel.Channel.the-variants.{Spi, Gpio}
+use Rattle.numbers.specs.Numbers.{noFrame}
+use Rattle.commands.specs.declared.channel.Channel.the-variants.{Gpio}
 use Rattle.commands.specs.declared.command.Register.the-variants.{SpiData0, SpiGo, Ints, Seu}
 use Rattle.commands.specs.Spi.{go}
 use Rattle.registers.specs.Registers.{read, store}
 use Rattle.registers.specs.Pins.{interrupts, sampled}
 use Rattle.registers.specs.Transfer.{completed}
-use Rattle.channels.specs.Rows.{isEnabled, isBusy}
+use Rattle.channels.specs.Rows.{isEnabled}
 use Rattle.commands.specs.Request.{interruptTransaction}
 use Rattle.link.specs.declared.Link.{Link}
 use Rattle.state.specs.State.{adapter}
-use Rattle.chip.specs.Event.{spi, frame, completion, sample, upset}
+use Rattle.chip.specs.Event.{sample, upset}
 use Rattle.chip.specs.Numbers.{spiChannel, gpioChannel, interruptLength}
-use Rattle.chip.specs.Inner.{given, Said, said, says}
+use Rattle.chip.specs.Inner.{given, said, says}
 use Rattle.chip.specs.Request.{replies}
-use Rattle.chip.specs.Frame.{onFrame}
-use Rattle.chip.specs.Chip.{transferred, onSpi, onSample, onUpset, reaction}
+use Rattle.chip.specs.Chip.{transferred, onSample, onUpset, reaction}
 use Rattle.chip.specs.declared.Response.{Response}
-
-pub checked : (l : Link) (rs : List ℕ) (port : ℕ) (s o : List ℕ) (x : Said) → x ≡ says (onFrame (adapter l rs) port s) o
-    → x ≡ says (reaction (adapter l rs) (frame port s)) o
-unfolding reaction
-checked l rs port s o x e = e
 
 pub transfers : (l : Link) (rs s o p after : List ℕ) (r : Response) (trn d : ℕ) → after ≡ completed rs s → trn ≡ read rs SpiGo → d ≡ read after SpiData0
     → ((ts : List ℕ) → said r ts p ≡ says (replies (adapter l ts) (trn % 0x100) spiChannel 0 (go .given) d) o)
@@ -33,30 +27,17 @@ pub transfers : (l : Link) (rs s o p after : List ℕ) (r : Response) (trn d : �
 unfolding transferred
 transfers l rs s o p after r trn d c t v g = g after ∙ simp (v, t, c)
 
-module _ (l : Link) (rs s o : List ℕ) (busy : Bool) (b : busy ≡ isBusy rs Spi) where
-  pub idle : (r : Response) → busy ≡ false → r ≡ given l notBusy → said r rs o ≡ says (reaction (adapter l rs) (completion (spi s))) o
-  unfolding reaction onSpi
-  idle r e g = simp (sym b ∙ e, g)
-
-  pub completes : (x : Said) → busy ≡ true → x ≡ says (transferred (adapter l rs) s) o → x ≡ says (reaction (adapter l rs) (completion (spi s))) o
-  unfolding reaction onSpi
-  completes x e g = simp (sym b ∙ e, g)
-
-module _ (l : Link) (rs : List ℕ) (levels kind : ℕ) (o : List ℕ) (on : Bool) (e : on ≡ isEnabled rs Gpio) where
-  pub disabled : (r : Response) → on ≡ false → r ≡ given l linesDisabled → said r rs o ≡ says (reaction (adapter l rs) (sample levels kind)) o
+module _ (l : Link) (rs : List ℕ) (levels kind : ℕ) (o : List ℕ) (on : Bool) (e : on ≡ isEnabled rs Gpio)
+    (h : on ≡ true) (t : Bool) (f : t ≡ interrupts rs levels kind) (after : List ℕ) (k : after ≡ sampled rs levels kind) where
+  pub interrupted : (r : Response) (p : List ℕ) (d : ℕ) → t ≡ true → d ≡ read after Ints
+      → ((ts : List ℕ) → said r ts p ≡ says (replies (adapter l ts) interruptTransaction gpioChannel 0 interruptLength d) o)
+      → said r after p ≡ says (reaction (adapter l rs) (sample levels kind)) o
   unfolding reaction onSample
-  disabled r h g = simp (sym e ∙ h, g)
+  interrupted r p d i v g = simp (sym e ∙ h, ← k, sym f ∙ i, g after, v)
 
-  module _ (h : on ≡ true) (t : Bool) (f : t ≡ interrupts rs levels kind) (after : List ℕ) (k : after ≡ sampled rs levels kind) where
-    pub interrupted : (r : Response) (p : List ℕ) (d : ℕ) → t ≡ true → d ≡ read after Ints
-        → ((ts : List ℕ) → said r ts p ≡ says (replies (adapter l ts) interruptTransaction gpioChannel 0 interruptLength d) o)
-        → said r after p ≡ says (reaction (adapter l rs) (sample levels kind)) o
-    unfolding reaction onSample
-    interrupted r p d i v g = simp (sym e ∙ h, ← k, sym f ∙ i, g after, v)
-
-    pub taken : (r : Response) → t ≡ false → r ≡ given l noFrame → said r after o ≡ says (reaction (adapter l rs) (sample levels kind)) o
-    unfolding reaction onSample
-    taken r i g = simp (sym e ∙ h, ← k, sym f ∙ i, g)
+  pub taken : (r : Response) → t ≡ false → r ≡ given l noFrame → said r after o ≡ says (reaction (adapter l rs) (sample levels kind)) o
+  unfolding reaction onSample
+  taken r i g = simp (sym e ∙ h, ← k, sym f ∙ i, g)
 
 pub upsets : (l : Link) (rs : List ℕ) (r : Response) (was n : ℕ) (after : List ℕ) → was ≡ read rs Seu → n ≡ (was + 1) % 2 ^ 32
     → after ≡ store rs Seu n → r ≡ given l noFrame → (o : List ℕ) → said r after o ≡ says (reaction (adapter l rs) upset) o

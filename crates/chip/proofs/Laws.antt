@@ -1,6 +1,6 @@
 -- The chip's laws, for what stands above it.
 use Prim.Native.Nat.{ℕ, _≤_}
-use mathlib.Core.Bool.{Bool, true, false, _&&_, _||_}
+use mathlib.Core.Bool.{Bool, true, false, _||_}
 use mathlib.Core.List.{List, [], _∷_}
 use mathlib.Core.Logic.{_⊎_, inl, inr}
 use mathlib.Core.Path.{_≡_, refl, sym, ap, subst}
@@ -25,7 +25,7 @@ use Rattle.chip.specs.Frame.{isConnect, isReset, isResetFrame, addressOf
 use Rattle.chip.specs.Chip.{reaction, acceptedReset}
 use Rattle.chip.specs.declared.Response.{Response}
 use Rattle.bits.proofs.Tests.{and-left, and-right, or-second}
-use Rattle.chip.proofs.Steps.{Commanded, connects, resets, tests, moved-send, Shape, dropped, acknowledged, echoed, rejected}
+use Rattle.chip.proofs.Steps.{Commanded, connects, resets, tests, moved-link, Shape, dropped, acknowledged, echoed, rejected}
 use Rattle.chip.proofs.Steps.{replied, quiet, shapes}
 pub use Rattle.chip.proofs.Bodies.{number-given, OneFrame, one-frame, silent, sendable, frame-bytes}
 pub use Rattle.chip.proofs.Good.{good-stays}
@@ -82,8 +82,8 @@ send-number a e = by (reaction a e) (shapes a e)
     by r (acknowledged port body h b c) = command-moves a e port body h b c _
     by r (echoed port body h) = stays _ refl
     by r (rejected port body h) = stays _ refl
-    by r (replied b trn ch err len d m f) = raised b trn ch err len d (moved-send a e b m)
-    by r (quiet b m) = stays _ (moved-send a e b m)
+    by r (replied b trn ch err len d m f) = raised b trn ch err len d (moved-link a e b m .0)
+    by r (quiet b m) = stays _ (moved-link a e b m .0)
 
 -- ---- judging is performing without storing: a request's number, port and frames are those of its reply from the state as it was
 
@@ -118,13 +118,14 @@ either c m n h P p q =
 not-connect : (c : ℕ) → isReset c ≡ true → isConnect c ≡ false
 not-connect c h = either c 0x8F 0x9F h (λ (n : ℕ). isConnect n ≡ false) refl refl
 
+ruleset halves = (and-left, and-right)
+
 -- an accepted RESET acknowledges on its port and leaves power-on with that port active; only the ID stays
 pub accepted-reset : (a : Adapter) (port : ℕ) (body : List ℕ) → acceptedReset (frame port body) ≡ true
     → reaction a (frame port body) ≡ sends (poweredOn port (read (a .registers) ChipId)) port (address ∷ acknowledgeControl (controlOf body) ∷ [])
 unfolding reaction onFrame addressed commanded isResetFrame
 accepted-reset a port body h =
-    let h1 = and-left (eqb (addressOf body) address && isReset (controlOf body)) (eqb (length (informationOf body)) 0) h in
-    let here = and-left (eqb (addressOf body) address) (isReset (controlOf body)) h1 in
-    let command = and-right (eqb (addressOf body) address) (isReset (controlOf body)) h1 in
-    let empty = and-right (eqb (addressOf body) address && isReset (controlOf body)) (eqb (length (informationOf body)) 0) h in
+    let command : isReset (controlOf body) ≡ true = search halves in
+    let empty : eqb (length (informationOf body)) 0 ≡ true = search halves in
+    let here : eqb (addressOf body) address ≡ true = search halves in
     simp (here, not-connect (controlOf body) command, command, empty)

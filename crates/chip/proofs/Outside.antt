@@ -1,6 +1,6 @@
 -- AN EVENT CHANGES NO REGISTER OUTSIDE THE CORE AND ITS GROUP, and not the ID; but for an accepted RESET, which leaves no record.
 use Prim.Native.Nat.{ℕ, _%_, _^_, _≤_}
-use mathlib.Core.Bool.{true, false, _&&_, true≢false}
+use mathlib.Core.Bool.{true, false, true≢false}
 use mathlib.Core.List.{List}
 use mathlib.Core.Logic.{inl}
 use mathlib.Core.Path.{_≡_, refl, sym, subst, ap, _∙_}
@@ -12,8 +12,8 @@ use lib.Dec.{eqb, lit≤}
 use lib.ListN.{length, replicate}
 use Rattle.bits.proofs.Tests.{and-left, and-right}
 use Rattle.commands.specs.declared.command.Control.the-variants.{B, C, D}
-use Rattle.commands.specs.declared.command.Register.the-variants.{Crb, Crd, ChipId, Intenable}
-use Rattle.registers.specs.Registers.{size, read, isWithin}
+use Rattle.commands.specs.declared.command.Register.the-variants.{ChipId}
+use Rattle.registers.specs.Registers.{size, read}
 use Rattle.registers.proofs.Laws.{read-same}
 use Rattle.channels.specs.Groups.{spanOf, groupFor}
 use Rattle.channels.specs.declared.groups.Group.{Group}
@@ -61,11 +61,7 @@ id-given port id h =
 module _ (a : Adapter) (s : Sound (a .registers)) where
   -- no more than 24 bits
   id-small : bitAnd (read (a .registers) ChipId) 0xFFFFFF ≡ read (a .registers) ChipId
-  id-small =
-      let rs = a .registers in
-      eqb-true _ _
-      (and-right (isWithin rs Crb && isWithin rs Crd) (isWithin rs ChipId)
-      (and-left (isWithin rs Crb && isWithin rs Crd && isWithin rs ChipId) (isWithin rs Intenable) (s .masked)))
+  id-small = eqb-true _ _ (search (and-left, and-right))
 
   commanded-id : (port : ℕ) (body : List ℕ) (b : Adapter) → Commanded a port body b → read (b .registers) ChipId ≡ read (a .registers) ChipId
   unfolding poweredOn

@@ -1,33 +1,35 @@
 -- What an event comes to: the shape of its answer, and beside it what changed of the state. A law about answers goes through the shapes
 -- (`shapes`), a law about the state through what can move it (`state-cases`).
 use Prim.Native.Nat.{ℕ, _+_, _%_, _^_, _≤_, _<_}
-use mathlib.Core.Bool.{true, not, _&&_}
+use mathlib.Core.Bool.{Bool, true, false, not, cond, _&&_}
 use mathlib.Core.List.{List, [], _∷_}
 use mathlib.Core.Path.{_≡_, refl, ap₂}
 use borrow.Author.Tests.{not-false}
 use native.Mathlib.Nat.{mod-lt}
 use lib.Dec.{eqb, lit≤, lit<}
-use lib.ListN.{length, getD, drop}
-use Rattle.bits.specs.Bits.{bitOf}
+use lib.ListN.{length, drop}
 use Rattle.bits.proofs.Tests.{cond-cases}
 use Rattle.commands.specs.declared.channel.Channel.the-variants.{Spi, Gpio}
-use Rattle.commands.specs.declared.command.Register.the-variants.{SpiGo, Seu}
+use Rattle.commands.specs.declared.command.Register.the-variants.{Seu}
 use Rattle.commands.specs.declared.request.Reply.{Reply}
 use Rattle.commands.specs.declared.request.Reply.the-variants.{Sent, Later}
 use Rattle.registers.specs.Registers.{read, store}
-use Rattle.registers.specs.Pins.{interrupts, sampled}
+use Rattle.registers.specs.Pins.{sampled}
 use Rattle.registers.specs.Transfer.{completed}
 use Rattle.channels.specs.Rows.{isEnabled, isBusy}
 use Rattle.channels.specs.Perform as perform
 use Rattle.channels.proofs.Laws.{ReplyBytes, replied-bytes}
+use Rattle.commands.specs.Request.{interruptTransaction}
+use Rattle.commands.specs.Spi.{go}
+use Rattle.chip.specs.Numbers.{spiChannel, gpioChannel, interruptLength}
 use Rattle.chip.specs.Event.{Event, frame, completion, sample, upset, spi}
 use Rattle.parts.proofs.Laws.{bytes-drop}
 use Rattle.chip.proofs.EventFits.{EventFits}
-use Rattle.numbers.specs.Numbers.{otherAddress, otherPort, otherControl, badInformation, noFrame, notBusy, linesDisabled}
+use Rattle.numbers.specs.Numbers.{noFrame}
 use Rattle.packets.specs.Packets.{address, requestOf}
 use Rattle.state.specs.State.{Adapter, withLink, withRegisters}
 use Rattle.chip.specs.Answer.{Reaction, sends, gives}
-use Rattle.link.specs.Link.{rejectControl, acknowledgeControl, receiveNumber, sendUp, numberIn, inLoopback}
+use Rattle.link.specs.Link.{rejectControl, acknowledgeControl, receiveNumber, sendUp, numberIn}
 use Rattle.chip.specs.Request.{replies, finished, requested}
 use Rattle.chip.specs.Frame.{isConnect, isReset, isResetFrame, isTest, addressOf, controlOf, informationOf, connected, reset, looped, counted, commanded, numbered}
 use Rattle.chip.specs.Frame.{carried, addressed, onFrame}
@@ -54,17 +56,14 @@ pub data Moved (a : Adapter) : Event → Adapter → Type 0 where
   counts : Moved a upset (withRegisters a (store (a .registers) Seu ((read (a .registers) Seu + 1) % 2 ^ 32)))
 
 -- none of these moves the send number or the active port
-pub moved-send : (a : Adapter) (e : Event) (b : Adapter) → Moved a e b → b .link .send ≡ a .link .send
-moved-send a e b (requests port body h) = refl
-moved-send a e b (completes received h) = refl
-moved-send a e b (samples levels kind h) = refl
-moved-send a e b counts = refl
+pub moved-link : (a : Adapter) (e : Event) (b : Adapter) → Moved a e b → (b .link .send ≡ a .link .send) × (b .link .port ≡ a .link .port)
+moved-link a e b (requests port body h) = (refl, refl)
+moved-link a e b (completes received h) = (refl, refl)
+moved-link a e b (samples levels kind h) = (refl, refl)
+moved-link a e b counts = (refl, refl)
 
 pub moved-port : (a : Adapter) (e : Event) (b : Adapter) → Moved a e b → b .link .port ≡ a .link .port
-moved-port a e b (requests port body h) = refl
-moved-port a e b (completes received h) = refl
-moved-port a e b (samples levels kind h) = refl
-moved-port a e b counts = refl
+moved-port a e b m = moved-link a e b m .1
 
 -- ---- the shapes of an answer
 
@@ -90,12 +89,17 @@ pub data Shape (a : Adapter) (e : Event) : Reaction → Type 0 where
   -- 17
   quiet : (b : Adapter) → Moved a e b → Shape a e (gives b noFrame)
 
+-- a choice of answers has a shape where each of them has one when it is made
+by-test : {a : Adapter} {e : Event} (t : Bool) {r s : Reaction} → (t ≡ true → Shape a e r) → (t ≡ false → Shape a e s) → Shape a e (cond t r s)
+by-test {a} {e} t f g = cond-cases (Shape a e) t f g
+
+-- a check: what it drops is 11 to 16
+ruleset check = (by-test, not-false, dropped, lit≤, tt)
+
 module _ (a : Adapter) (port : ℕ) (body : List ℕ) where
   of-command : (b : Adapter) → (eqb (length (informationOf body)) 0 ≡ true → Commanded a port body b) → Shape a (frame port body) (commanded a b port body)
   unfolding commanded
-  of-command b c =
-      cond-cases (Shape a (frame port body)) (not (eqb (length (drop 2 body)) 0)) (λ _. dropped badInformation (lit≤ tt) (lit≤ tt))
-      (λ h. acknowledged port body refl b (c (not-false (eqb (length (drop 2 body)) 0) h)))
+  of-command b c = search (check, acknowledged)
 
   of-reply : eqb (length (informationOf body)) 8 ≡ true → (r : Reply) → ReplyBytes r
       → Shape a (frame port body)
@@ -111,16 +115,11 @@ module _ (a : Adapter) (port : ℕ) (body : List ℕ) where
 
   of-order : eqb (length (informationOf body)) 8 ≡ true → Shape a (frame port body) (numbered a port (controlOf body) (drop 2 body))
   unfolding numbered
-  of-order h =
-      cond-cases (Shape a (frame port body)) (not (eqb (numberIn (controlOf body)) (receiveNumber (a .link)))) (λ _. rejected port body refl) (λ _. of-request h)
+  of-order h = by-test (not (eqb (numberIn (controlOf body)) (receiveNumber (a .link)))) (λ _. rejected port body refl) (λ _. of-request h)
 
   of-carried : Shape a (frame port body) (carried a port body)
   unfolding carried
-  of-carried =
-      cond-cases (Shape a (frame port body)) (inLoopback (a .link) port) (λ _. echoed port body refl)
-      (λ _. cond-cases (Shape a (frame port body)) (not (eqb port (a .link .port))) (λ _. dropped otherPort (lit≤ tt) (lit≤ tt))
-      (λ _. cond-cases (Shape a (frame port body)) (not (eqb (length (drop 2 body)) 8)) (λ _. dropped badInformation (lit≤ tt) (lit≤ tt))
-      (λ h. of-order (not-false (eqb (length (drop 2 body)) 8) h))))
+  of-carried = search (check, echoed, of-order) depth 8
 
   of-reset : eqb (addressOf body) address ≡ true → isReset (controlOf body) ≡ true → eqb (length (informationOf body)) 0 ≡ true
       → Commanded a port body (reset a port)
@@ -129,33 +128,24 @@ module _ (a : Adapter) (port : ℕ) (body : List ℕ) where
 
   of-addressed : eqb (addressOf body) address ≡ true → Shape a (frame port body) (addressed a port body)
   unfolding addressed
-  of-addressed here =
-      cond-cases (Shape a (frame port body)) (isConnect (controlOf body)) (λ h. of-command _ (λ _. connects h))
-      (λ _. cond-cases (Shape a (frame port body)) (isReset (controlOf body)) (λ h. of-command _ (of-reset here h))
-      (λ _. cond-cases (Shape a (frame port body)) (isTest (controlOf body)) (λ h. of-command _ (λ _. tests h))
-      (λ _. cond-cases (Shape a (frame port body)) (bitOf (controlOf body) 0) (λ _. dropped otherControl (lit≤ tt) (lit≤ tt))
-      (λ _. of-carried))))
+  of-addressed here = search (check, of-command, connects, of-reset, tests, of-carried) depth 8
 
   of-frame : Shape a (frame port body) (onFrame a port body)
   unfolding onFrame
-  of-frame =
-      cond-cases (Shape a (frame port body)) (not (eqb (getD body 0 0) 0x00)) (λ _. dropped otherAddress (lit≤ tt) (lit≤ tt))
-      (λ h. of-addressed (not-false (eqb (getD body 0 0) 0x00) h))
+  of-frame = search (check, of-addressed)
+
+of-transfer : (a : Adapter) (e : Event) (b : Adapter) (n d : ℕ) → Moved a e b → Shape a e (replies b (n % 0x100) spiChannel 0 (go .given) d)
+of-transfer a e b n d m = replied b _ _ _ _ d m (λ _. record { trn = mod-lt n (lit< tt); ch = lit< tt; err = lit< tt; len = lit< tt })
+
+of-interrupt : (a : Adapter) (e : Event) (b : Adapter) (d : ℕ) → Moved a e b → Shape a e (replies b interruptTransaction gpioChannel 0 interruptLength d)
+of-interrupt a e b d m = replied b _ _ _ _ d m (λ _. record { trn = lit< tt; ch = lit< tt; err = lit< tt; len = lit< tt })
 
 -- every event's answer has one of them
 pub shapes : (a : Adapter) (e : Event) → Shape a e (reaction a e)
 unfolding reaction onSpi transferred onSample onUpset
 shapes a (frame port body) = of-frame a port body
-shapes a (completion (spi received)) =
-    cond-cases (Shape a (completion (spi received))) (not (isBusy (a .registers) Spi)) (λ _. dropped notBusy (lit≤ tt) (lit≤ tt))
-    (λ h. replied _ _ _ _ _ _ (completes received (not-false (isBusy (a .registers) Spi) h))
-    (λ _. record { trn = mod-lt (read (a .registers) SpiGo) (lit< tt); ch = lit< tt; err = lit< tt; len = lit< tt }))
-shapes a (sample levels kind) =
-    cond-cases (Shape a (sample levels kind)) (not (isEnabled (a .registers) Gpio)) (λ _. dropped linesDisabled (lit≤ tt) (lit≤ tt))
-    (λ h. cond-cases (Shape a (sample levels kind)) (interrupts (a .registers) levels kind)
-    (λ _. replied _ _ _ _ _ _ (samples levels kind (not-false (isEnabled (a .registers) Gpio) h))
-    (λ _. record { trn = lit< tt; ch = lit< tt; err = lit< tt; len = lit< tt }))
-    (λ _. quiet _ (samples levels kind (not-false (isEnabled (a .registers) Gpio) h))))
+shapes a (completion (spi received)) = search (check, of-transfer, completes)
+shapes a (sample levels kind) = search (check, of-interrupt, quiet, samples)
 shapes a upset = quiet _ counts
 
 -- ---- the state after an event

@@ -1,17 +1,19 @@
 -- A good state: in the range of document 01's number 6, with registers that hold what their machine types hold. Assumes nothing.
 use Prim.Native.Nat.{ℕ, _≤_}
-use mathlib.Core.Bool.{Bool, true, _&&_}
+use mathlib.Core.Bool.{true}
 use mathlib.Core.List.{List}
 use mathlib.Core.Path.{_≡_}
 use borrow.Author.Tests.{le-leb, leb-true}
-use lib.Dec.{leb, lit≤}
-use Rattle.bits.proofs.Tests.{both}
+use lib.Dec.{lit≤}
+use Rattle.bits.proofs.Tests.{and-left, and-right}
 use Rattle.registers.proofs.Laws.{RegistersFit}
 use Rattle.registers.specs.Registers.{within}
 use Rattle.channels.specs.Rows.{allHeld}
 use Rattle.channels.proofs.Laws.{Sound, power-on-sound}
 use Rattle.link.specs.declared.Link.{Link}
 use Rattle.state.specs.State.{Adapter, poweredOn, powerOn, inRange, withLink, withRegisters}
+
+ruleset halves = (and-left, and-right)
 
 pub record Good (a : Adapter) : Type 0 where
   pub send : a .link .send .0 ≤ 7
@@ -28,14 +30,7 @@ pub ranges : (a : Adapter) → inRange a ≡ true → (a .link .send .0 ≤ 7) �
     × (within (a .registers) ≡ true) × (allHeld (a .registers) ≡ true)
 unfolding inRange
 ranges a h =
-    let s : Bool = leb (a .link .send .0) 7 in
-    let r : Bool = leb (a .link .receive .0) 7 in
-    let p : Bool = leb (a .link .port) 1 in
-    let h4 = both (s && r && p && within (a .registers)) (allHeld (a .registers)) h in
-    let h3 = both (s && r && p) (within (a .registers)) (h4 .0) in
-    let h2 = both (s && r) p (h3 .0) in
-    let h1 = both s r (h2 .0) in
-    (leb-true _ _ (h1 .0), leb-true _ _ (h1 .1), leb-true _ _ (h2 .1), h3 .1, h4 .1)
+    (leb-true _ _ (search halves), leb-true _ _ (search halves), leb-true _ _ (search halves), search halves, search halves)
 
 pub good : (a : Adapter) → RegistersFit (a .registers) → inRange a ≡ true → Good a
 good a f h =

@@ -24,16 +24,15 @@ use Rattle.state.proofs.Good.{Good, good, good-ranged}
 module _ (s : List ℕ) (h : isState s ≡ true) where
   pub its-length : length s ≡ stateSize
   unfolding isState
-  its-length =
-      eqb-true (length s) stateSize (and-left (eqb (length s) stateSize) (spelled s) (and-left (eqb (length s) stateSize && spelled s) (inRange (stateIn s)) h))
+  its-length = eqb-true (length s) stateSize (search (and-left, and-right))
 
   its-spelling : spelled s ≡ true
   unfolding isState
-  its-spelling = and-right (eqb (length s) stateSize) (spelled s) (and-left (eqb (length s) stateSize && spelled s) (inRange (stateIn s)) h)
+  its-spelling = search (and-left, and-right)
 
   pub its-range : inRange (stateIn s) ≡ true
   unfolding isState
-  its-range = and-right (eqb (length s) stateSize && spelled s) (inRange (stateIn s)) h
+  its-range = search and-right
 
   -- what the language's types hold of its bytes holds of its fields
   pub its-good : AreBytes s → Good (stateIn s)

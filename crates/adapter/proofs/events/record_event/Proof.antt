@@ -1,7 +1,7 @@
 -- `events::record_event` meets its contract. Assumes nothing.
 use borrow.Author.Needs.{needs}
 use Rattle.journal.proofs.Ring.{size-in}
-use Rattle.adapter.proofs.Cases.{empties, pushes}
+use Rattle.adapter.proofs.Cases.{applies, applies-not}
 use Rattle.adapter.proofs.events.record_event.Statement.{statement}
 use Rattle.adapter.proofs.events.record_event.Tie as tie
 
@@ -12,6 +12,6 @@ record-event-spec =
     (λ c κs. search size-in)
     (λ c κs. search needs)
     (λ c. search needs)
-    (λ c. search (empties, pushes))
+    (λ c. search applies)
     (λ c. search needs)
-    (λ c. search (empties, pushes)))
+    (λ c. search applies-not))

@@ -4,8 +4,4 @@ use Rattle.chip.proofs.events.is_reset.Statement.{statement}
 use Rattle.chip.proofs.events.is_reset.Tie as tie
 
 pub is-reset-spec : {M : Type 1} → statement M
-is-reset-spec =
-    tie.close
-    (tie.spec
-    (λ c κs. search needs)
-    (λ c. c .resets .ensures))
+is-reset-spec = tie.close (tie.spec (λ c κs. search needs) (λ c. c .resets .ensures))

@@ -1,27 +1,14 @@
 -- `frame::carry` meets its contract. Assumes nothing.
 use borrow.Author.Needs.{needs}
-use Rattle.chip.proofs.Cases.{echoed, inactive, misfit, fitting}
+use Rattle.bits.proofs.Answered.{two, three, seven}
+use Rattle.chip.specs.Frame.{carried}
+use Rattle.chip.proofs.Cases.{echoed, choices, misfit, fitting}
 use Rattle.chip.proofs.frame.carry.Statement.{statement}
 use Rattle.chip.proofs.frame.carry.Tie as tie
 
 pub carry-spec : {M : Type 1} → statement M
-carry-spec =
-    tie.close
-    (tie.spec
-    (λ c κs. search needs)
-    (λ c κs. search needs)
-    (λ c. search needs)
-    (λ c. search (echoed, inactive, misfit, fitting))
-    (λ c κs. search needs)
-    (λ c. search (echoed, inactive, misfit, fitting))
-    (λ c. search needs)
-    (λ c κs. search needs)
-    (λ c. search (echoed, inactive, misfit, fitting))
-    (λ c. search needs)
-    (λ c. search needs)
-    (λ c. search needs)
-    (λ c. search needs)
-    (λ c κs. search needs)
-    (λ c. search needs)
-    (λ c. search needs)
-    (λ c. search (echoed, inactive, misfit, fitting)))
+unfolding carried
+carry-spec {M} =
+    let active = three (tie.spec {M = M}) (search needs) (λ c. search echoed) (λ c κs. search needs) (λ c. search choices) in
+    let fits = two active (search needs) (λ c. search misfit) in
+    tie.close (seven fits (search needs) (λ c. search fitting))

@@ -4,8 +4,4 @@ use Rattle.chip.proofs.frame.is_connect.Statement.{statement}
 use Rattle.chip.proofs.frame.is_connect.Tie as tie
 
 pub is-connect-spec : {M : Type 1} → statement M
-is-connect-spec =
-    tie.close
-    (tie.spec
-    (λ c. search eq-eqb)
-    (λ c. simp (ne-eqb _ _ (c .if1 .left))))
+is-connect-spec = tie.close (tie.spec (λ c. search eq-eqb) (λ c. simp (ne-eqb _ _ (c .if1 .left))))

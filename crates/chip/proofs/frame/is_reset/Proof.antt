@@ -4,8 +4,4 @@ use Rattle.chip.proofs.frame.is_reset.Statement.{statement}
 use Rattle.chip.proofs.frame.is_reset.Tie as tie
 
 pub is-reset-spec : {M : Type 1} → statement M
-is-reset-spec =
-    tie.close
-    (tie.spec
-    (λ c. search eq-eqb)
-    (λ c. simp (ne-eqb _ _ (c .if1 .left))))
+is-reset-spec = tie.close (tie.spec (λ c. search eq-eqb) (λ c. simp (ne-eqb _ _ (c .if1 .left))))

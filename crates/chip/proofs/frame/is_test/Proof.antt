@@ -4,8 +4,4 @@ use Rattle.chip.proofs.frame.is_test.Statement.{statement}
 use Rattle.chip.proofs.frame.is_test.Tie as tie
 
 pub is-test-spec : {M : Type 1} → statement M
-is-test-spec =
-    tie.close
-    (tie.spec
-    (λ c. search eq-eqb)
-    (λ c. simp (ne-eqb _ _ (c .if1 .left))))
+is-test-spec = tie.close (tie.spec (λ c. search eq-eqb) (λ c. simp (ne-eqb _ _ (c .if1 .left))))

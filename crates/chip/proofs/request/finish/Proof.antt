@@ -1,17 +1,9 @@
 -- `request::finish` meets its contract. Assumes nothing.
 use borrow.Author.Needs.{needs}
+use Rattle.bits.proofs.Answered.{five}
 use Rattle.chip.proofs.Answers.{told, later}
 use Rattle.chip.proofs.request.finish.Statement.{statement}
 use Rattle.chip.proofs.request.finish.Tie as tie
 
 pub finish-spec : {M : Type 1} → statement M
-finish-spec =
-    tie.close
-    (tie.spec
-    (λ c. search needs)
-    (λ c κs. search needs)
-    (λ c. search needs)
-    (λ c κs. search needs)
-    (λ c. search needs)
-    (λ c. search (told, later))
-    (λ c. search (told, later)))
+finish-spec = tie.close (five tie.spec (search needs) (λ c. search told) (λ c. search later))
