@@ -63,14 +63,14 @@ module _ (s j : List ℕ) where
       by Passed q r = passed q
 
   pub back-cases : (P : Stepped → Type 0) → ((n : ℕ) → isRefusal n ≡ true → P (stepped n s j))
-      → (sound s (past j 0) ≡ true → P (stepped 17 (restored s (past j 0)) (lowered j))) → P (steppedBack s j)
+      → (isState s ≡ true → wellFormed j ≡ true → sound s (past j 0) ≡ true → P (stepped 17 (restored s (past j 0)) (lowered j))) → P (steppedBack s j)
   unfolding steppedBack backVerdict
   back-cases P refused granted =
       let Q : Verdict → Type 0 = λ v. P (judgedBack v s j) in
-      either Q (not (isState s)) _ _ (refused 6 refl)
-      (either Q (not (wellFormed j)) _ _ (refused 4 refl)
-      (either Q (eqb (keptOf j) 0) _ _ (refused 5 refl)
-      (cond-cases Q (not (sound s (past j 0))) (λ _. refused 4 refl) (λ t. granted (not-false _ t)))))
+      cond-cases Q (not (isState s)) (λ _. refused 6 refl)
+      (λ state. cond-cases Q (not (wellFormed j)) (λ _. refused 4 refl)
+      (λ formed. either Q (eqb (keptOf j) 0) _ _ (refused 5 refl)
+      (cond-cases Q (not (sound s (past j 0))) (λ _. refused 4 refl) (λ t. granted (not-false _ state) (not-false _ formed) (not-false _ t)))))
 
 pub empty-cases : (j : List ℕ) (P : Made → Type 0) → ((n : ℕ) → isRefusal n ≡ true → P (made n j)) → P (made 17 (emptied j)) → P (madeEmpty j)
 unfolding madeEmpty

@@ -107,7 +107,7 @@ pub called-number : (s j : List ℕ) (e : Event) (o : List ℕ) → called s j e
 called-number s j e o = called-small s j e o .number
 
 pub back-number : (s j : List ℕ) → steppedBack s j .number < 256
-back-number s j = back-cases s j (λ x. x .number < 256) refusal-small (λ _. lit< tt)
+back-number s j = back-cases s j (λ x. x .number < 256) refusal-small (λ _ _ _. lit< tt)
 
 pub empty-number : (j : List ℕ) → madeEmpty j .number < 256
 empty-number j = empty-cases j (λ m. m .number < 256) refusal-small (lit< tt)

@@ -1,7 +1,7 @@
 -- WHAT A CALL LEAVES, by the number that it gives: the column `leaves` of document 01's table, a theorem a row. 1 to 10 leave all
 -- unchanged (`Refused`). Assumes nothing.
 use Prim.Native.Nat.{ℕ, _+_, _≤_, _<_, min}
-use mathlib.Core.Path.{_≡_, refl, sym, ap, _∙_}
+use mathlib.Core.Path.{_≡_, refl, sym, ap, subst, _∙_}
 use mathlib.Core.Bool.{true, false, false≢true, true≢false}
 use mathlib.Core.List.{List, [], _∷_, foldl}
 use native.Mathlib.Omega.{arith}
@@ -11,7 +11,7 @@ use lib.ListN.{length, take, drop, getD}
 use lib.Seq.{drop-at}
 use lib.Dec.{leb}
 use Rattle.numbers.specs.Numbers as number
-use Rattle.parts.specs.Parts.{put}
+use Rattle.parts.specs.Parts.{part, put}
 use Rattle.parts.proofs.Laws.{AreBytes, put-none, length-put}
 use Rattle.wire.specs.Bits.{wire}
 use Rattle.receiver.specs.declared.Receiver.{Receiver}
@@ -25,17 +25,18 @@ use Rattle.chip.proofs.EventFits.{EventFits}
 use Rattle.chip.specs.Chip.{reaction, acceptedReset}
 use Rattle.state.specs.Bytes.{stateSize, stateBytes, stateIn, isState}
 use Rattle.state.proofs.Good.{ranges, power-on-good}
-use Rattle.state.proofs.Spelling.{its-range, its-good, state-again, state-bytes}
+use Rattle.state.proofs.Spelling.{its-length, its-range, its-good, state-again, state-bytes}
 use Rattle.chip.proofs.Laws.{good-stays, dropped-keeps, accepted-reset, OneFrame, one-frame, sendable}
 use Rattle.chip.proofs.Bodies.{one, none, Every, Framable}
-use Rattle.journal.specs.Layout.{slotsOf, past, pushed}
-use Rattle.journal.specs.Record.{before, sound}
-use Rattle.journal.proofs.Ring.{Well, well-of, of-well}
+use Rattle.journal.specs.Layout.{slotsOf, keptOf, past, pushed, lowered}
+use Rattle.journal.specs.Record.{before, restored, sound}
+use Rattle.journal.proofs.Record.{id-restored}
+use Rattle.journal.proofs.Ring.{Well, well-of, of-well, length-past}
 use Rattle.adapter.specs.declared.Verdict.the-variants.{Passed}
 use Rattle.adapter.specs.Refusals.{verdict}
-use Rattle.adapter.specs.Calls.{created, Outcome, recorded, done, called, keptIn, steppedBack}
+use Rattle.adapter.specs.Calls.{created, Outcome, recorded, done, called, keptIn, stepped, steppedBack}
 use Rattle.adapter.proofs.Cases.{Passing, passing}
-use Rattle.adapter.proofs.Laws.{called-done, unsent, recorded-well, recorded-kept}
+use Rattle.adapter.proofs.Laws.{called-done, unsent, recorded-well, recorded-kept, newest-restores, newest-sound, back-done}
 use Rattle.promises.specs.Runs.{event, OfItsTypes, isRefusal}
 use Rattle.promises.specs.Calls.{Accepted}
 use Rattle.promises.proofs.Runs.{fits, any-bytes}
@@ -204,12 +205,45 @@ module _ (s : List ℕ) (j : List ℕ) (e : Event) (output : List ℕ) where
       event-cases s j e output (λ x. isRefusal (x .answer .number) ≡ false → isState (x .state) ≡ true) (λ n r h. absurd (true≢false (sym r ∙ h)))
       (λ v h. state-bytes _ (good-stays (stateIn s) e (its-good s (passes v .state) b) (of-types (passes v) types)))
 
+-- A STEP BACK RIGHT AFTER AN EVENT THAT WAS KEPT gives the state back, byte by byte, whatever state and journal the event was handed.
+module _ (s : List ℕ) (j : List ℕ) (e : Event) (output : List ℕ) where
+  abbrev happened : Outcome
+  happened = called s j e output
+
+  pub straight-back : AreBytes s → OfItsTypes (event e output) → isRefusal (happened .answer .number) ≡ false → acceptedReset e ≡ false
+      → steppedBack (happened .state) (happened .journal) ≡ stepped 17 s (lowered (happened .journal))
+  unfolding done
+  straight-back b types h kept =
+      let v = passed s j e output h in
+      let p = passes s j e output v in
+      let g = its-good s (p .state) b in
+      let fit = of-types s j e output p types in
+      let w = of-well j (p .formed) in
+      let again = state-again s (p .state) in
+      let a = stateIn s in
+      let after = stateBytes (reaction a e .adapter) in
+      let sounds : sound after (past (recorded s e j) 0) ≡ true =
+      subst (λ (t : List ℕ). sound after (past (recorded t e j) 0) ≡ true) again (newest-sound a e j w kept g fit) in
+      let back : restored after (past (recorded s e j) 0) ≡ s =
+      subst (λ (t : List ℕ). restored after (past (recorded t e j) 0) ≡ t) again (newest-restores a e j w kept g fit) in
+      let some : keptOf (recorded s e j) ≡ 0 → ⊥ =
+      λ z. let f = w .first in let k : keptOf (recorded s e j) ≡ min (slotsOf j) (keptOf j + 1) = recorded-kept s e j w ∙ simp kept in omega arith in
+      rw (called-done s j e output v)
+      (back-done after (recorded s e j) (state-bytes _ (good-stays a e g fit)) (recorded-well s e j w) some sounds
+      ∙ ap (λ (t : List ℕ). stepped 17 t (lowered (recorded s e j))) back)
+
 -- So does a step back that is granted, and a creation.
 pub back-leaves-a-state : (s j : List ℕ) → isRefusal (steppedBack s j .number) ≡ false → isState (steppedBack s j .state) ≡ true
 unfolding sound
 back-leaves-a-state s j =
     back-cases s j (λ x. isRefusal (x .number) ≡ false → isState (x .state) ≡ true) (λ n r h. absurd (true≢false (sym r ∙ h)))
-    (λ t h. and-right (leb (getD (past j 0) 0 0) 3) _ t)
+    (λ _ _ t h. and-right (leb (getD (past j 0) 0 0) 3) _ t)
+
+-- WHATEVER PAIR A STEP BACK IS HANDED, it leaves the chip's ID: bytes 16 to 19.
+pub back-leaves-the-id : (s j : List ℕ) → part 16 4 (steppedBack s j .state) ≡ part 16 4 s
+back-leaves-the-id s j =
+    back-cases s j (λ x. part 16 4 (x .state) ≡ part 16 4 s) (λ _ _. refl)
+    (λ h w _. id-restored s (past j 0) (its-length s h) (let l = length-past j w in omega arith))
 
 pub create-leaves-a-state : (s : List ℕ) (id : ℕ) → length s ≡ stateSize → id ≤ number.idMost → isState (created s id .bytes) ≡ true
 create-leaves-a-state s id n h = rw (any-bytes s id n h) (state-bytes (powerOn id) (power-on-good id))

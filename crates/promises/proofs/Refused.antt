@@ -33,7 +33,7 @@ module _ (s : List ℕ) (j : List ℕ) (e : Event) (o : List ℕ) where
 -- a step back
 pub back-unchanged : (s j : List ℕ) → isRefusal (steppedBack s j .number) ≡ true → steppedBack s j ≡ stepped (steppedBack s j .number) s j
 back-unchanged s j =
-    back-cases s j (λ x. isRefusal (x .number) ≡ true → x ≡ stepped (x .number) s j) (λ n r h. refl) (λ q h. absurd (false≢true h))
+    back-cases s j (λ x. isRefusal (x .number) ≡ true → x ≡ stepped (x .number) s j) (λ n r h. refl) (λ _ _ _ h. absurd (false≢true h))
 
 -- the emptying call
 pub empty-unchanged : (j : List ℕ) → isRefusal (madeEmpty j .number) ≡ true → madeEmpty j .bytes ≡ j

@@ -401,8 +401,9 @@ demand3 =
     }
 
 -- The chip's ID is the one that the adapter was created with, whatever was called.
-pub id-kept : (r : Run) → read (dueState r .registers) ChipId ≡ r .id
-id-kept r = id-after (r .id) (r .id-fits) (standing r .events) (inv-end r .fit)
+pub id-kept : (r : Run) → read (ours .state (left ours r) .registers) ChipId ≡ r .id
+id-kept r =
+    ap (λ (a : Adapter). read (a .registers) ChipId) (demand3 .state r) ∙ id-after (r .id) (r .id-fits) (standing r .events) (inv-end r .fit)
 
 -- The text's own numbers: there is an event to take back where the kept number is not zero, and it is at most the slots.
 pub enough-standing : (r : Run) → standing r .number ≤ length (standing r .events)
