@@ -21,7 +21,7 @@ each_edit_shows_a_fact() {
         log=target/must-fail/$crate/$label/.log
         if [ ! -f "$log" ]; then
             bad "$edit: it was not tried"
-        elif first_error "$log" | grep -qE 'has no field|that can be named from here|expected type .tie\.Need'; then
+        elif first_error "$log" | grep -qE 'has no field|that can be named from here|expected type .(tie\.Need|[^ ]*Lts\.Closed)|on the face .κs'; then
             bad "$edit: refused only because the proof no longer fits the code"
             first_error "$log" | head -n 3 | cut -c 1-300
         fi

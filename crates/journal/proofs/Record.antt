@@ -67,6 +67,12 @@ tag-known (Switched D) = refl
 
 -- ---- what a record keeps of a state, put back over another that is the same outside
 
+first-of : (c g rest : List ℕ) (n : ℕ) → length c ≡ n → take n ((c ++ g) ++ rest) ≡ c
+first-of c g rest n l = rw (append-assoc c g rest) (take-at c (g ++ rest) n l)
+
+second-of : (c g rest : List ℕ) (n m : ℕ) → length c ≡ n → length g ≡ m → take m (drop n ((c ++ g) ++ rest)) ≡ g
+second-of c g rest n m l k = rw (append-assoc c g rest) (ap (take m) (drop-at c (g ++ rest) n l) ∙ take-at g rest m k)
+
 module _ (first many : ℕ) (f : Fits first many) where
   -- every byte behind the core, the ID first, that is not one of these
   abbrev Agree : List ℕ → List ℕ → Type 0
@@ -105,13 +111,11 @@ module _ (first many : ℕ) (f : Fits first many) where
 
       its-core : part 1 coreBytes r ≡ core
       unfolding recordOf part
-      its-core = rw (e, append-assoc core group rest) (take-at core (group ++ rest) coreBytes core-long)
+      its-core = rw e (first-of core _ rest coreBytes core-long)
 
       its-group : part (1 + coreBytes) many r ≡ group
       unfolding recordOf part
-      its-group =
-          rw (e, append-assoc core group rest)
-          (ap (take many) (drop-at core (group ++ rest) coreBytes core-long) ∙ take-at group rest many group-long)
+      its-group = rw e (second-of core group rest coreBytes many core-long group-long)
 
 -- a group's record is read back, whatever stands behind it
 kept-restores : (g : Group) (tag : ℕ) → groupIn tag ≡ g → (s rest t : List ℕ) → length s ≡ stateSize → length t ≡ stateSize
