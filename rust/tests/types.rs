@@ -180,7 +180,7 @@ fn wide_ports_and_kinds() {
 
 #[test]
 fn the_version() {
-    assert_eq!(VERSION, 0x01_0000);
+    assert_eq!(VERSION, 0x01_0100);
     assert_eq!(sca::version(), VERSION);
     let manifest = include_str!("../Cargo.toml");
     assert!(manifest.lines().any(|line| line == "version = \"1.1.0\""));
