@@ -332,7 +332,7 @@ uint64_t sca_transmit(const uint8_t *body, size_t body_length, uint8_t *output, 
  *     of any other length, or that is not in these ranges, is refused with 6,
  *     and no other is. Every call that is not refused leaves a state in range.
  *
- *     A state that version 1.0.0 left has 74 or 76 bytes in another order: 6.
+ *     A state that version 1.0.0 of the library left has another length: 6.
  *     Make a new one with sca_create.
  *
  * THE JOURNAL
@@ -360,8 +360,9 @@ uint64_t sca_transmit(const uint8_t *body, size_t body_length, uint8_t *output, 
  *     damaged, or would leave the state handed in out of range. No journal that
  *     the calls themselves left is refused with the state that went with it.
  *
- *     A journal that version 1.0.0 left has the same length and mark, but other
- *     records, and no call can tell. Make it empty with sca_empty first.
+ *     A journal that version 1.0.0 of the library left has the same length, mark
+ *     and version of its own, but other records, and no call can tell. Make it
+ *     empty with sca_empty first.
  *
  * THE CHIP
  *     A body is address, control, information. Address 0x00 is the chip's. The

@@ -24,7 +24,8 @@ pub struct Span {
 // The bytes of the core but for the ID, which stands behind them.
 pub const CORE_SIZE: usize = 11;
 
-// The bytes of each group, those of none behind the core. What CRC and CRD switch has no registers yet.
+// The bytes of each group. NOTHING has none; its place is behind the core, where the first group starts. What CRC and CRD switch has no
+// registers yet.
 pub const NOTHING: Span = Span { first: 15, many: 0 };
 
 pub const OF_B: Span = Span {
