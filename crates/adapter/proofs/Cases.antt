@@ -1,14 +1,15 @@
 -- What each call gives and leaves, case by case: a law for every case of the definitions. Assumes nothing.
 use Prim.Native.Nat.{ℕ, _-_, _≤_, _<_}
 use mathlib.Core.Path.{_≡_, refl, sym, ap, _∙_}
-use mathlib.Core.Bool.{Bool, true, false, not, cond, _||_, true≢false}
+use mathlib.Core.Bool.{Bool, true, false, not, cond, _&&_, _||_, true≢false}
 use mathlib.Core.List.{List, _++_, append-nil}
 use native.Mathlib.Omega.{arith}
 use lib.ListN.{length, take, drop, length-drop, drop-of-length-le}
 use lib.Seq.{drop-at, length-take-le}
-use lib.Dec.{eqb, ltb}
-use borrow.Author.Tests.{eq-eqb, ne-eqb, lt-ltb, le-ltb, ltb-false, eqb-true, not-false}
+use lib.Dec.{eqb, leb, ltb}
+use borrow.Author.Tests.{eq-eqb, ne-eqb, lt-ltb, le-ltb, ltb-false, leb-true, eqb-true, not-false}
 use borrow.Rule.Slice.PartMut.{putMid}
+use Rattle.bits.proofs.Tests.{and-left, and-right}
 use Rattle.parts.specs.Parts.{part, put}
 use Rattle.registers.specs.Registers.{size}
 use Rattle.channels.specs.declared.groups.Group.{Group}
@@ -115,6 +116,11 @@ module _ (s j k : List ℕ) (e : Event) (x : Answer) (t : List ℕ) where
       → ((i : List ℕ) → outcome x t i p ≡ happened s e o i) → outcome x t k p ≡ done s j e o
   done-without-reset o p b c f = kept-and-done (groupOf e) false o p refl (sym b) c f
 
+  -- whose group is looked up
+  pub done-by-group : (g : Group) (o p : List ℕ) → g ≡ groupOf e → acceptedReset e ≡ false → k ≡ joined false (keptFor g s) j
+      → ((i : List ℕ) → outcome x t i p ≡ happened s e o i) → outcome x t k p ≡ done s j e o
+  done-by-group g o p a b c f = kept-and-done g false o p a (sym b) c f
+
   -- and sends no frame
   pub done-silently : acceptedReset e ≡ false → k ≡ joined false (keptFor (groupOf e) s) j
       → ((i p : List ℕ) → outcome x t i p ≡ happened s e p i) → (p : List ℕ) → outcome x t k p ≡ done s j e p
@@ -203,6 +209,17 @@ module _ (v : Verdict) (l : List ℕ) (q : v ≡ Passed) where
 -- a port and an edge kind, which are at most some m, fit a byte
 pub passed-byte : (m : ℕ) → m < 256 → (v : Verdict) (n : ℕ) → v ≡ Passed → (s j o b : Bool) → v ≡ inOrder s j o (ltb m n) b → n < 256
 passed-byte m k v n q s j o b h = omega (arith, ltb-false m n (unrefused v s j o _ b q h .3))
+
+-- an I2C channel is one of the sixteen
+module _ (v : Verdict) (n : ℕ) (q : v ≡ Passed) (s j o b x : Bool) (h : v ≡ inOrder s j o (not (leb 0x03 n && leb n 0x12) || x) b) where
+  among : (leb 0x03 n && leb n 0x12) ≡ true
+  among = not-false _ (or-left (not (leb 0x03 n && leb n 0x12)) x (unrefused v s j o _ b q h .3))
+
+  pub passed-first : 0x03 ≤ n
+  passed-first = leb-true 0x03 n (and-left (leb 0x03 n) _ among)
+
+  pub passed-last : n < 256
+  passed-last = omega (arith, leb-true n 0x12 (and-right (leb 0x03 n) _ among))
 
 pub ruleset passed = (passed-state, passed-journal, passed-output, passed-received)
 

@@ -20,6 +20,9 @@ frame-one κs a x y s t p q = p ∙ sym q
 pub completion-one : One 4 this.completion.Kinds.ps this.completion.Kinds.r this.completion.Reads.Post (λ κs x s. outcome x (now (s .0)) (now (s .1 .0)) (now (s .1 .1 .1 .0)))
 completion-one κs a x y s t p q = p ∙ sym q
 
+pub i2c-completion-one : One 4 this.i2c_completion.Kinds.ps this.i2c_completion.Kinds.r this.i2c_completion.Reads.Post (λ κs x s. outcome x (now (s .0)) (now (s .1 .0)) (now (s .1 .1 .1 .1 .1 .1 .0)))
+i2c-completion-one κs a x y s t p q = p ∙ sym q
+
 pub sample-one : One 3 this.sample.Kinds.ps this.sample.Kinds.r this.sample.Reads.Post (λ κs x s. outcome x (now (s .0)) (now (s .1 .0)) (now (s .1 .1 .1 .1 .0)))
 sample-one κs a x y s t p q = p ∙ sym q
 

@@ -4,19 +4,21 @@ use mathlib.Core.Bool.{Bool, false, not, cond, _||_}
 use mathlib.Core.List.{List}
 use lib.ListN.{length}
 use lib.Dec.{eqb, ltb}
-use Rattle.chip.specs.Event.{Completion, spi, Event, frame, completion, sample, upset}
+use Rattle.commands.specs.Channels.{isMaster}
+use Rattle.chip.specs.Event.{Completion, spi, i2c, Event, frame, completion, sample, upset}
 use Rattle.state.specs.Bytes.{isState}
 use Rattle.journal.specs.Layout.{wellFormed, keptOf, past}
 use Rattle.journal.specs.Record.{sound}
 use Rattle.adapter.specs.declared.Verdict.{Verdict}
 use Rattle.adapter.specs.declared.Verdict.the-variants.{Refused, Passed}
-use Rattle.numbers.specs.Numbers.{shortOutput, badBody, badArgument, badJournal, noneKept, badState, bodyLeast, bodyMost, outputLeast, transferBytes}
+use Rattle.numbers.specs.Numbers.{shortOutput, badBody, badArgument, badJournal, noneKept, badState, bodyLeast, bodyMost, outputLeast, transferBytes, i2cMost}
 
--- completion not 16 bytes
+-- completion not 16 bytes; a channel number that isn't I2C, or over 16 bytes
 abbrev pub wrongCompletion : Completion → Bool
 wrongCompletion (spi received) = not (eqb (length received) transferBytes)
+wrongCompletion (i2c channel acknowledge lineLow received) = not (isMaster channel) || ltb i2cMost (length received)
 
--- port not 0 or 1, edge kind over 2, or completion not 16 bytes
+-- port not 0 or 1, edge kind over 2, or a wrong completion
 abbrev pub wrongArgument : Event → Bool
 wrongArgument (frame port body) = ltb 1 port
 wrongArgument (completion c) = wrongCompletion c

@@ -13,6 +13,7 @@ ghost use mathlib.Core.List.{List};
 ghost use Prim.Native.Nat.{ℕ, _≤_};
 ghost use lib.ListN.{length};
 ghost use Rattle.numbers.specs.Numbers.{bodyLeast, bodyMost, outputLeast, transferBytes};
+ghost use Rattle.commands.specs.Channels.{firstMaster};
 ghost use Rattle.parts.specs.Parts.{put};
 ghost use Rattle.state.specs.Bytes.{linkBytes, stateSize, linkImage};
 ghost use Rattle.chip.specs.Event.{Completion, Event};
@@ -78,6 +79,32 @@ fn completion_happens(state: &mut [u8], received: &[u8], output: &mut [u8]) -> A
     leave(state, r)
 }
 
+fn i2c_happens(
+    state: &mut [u8],
+    channel: u8,
+    acknowledge: bool,
+    low: bool,
+    received: &[u8],
+    output: &mut [u8],
+) -> Answer
+    requires { ⌜ length (now state) ≡ stateSize ⌝ }
+    requires { ⌜ firstMaster ≤ channel ⌝ }
+    requires { ⌜ outputLeast ≤ length (now output) ⌝ }
+    ensures { λ r. ⌜ ((journal : List ℕ) → outcome r (now (state .exit)) journal (now (output .exit)) ≡ happened (now (state .entry)) (Event.completion (Completion.i2c channel acknowledge low (now (received .entry)))) (now (output .entry)) journal) ⌝ }
+{
+    let link = state::link_of(state);
+    let r = events::on_i2c(
+        link,
+        &mut state[LINK..BYTES],
+        channel,
+        acknowledge,
+        low,
+        received,
+        output,
+    );
+    leave(state, r)
+}
+
 fn sample_happens(state: &mut [u8], levels: u32, kind: u8, output: &mut [u8]) -> Answer
     requires { ⌜ length (now state) ≡ stateSize ⌝ }
     requires { ⌜ outputLeast ≤ length (now output) ⌝ }
@@ -133,6 +160,25 @@ pub(crate) fn completion(
 {
     record_event(journal, state, Group::Switched(Control::B), false);
     completion_happens(state, received, output)
+}
+
+// The completion of one named I2C channel.
+pub(crate) fn i2c_completion(
+    state: &mut [u8],
+    journal: &mut [u8],
+    channel: u8,
+    acknowledge: bool,
+    low: bool,
+    received: &[u8],
+    output: &mut [u8],
+) -> Answer
+    requires { ⌜ (wellFormed (now journal) ≡ true) × (length (now state) ≡ stateSize) ⌝ }
+    requires { ⌜ firstMaster ≤ channel ⌝ }
+    requires { ⌜ outputLeast ≤ length (now output) ⌝ }
+    ensures { λ r. ⌜ outcome r (now (state .exit)) (now (journal .exit)) (now (output .exit)) ≡ done (now (state .entry)) (now (journal .entry)) (Event.completion (Completion.i2c channel acknowledge low (now (received .entry)))) (now (output .entry)) ⌝ }
+{
+    record_event(journal, state, events::group_of_i2c(channel), false);
+    i2c_happens(state, channel, acknowledge, low, received, output)
 }
 
 // A pin sample.

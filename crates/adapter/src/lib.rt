@@ -9,6 +9,7 @@ use numbers::BAD_JOURNAL;
 use numbers::BAD_STATE;
 use numbers::BODY_LEAST;
 use numbers::BODY_MOST;
+use numbers::I2C_MOST;
 use numbers::ID_MOST;
 use numbers::NO_FRAME;
 use numbers::NONE_KEPT;
@@ -186,6 +187,45 @@ pub fn completion(
     match verdict {
         Verdict::Refused(number) => alone(number),
         Verdict::Passed => events::completion(state, journal, received, output),
+    }
+}
+
+// The first and the last I2C channel.
+const FIRST_MASTER: u32 = 0x03;
+
+const LAST_MASTER: u32 = 0x12;
+
+// The completion of one named I2C channel, with an acknowledge bit, a line-low bit and up to 16 bytes.
+pub fn i2c_completion(
+    state: &mut [u8],
+    journal: &mut [u8],
+    channel: u32,
+    acknowledge: bool,
+    low: bool,
+    received: &[u8],
+    output: &mut [u8],
+) -> Answer
+    ensures { λ r. ⌜ outcome r (now (state .exit)) (now (journal .exit)) (now (output .exit)) ≡ called (now (state .entry)) (now (journal .entry)) (Event.completion (Completion.i2c channel acknowledge low (now (received .entry)))) (now (output .entry)) ⌝ }
+{
+    let named = (FIRST_MASTER <= channel) & (channel <= LAST_MASTER);
+    let verdict = judge(
+        state,
+        journal,
+        output.len(),
+        !named | (I2C_MOST < received.len()),
+        false,
+    );
+    match verdict {
+        Verdict::Refused(number) => alone(number),
+        Verdict::Passed => events::i2c_completion(
+            state,
+            journal,
+            channel as u8,
+            acknowledge,
+            low,
+            received,
+            output,
+        ),
     }
 }
 

@@ -17,8 +17,11 @@ is-enabled-one κs a x y s t e f = e ∙ sym f
 pub is-busy-one : One 1 this.is_busy.Kinds.ps this.is_busy.Kinds.r this.is_busy.Reads.Post (λ κs x s. x)
 is-busy-one κs a x y s t e f = e ∙ sym f
 
-pub are-held-one : One 1 this.are_held.Kinds.ps this.are_held.Kinds.r this.are_held.Reads.Post (λ κs x s. x)
-are-held-one κs a x y s t e f = e ∙ sym f
+pub are-sound-one : One 1 this.are_sound.Kinds.ps this.are_sound.Kinds.r this.are_sound.Reads.Post (λ κs x s. x)
+are-sound-one κs a x y s t e f = e ∙ sym f
+
+pub master-group-one : OneOutcome 0 this.master_group.Kinds.ps this.master_group.Kinds.r this.master_group.Reads.Post
+master-group-one κs a x y s t e f = e ∙ sym f
 
 pub group-for-one : OneOutcome 0 this.groups.group_for.Kinds.ps this.groups.group_for.Kinds.r this.groups.group_for.Reads.Post
 group-for-one κs a x y s t e f = e ∙ sym f

@@ -6,7 +6,7 @@ use Rattle.commands.specs.declared.command.Command.{Command}
 use Rattle.commands.specs.declared.command.Command.the-variants.{Known, Unknown}
 use Rattle.commands.specs.declared.command.Control.the-variants.{B, C, D}
 use Rattle.commands.specs.declared.command.Does.{Does}
-use Rattle.commands.specs.declared.command.Does.the-variants.{Write, Switch, Read, Clear, Start}
+use Rattle.commands.specs.declared.command.Does.the-variants.{Write, Switch, Read, Clear, Start, Transact}
 use Rattle.commands.specs.declared.request.Request.{Request}
 use Rattle.channels.specs.Rows.{rowOf}
 use Rattle.channels.specs.declared.groups.Group.{Group}
@@ -23,12 +23,12 @@ coreSize = 11
 abbrev pub span : ℕ → ℕ → Span
 span first many = record { first = first; many = many }
 
--- CRB's: SPI, GPIO. What CRC and CRD switch has no registers yet.
+-- CRB's: SPI, GPIO, masters 0 to 4; CRC's: masters 5 to 12; CRD's: masters 13 to 15
 abbrev pub spanOf : Group → Span
 spanOf Nothing = span 15 0
-spanOf (Switched B) = span 15 55
-spanOf (Switched C) = span 70 0
-spanOf (Switched D) = span 70 0
+spanOf (Switched B) = span 15 160
+spanOf (Switched C) = span 175 168
+spanOf (Switched D) = span 343 63
 
 -- ---- the group that a request may change: the one that its command switches, else its channel's, whatever its answer is
 
@@ -38,6 +38,7 @@ byDoes g (Switch c) = Switched c
 byDoes g (Read r) = g
 byDoes g (Clear r) = g
 byDoes g (Start r) = g
+byDoes g (Transact i t) = g
 
 abbrev pub byCommand : Group → Command → Group
 byCommand g Unknown = g

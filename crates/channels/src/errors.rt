@@ -1,12 +1,13 @@
-// The first error of a request: document 01's six, in its order.
+// The first error of a request: document 01's six, in its order; NBYTE comes with LEN.
 ghost use mathlib.Core.Path.{_≡_};
 ghost use lib.ListN.{length};
 ghost use Rattle.registers.specs.Registers.{size};
-ghost use Rattle.channels.specs.Errors.{ofCommand, decoded};
+ghost use Rattle.channels.specs.Errors.{canMove, ofCommand, decoded};
 use crate::rows;
 use commands::channel;
 use commands::command::Command;
 use commands::command::Does;
+use commands::command::Register;
 use commands::request::BUSY;
 use commands::request::CH_UNKNOWN;
 use commands::request::CMD_UNKNOWN;
@@ -16,6 +17,8 @@ use commands::request::NO_TRANSACTION;
 use commands::request::NOT_ENABLED;
 use commands::request::Request;
 use commands::request::TRN_WRONG;
+use registers::i2c;
+use registers::read;
 
 // An error, or the LEN that a reply gives and what is to be done.
 pub enum Decoded {
@@ -23,8 +26,27 @@ pub enum Decoded {
     Right(u8, Does),
 }
 
-fn of_command(command: Command, len: u8) -> Decoded
-    ensures { λ r. ⌜ r ≡ ofCommand command len ⌝ }
+// A multi-byte start moves as many bytes as CTRL says, which has to be 1 to 16.
+fn can_move(registers: &[u8], does: Does) -> bool
+    requires { ⌜ length (now registers) ≡ size ⌝ }
+    ensures { λ r. ⌜ r ≡ canMove (now (registers .entry)) does ⌝ }
+{
+    match does {
+        Does::Write(_) => true,
+        Does::Switch(_) => true,
+        Does::Read(_) => true,
+        Does::Clear(_) => true,
+        Does::Start(_) => true,
+        Does::Transact(index, transaction) => {
+            let control = read(registers, Register::I2cCtrl(index));
+            i2c::allows(control, transaction)
+        }
+    }
+}
+
+fn of_command(registers: &[u8], command: Command, len: u8) -> Decoded
+    requires { ⌜ length (now registers) ≡ size ⌝ }
+    ensures { λ r. ⌜ r ≡ ofCommand (now (registers .entry)) command len ⌝ }
 {
     match command {
         Command::Unknown => Decoded::Wrong(CMD_UNKNOWN),
@@ -32,7 +54,11 @@ fn of_command(command: Command, len: u8) -> Decoded
             if len != lengths.asked {
                 return Decoded::Wrong(LEN_WRONG);
             }
-            Decoded::Right(lengths.given, does)
+            if can_move(registers, does) {
+                Decoded::Right(lengths.given, does)
+            } else {
+                Decoded::Wrong(LEN_WRONG)
+            }
         }
     }
 }
@@ -58,5 +84,5 @@ pub(crate) fn decode(registers: &[u8], q: Request) -> Decoded
     if rows::is_busy(registers, which) {
         return Decoded::Wrong(BUSY);
     }
-    of_command(channel::command_of(which, q.cmd), q.len)
+    of_command(registers, channel::command_of(which, q.cmd), q.len)
 }

@@ -24,21 +24,26 @@ pub struct Span {
 // The bytes of the core but for the ID, which stands behind them.
 pub const CORE_SIZE: usize = 11;
 
-// The bytes of each group. NOTHING has none; its place is behind the core, where the first group starts. What CRC and CRD switch has no
-// registers yet.
+// The bytes of each group. NOTHING has none; its place is behind the core, where the first group starts.
 pub const NOTHING: Span = Span { first: 15, many: 0 };
 
 pub const OF_B: Span = Span {
     first: 15,
-    many: 55,
+    many: 160,
 };
 
-pub const OF_C: Span = Span { first: 70, many: 0 };
+pub const OF_C: Span = Span {
+    first: 175,
+    many: 168,
+};
 
-pub const OF_D: Span = Span { first: 70, many: 0 };
+pub const OF_D: Span = Span {
+    first: 343,
+    many: 63,
+};
 
 // The most bytes of a group.
-pub const SPAN_MOST: usize = 55;
+pub const SPAN_MOST: usize = 168;
 
 fn by_does(group: Group, does: Does) -> Group
     ensures { λ r. ⌜ r ≡ byDoes group does ⌝ }
@@ -49,6 +54,7 @@ fn by_does(group: Group, does: Does) -> Group
         Does::Read(_) => group,
         Does::Clear(_) => group,
         Does::Start(_) => group,
+        Does::Transact(_, _) => group,
     }
 }
 

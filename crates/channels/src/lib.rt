@@ -2,6 +2,7 @@
 // it does, which cannot fail.
 mod errors;
 pub mod groups;
+mod masters;
 mod perform;
 mod rows;
 
@@ -9,12 +10,14 @@ ghost use mathlib.Core.Path.{_≡_};
 ghost use lib.ListN.{length};
 ghost use Rattle.registers.specs.Registers.{size};
 ghost use Rattle.channels.specs.Perform.{replied, performed};
-ghost use Rattle.channels.specs.Rows.{isEnabled, isBusy, allHeld};
+ghost use Rattle.channels.specs.Rows.{isEnabled, isBusy, masterGroup};
+ghost use Rattle.channels.specs.Starts.{soundRegisters};
 use commands::channel::Channel;
 use commands::request::Reply;
 use commands::request::Request;
 use commands::request::refusal;
 use errors::Decoded;
+use groups::Group;
 
 // Errors are decided first; what is performed after that cannot fail. Its reply is made before anything is stored.
 pub fn answer(registers: &mut [u8], q: Request) -> Reply
@@ -22,7 +25,10 @@ pub fn answer(registers: &mut [u8], q: Request) -> Reply
     ensures { λ r. ⌜ (r ≡ replied (now (registers .entry)) q) × (now (registers .exit) ≡ performed (now (registers .entry)) q) ⌝ }
 {
     match errors::decode(registers, q) {
-        Decoded::Wrong(error) => refusal(error),
+        Decoded::Wrong(error) => {
+            perform::mark(registers, q.ch, error);
+            refusal(error)
+        }
         Decoded::Right(given, does) => {
             let told = perform::tell(registers, given, does);
             perform::leave(registers, q, does);
@@ -45,10 +51,22 @@ pub fn is_busy(registers: &[u8], which: Channel) -> bool
     rows::is_busy(registers, which)
 }
 
-// Whether every disabled channel holds what it should.
-pub fn are_held(registers: &[u8]) -> bool
+// Whether every register that does not keep all its bits has none of the others set, every disabled channel holds what it should, and every open
+// start of a master is one.
+pub fn are_sound(registers: &[u8]) -> bool
     requires { ⌜ length (now registers) ≡ size ⌝ }
-    ensures { λ r. ⌜ r ≡ allHeld (now (registers .entry)) ⌝ }
+    ensures { λ r. ⌜ r ≡ soundRegisters (now (registers .entry)) ⌝ }
 {
-    rows::are_held(registers)
+    let masked = registers::are_within(registers);
+    let spi = rows::still_holds(registers, Channel::Spi);
+    let gpio = rows::still_holds(registers, Channel::Gpio);
+    let masters = masters::are_sound(registers);
+    masked & spi & gpio & masters
+}
+
+// The group of a master's registers.
+pub fn master_group(index: u8) -> Group
+    ensures { λ r. ⌜ r ≡ masterGroup index ⌝ }
+{
+    Group::Switched(rows::master_control(index))
 }

@@ -3,12 +3,13 @@
 ghost use mathlib.Core.Path.{_≡_};
 ghost use lib.ListN.{length};
 ghost use Rattle.registers.specs.Registers.{size, written};
-ghost use Rattle.channels.specs.Rows.{row, rowOf, registerOf, isOn, isAtWork, isEnabled, isBusy, held, heldAll, settled, stillHeld, areHeld, allHeld};
+ghost use Rattle.channels.specs.Rows.{row, rowOf, masterControl, masterBit, masterRow, registerOf, isOn, isAtWork, isEnabled, isBusy, held, heldAll, settled, stillHeld};
 use crate::groups::Group;
 use commands::channel::Channel;
 use commands::channel::channel_of;
 use commands::command::Control;
 use commands::command::Register;
+use registers::MASTER_BYTES;
 use registers::read;
 
 // What enables a channel: a bit of a register of the controller.
@@ -48,6 +49,46 @@ fn known(switch: Switch, busy: Busy, group: Group, first: usize, many: usize) ->
     }
 }
 
+// What switches a master: CRB bits 3 to 7 are masters 0 to 4, CRC bits 0 to 7 are 5 to 12, CRD bits 0 to 2 are 13 to 15.
+pub(crate) fn master_control(index: u8) -> Control
+    ensures { λ r. ⌜ r ≡ masterControl index ⌝ }
+{
+    let master = index % 16;
+    if master < 5 {
+        return Control::B;
+    }
+    if master < 13 {
+        return Control::C;
+    }
+    Control::D
+}
+
+fn master_bit(index: u8) -> u32
+    ensures { λ r. ⌜ r ≡ masterBit index ⌝ }
+{
+    let master = index % 16;
+    if master < 5 {
+        return 1 << (master + 3);
+    }
+    if master < 13 {
+        return 1 << (master - 5);
+    }
+    1 << (master - 13)
+}
+
+fn master_row(index: u8) -> Row
+    ensures { λ r. ⌜ r ≡ masterRow index ⌝ }
+{
+    let control = master_control(index);
+    known(
+        Switch::Bit(control, master_bit(index)),
+        Busy::While(Register::I2cOpen(index)),
+        Group::Switched(control),
+        registers::bank(index),
+        MASTER_BYTES,
+    )
+}
+
 pub(crate) fn row_of(which: Channel) -> Row
     ensures { λ r. ⌜ r ≡ rowOf which ⌝ }
 {
@@ -67,6 +108,7 @@ pub(crate) fn row_of(which: Channel) -> Row
             37,
             33,
         ),
+        Channel::Master(index) => master_row(index),
         Channel::Seu => known(
             Switch::Bit(Control::D, 0x08),
             Busy::Never,
@@ -93,8 +135,12 @@ pub(crate) fn row_of(which: Channel) -> Row
     }
 }
 
-// The channels that hold their registers at 0 while they are disabled, by number, and what switches them: SPI, GPIO.
-const DROPPING_B: [u8; 2] = [0x01, 0x02];
+// The channels that hold their registers at 0 while they are disabled, by number, and what switches them: SPI, GPIO, the masters.
+const DROPPING_B: [u8; 7] = [0x01, 0x02, 0x03, 0x04, 0x05, 0x06, 0x07];
+
+const DROPPING_C: [u8; 8] = [0x08, 0x09, 0x0a, 0x0b, 0x0c, 0x0d, 0x0e, 0x0f];
+
+const DROPPING_D: [u8; 3] = [0x10, 0x11, 0x12];
 
 fn register_of(control: Control) -> Register
     ensures { λ r. ⌜ r ≡ registerOf control ⌝ }
@@ -177,8 +223,14 @@ fn settle(registers: &mut [u8], control: Control)
             let numbers = DROPPING_B;
             hold_all(registers, &numbers);
         }
-        Control::C => {}
-        Control::D => {}
+        Control::C => {
+            let numbers = DROPPING_C;
+            hold_all(registers, &numbers);
+        }
+        Control::D => {
+            let numbers = DROPPING_D;
+            hold_all(registers, &numbers);
+        }
     }
 }
 
@@ -192,7 +244,7 @@ pub(crate) fn switch_by(registers: &mut [u8], control: Control, value: u32)
 }
 
 // A channel that is enabled may hold anything; its registers are looked at only where it is not.
-fn still_holds(registers: &[u8], which: Channel) -> bool
+pub(crate) fn still_holds(registers: &[u8], which: Channel) -> bool
     requires { ⌜ length (now registers) ≡ size ⌝ }
     ensures { λ r. ⌜ r ≡ stillHeld (now (registers .entry)) which ⌝ }
 {
@@ -201,25 +253,4 @@ fn still_holds(registers: &[u8], which: Channel) -> bool
     }
     let row = row_of(which);
     registers::are_zero(registers, row.first, row.many)
-}
-
-fn all_hold(registers: &[u8], numbers: &[u8]) -> bool
-    requires { ⌜ length (now registers) ≡ size ⌝ }
-    ensures { λ r. ⌜ r ≡ areHeld (now (numbers .entry)) (now (registers .entry)) ⌝ }
-{
-    let mut all = true;
-    let mut i = 0;
-    while i < numbers.len() {
-        all = all & still_holds(registers, channel_of(numbers[i]));
-        i += 1;
-    }
-    all
-}
-
-pub(crate) fn are_held(registers: &[u8]) -> bool
-    requires { ⌜ length (now registers) ≡ size ⌝ }
-    ensures { λ r. ⌜ r ≡ allHeld (now (registers .entry)) ⌝ }
-{
-    let numbers = DROPPING_B;
-    all_hold(registers, &numbers)
 }

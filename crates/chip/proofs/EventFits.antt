@@ -4,7 +4,7 @@ use mathlib.Core.List.{List}
 use mathlib.Core.Path.{_≡_}
 use lib.ListN.{length}
 use Rattle.parts.proofs.Laws.{AreBytes}
-use Rattle.chip.specs.Event.{Completion, spi, Event, frame, completion, sample, upset}
+use Rattle.chip.specs.Event.{Completion, spi, i2c, Event, frame, completion, sample, upset}
 
 pub record FrameFits (p : ℕ) (s : List ℕ) : Type 0 where
   pub port : p ≤ 1
@@ -16,12 +16,19 @@ pub record SpiReceived (s : List ℕ) : Type 0 where
   pub sixteen : length s ≡ 16
   pub bytes : AreBytes s
 
+pub record I2cReceived (channel : ℕ) (s : List ℕ) : Type 0 where
+  pub first : 0x03 ≤ channel
+  pub last : channel ≤ 0x12
+  pub sixteen : length s ≤ 16
+  pub bytes : AreBytes s
+
 pub record SampleFits (l k : ℕ) : Type 0 where
   pub levels : l < 2 ^ 32
   pub kind : k ≤ 2
 
 abbrev pub CompletionFits : Completion → Type 0
 CompletionFits (spi received) = SpiReceived received
+CompletionFits (i2c channel acknowledge lineLow received) = I2cReceived channel received
 
 abbrev pub EventFits : Event → Type 0
 EventFits (frame port body) = FrameFits port body

@@ -11,9 +11,9 @@ use Rattle.commands.specs.declared.command.Register.the-variants.{Datain, Seu}
 use Rattle.registers.specs.Registers as registers
 use Rattle.registers.specs.Pins.{interrupts, sampled, datainAfter, firingLines}
 use Rattle.registers.specs.Transfer.{completed, withData, dataAfter, completedWord}
-use Rattle.channels.specs.Rows.{held, heldAll}
+use Rattle.channels.specs.Rows.{masterControl, masterBit, held, heldAll}
 use Rattle.channels.specs.Errors.{decoded}
-use Rattle.channels.specs.Perform.{replied, performed}
+use Rattle.channels.specs.Perform.{marked, replied, performed}
 use Rattle.chip.specs.Event.{spi, Event, frame, completion, sample, upset}
 use Rattle.state.specs.State.{Adapter, poweredOn, powerOn, withRegisters}
 use Rattle.parts.specs.Parts.{part, put}
@@ -25,11 +25,11 @@ use Rattle.chip.specs.Frame.{commanded, numbered, carried, addressed, on
 use Rattle.chip.specs.Chip.{reaction, transferred, onSpi, onSample, onUpset}
 
 -- the bench's chip
-abbrev fresh : Adapter
+abbrev pub fresh : Adapter
 fresh = powerOn 0x00000A
 
 -- the state after a run of events
-abbrev after : Adapter → List Event → Adapter
+abbrev pub after : Adapter → List Event → Adapter
 after a [] = a
 after a (e ∷ es) = after (reaction a e .adapter) es
 
@@ -42,7 +42,7 @@ bodyOf (body ∷ more) = body
 abbrev shown : Reaction → List ℕ
 shown r = r .number ∷ r .port ∷ bodyOf (r .frames)
 
-abbrev run : Adapter → List Event → List (List ℕ)
+abbrev pub run : Adapter → List Event → List (List ℕ)
 run a [] = []
 run a (e ∷ es) = shown (reaction a e) ∷ run (reaction a e .adapter) es
 
@@ -73,26 +73,26 @@ pub record Ask : Type 0 where
   pub cmd : ℕ
   pub value : ℕ
 
-abbrev ask : ℕ → ℕ → ℕ → ℕ → Ask
+abbrev pub ask : ℕ → ℕ → ℕ → ℕ → Ask
 ask ch len cmd value = record { ch = ch; len = len; cmd = cmd; value = value }
 
 -- as a frame on port 0, with its frame number and a TRN
-abbrev framed : ℕ → ℕ → Ask → Event
+abbrev pub framed : ℕ → ℕ → Ask → Event
 framed n trn q =
     frame 0 (0x00 ∷ 2 * n ∷ trn ∷ q .ch ∷ q .len ∷ q .cmd ∷ byteOf (q .value) 2 ∷ byteOf (q .value) 3 ∷ byteOf (q .value) 0 ∷ byteOf (q .value) 1 ∷ [])
 
 -- an answer's number and its reply's ERR, LEN and D
-abbrev told : Reaction → List ℕ
+abbrev pub told : Reaction → List ℕ
 told r =
     let s = bodyOf (r .frames) in
     r .number ∷ getD s 4 0 ∷ getD s 5 0 ∷ fourBytes (getD s 8 0) (getD s 9 0) (getD s 6 0) (getD s 7 0) ∷ []
 
-abbrev asked : Adapter → List Ask → List (List ℕ)
+abbrev pub asked : Adapter → List Ask → List (List ℕ)
 asked a [] = []
 asked a (q ∷ qs) = let r = reaction a (framed (a .link .receive .0) 0x01 q) in told r ∷ asked (r .adapter) qs
 
 -- the state after them
-abbrev left : Adapter → List Ask → Adapter
+abbrev pub left : Adapter → List Ask → Adapter
 left a [] = a
 left a (q ∷ qs) = left (reaction a (framed (a .link .receive .0) 0x01 q) .adapter) qs
 
@@ -104,18 +104,18 @@ pub record Line : Type 0 where
   pub gives : List ℕ
 
 -- CMD, LEN request/reply, D: sent and kept by a write, given by a read; ERR is 0
-abbrev write : ℕ → ℕ → ℕ → ℕ → Line
+abbrev pub write : ℕ → ℕ → ℕ → ℕ → Line
 write cmd len given d = record { asks = λ ch. ask ch len cmd d; gives = 0 ∷ 0 ∷ given ∷ 0 ∷ [] }
 
-abbrev read : ℕ → ℕ → ℕ → ℕ → Line
+abbrev pub read : ℕ → ℕ → ℕ → ℕ → Line
 read cmd len given d = record { asks = λ ch. ask ch len cmd 0xFFFFFFFF; gives = 0 ∷ 0 ∷ given ∷ d ∷ [] }
 
 -- GO: no reply yet
-abbrev start : ℕ → ℕ → Line
+abbrev pub start : ℕ → ℕ → Line
 start cmd len = record { asks = λ ch. ask ch len cmd 0xFFFFFFFF; gives = 17 ∷ 0 ∷ 0 ∷ 0 ∷ [] }
 
 -- the channel's requests, one after the other from this state, have these answers
-abbrev Rows : Adapter → ℕ → List Line → Type 0
+abbrev pub Rows : Adapter → ℕ → List Line → Type 0
 Rows a ch rows = asked a (map (λ (l : Line). l .asks ch) rows) ≡ map (λ (l : Line). l .gives) rows
 
 -- ---- states
@@ -180,9 +180,9 @@ pub record Tables : Type 0 where
   pub trn-ff : told (reaction fresh (framed 0 0xFF (ask 0x00 2 0x03 0))) ≡ 0 ∷ 0x08 ∷ 2 ∷ 0 ∷ []
   pub trn-01 : told (reaction fresh (framed 0 0x01 (ask 0x00 2 0x03 0))) ≡ 0 ∷ 0x00 ∷ 4 ∷ 0 ∷ []
   pub trn-fe : told (reaction fresh (framed 0 0xFE (ask 0x00 2 0x03 0))) ≡ 0 ∷ 0x00 ∷ 4 ∷ 0 ∷ []
-  -- bit 1 before bit 2; 0x15 is known, 0x16 is not, and 0x03 to 0x12 are not for now
-  pub channels : asked fresh (ask 0x15 1 0x11 0 ∷ ask 0x16 9 0xEE 0 ∷ ask 0x03 4 0x30 0 ∷ ask 0x12 4 0x30 0 ∷ [])
-      ≡ (0 ∷ 0x00 ∷ 4 ∷ 0 ∷ []) ∷ (0 ∷ 0x02 ∷ 2 ∷ 0 ∷ []) ∷ (0 ∷ 0x02 ∷ 2 ∷ 0 ∷ []) ∷ (0 ∷ 0x02 ∷ 2 ∷ 0 ∷ []) ∷ []
+  -- bit 1 before bit 2; 0x15 is known, 0x16 is not; 0x03 to 0x12 are, and not enabled yet
+  pub channels : asked fresh (ask 0x15 1 0x11 0 ∷ ask 0x16 9 0xEE 0 ∷ ask 0x03 1 0x30 0 ∷ ask 0x12 9 0xEE 0 ∷ [])
+      ≡ (0 ∷ 0x00 ∷ 4 ∷ 0 ∷ []) ∷ (0 ∷ 0x02 ∷ 2 ∷ 0 ∷ []) ∷ (0 ∷ 0x20 ∷ 2 ∷ 0 ∷ []) ∷ (0 ∷ 0x20 ∷ 2 ∷ 0 ∷ []) ∷ []
   -- bit 5 before bit 2, bit 6 before bit 2, bit 2 before bit 4
   pub not-enabled : asked fresh (ask 0x01 9 0xEE 0 ∷ ask 0x02 1 0x11 0 ∷ ask 0x13 4 0xF1 0 ∷ ask 0x14 4 0xD1 0 ∷ [])
       ≡ (0 ∷ 0x20 ∷ 2 ∷ 0 ∷ []) ∷ (0 ∷ 0x20 ∷ 2 ∷ 0 ∷ []) ∷ (0 ∷ 0x20 ∷ 2 ∷ 0 ∷ []) ∷ (0 ∷ 0x20 ∷ 2 ∷ 0 ∷ []) ∷ []
@@ -250,7 +250,7 @@ pub tables : Tables
 unfolding
     reaction onFrame addressed commanded carried numbered requested replied performed decoded replies onSpi transferred onSample onUpset put poweredOn word
     channelOf codeOf registers.read registers.store registers.zeroed held heldAll completed withData dataAfter completedWord
-    interrupts sampled datainAfter firingLines part number digits
+    interrupts sampled datainAfter firingLines part number digits marked registers.bank masterControl masterBit
 tables =
     record {
       listing = refl;

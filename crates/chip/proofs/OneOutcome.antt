@@ -20,6 +20,13 @@ on-frame-one κs a x y s t e f = e ∙ sym f
 pub on-spi-one : One 3 this.events.on_spi.Kinds.ps this.events.on_spi.Kinds.r this.events.on_spi.Reads.Post (λ κs x s. said x (now (s .1 .0)) (now (s .1 .1 .1 .0)))
 on-spi-one κs a x y s t e f = e ∙ sym f
 
+pub on-i2c-one : One 3 this.events.on_i2c.Kinds.ps this.events.on_i2c.Kinds.r this.events.on_i2c.Reads.Post
+    (λ κs x s. said x (now (s .1 .0)) (now (s .1 .1 .1 .1 .1 .1 .0)))
+on-i2c-one κs a x y s t e f = e ∙ sym f
+
+pub group-of-i2c-one : OneOutcome 0 this.events.group_of_i2c.Kinds.ps this.events.group_of_i2c.Kinds.r this.events.group_of_i2c.Reads.Post
+group-of-i2c-one κs a x y s t e f = e ∙ sym f
+
 pub on-sample-one : One 2 this.events.on_sample.Kinds.ps this.events.on_sample.Kinds.r this.events.on_sample.Reads.Post
     (λ κs x s. said x (now (s .1 .0)) (now (s .1 .1 .1 .1 .0)))
 on-sample-one κs a x y s t e f = e ∙ sym f

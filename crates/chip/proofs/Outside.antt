@@ -1,5 +1,5 @@
 -- AN EVENT CHANGES NO REGISTER OUTSIDE THE CORE AND ITS GROUP, and not the ID; but for an accepted RESET, which leaves no record.
-use Prim.Native.Nat.{ℕ, _%_, _^_, _≤_}
+use Prim.Native.Nat.{ℕ, _-_, _%_, _^_, _≤_}
 use mathlib.Core.Bool.{true, false, true≢false}
 use mathlib.Core.List.{List}
 use mathlib.Core.Logic.{inl}
@@ -13,12 +13,13 @@ use lib.ListN.{length, replicate}
 use Rattle.bits.proofs.Tests.{and-left, and-right}
 use Rattle.commands.specs.declared.command.Control.the-variants.{B, C, D}
 use Rattle.commands.specs.declared.command.Register.the-variants.{ChipId}
+use Rattle.commands.specs.Channels.{firstMaster}
 use Rattle.registers.specs.Registers.{size, read}
 use Rattle.registers.proofs.Laws.{read-same}
 use Rattle.channels.specs.Groups.{spanOf, groupFor}
 use Rattle.channels.specs.declared.groups.Group.{Group}
 use Rattle.channels.specs.declared.groups.Group.the-variants.{Nothing, Switched}
-use Rattle.channels.proofs.Laws.{Sound, SameOutside, performed-outside, sampled-outside, completed-outside, upset-outside}
+use Rattle.channels.proofs.Laws.{Sound, SameOutside, performed-outside, sampled-outside, completed-outside, ended-outside, upset-outside}
 use Rattle.parts.specs.Parts.{part}
 use Rattle.parts.specs.Digits.{number}
 use Rattle.packets.specs.Packets.{requestOf}
@@ -27,7 +28,7 @@ use Rattle.chip.specs.Event.{Event, frame}
 use Rattle.chip.specs.Frame.{informationOf}
 use Rattle.chip.specs.Chip.{reaction, acceptedReset}
 use Rattle.chip.specs.Group.{groupOfFrame, groupOf}
-use Rattle.chip.proofs.Steps.{Commanded, connects, resets, tests, Moved, requests, completes, samples, counts, state-cases}
+use Rattle.chip.proofs.Steps.{Commanded, connects, resets, tests, Moved, requests, completes, ends, samples, counts, state-cases}
 
 request-group : (body : List ℕ) → eqb (length (informationOf body)) 8 ≡ true → groupFor (requestOf (informationOf body)) ≡ groupOfFrame body
 unfolding groupOfFrame
@@ -38,6 +39,7 @@ module _ (a : Adapter) (n : length (a .registers) ≡ size) where
   moved-outside e b (requests port body h) =
       subst (λ (g : Group). SameOutside g (b .registers) (a .registers)) (request-group body h) (performed-outside (a .registers) n (requestOf (informationOf body)))
   moved-outside e b (completes received h) = completed-outside (a .registers) n received
+  moved-outside e b (ends channel acknowledge lineLow received t h) = ended-outside (a .registers) n (channel - firstMaster) t acknowledge lineLow received
   moved-outside e b (samples levels kind h) = sampled-outside (a .registers) n levels kind
   moved-outside e b counts = upset-outside (a .registers) n _
 

@@ -1,28 +1,35 @@
 -- What an event comes to: the shape of its answer, and beside it what changed of the state. A law about answers goes through the shapes
 -- (`shapes`), a law about the state through what can move it (`state-cases`).
-use Prim.Native.Nat.{ℕ, _+_, _%_, _^_, _≤_, _<_}
+use Prim.Native.Nat.{ℕ, _+_, _-_, _%_, _^_, _≤_, _<_}
 use mathlib.Core.Bool.{Bool, true, false, not, cond, _&&_}
 use mathlib.Core.List.{List, [], _∷_}
 use mathlib.Core.Path.{_≡_, refl, ap₂}
 use borrow.Author.Tests.{not-false}
 use native.Mathlib.Nat.{mod-lt}
+use native.Mathlib.Omega.{arith}
 use lib.Dec.{eqb, lit≤, lit<}
 use lib.ListN.{length, drop}
 use Rattle.bits.proofs.Tests.{cond-cases}
-use Rattle.commands.specs.declared.channel.Channel.the-variants.{Spi, Gpio}
+use Rattle.commands.specs.declared.channel.Channel.the-variants.{Spi, Gpio, Master}
+use Rattle.commands.specs.declared.command.Command.{Command}
+use Rattle.commands.specs.declared.command.Command.the-variants.{Known, Unknown}
+use Rattle.commands.specs.declared.command.Transaction.{Transaction}
+use Rattle.commands.specs.Channels.{firstMaster, commandOf}
 use Rattle.commands.specs.declared.command.Register.the-variants.{Seu}
 use Rattle.commands.specs.declared.request.Reply.{Reply}
 use Rattle.commands.specs.declared.request.Reply.the-variants.{Sent, Later}
 use Rattle.registers.specs.Registers.{read, store}
 use Rattle.registers.specs.Pins.{sampled}
 use Rattle.registers.specs.Transfer.{completed}
+use Rattle.registers.specs.Transaction.{ended}
 use Rattle.channels.specs.Rows.{isEnabled, isBusy}
 use Rattle.channels.specs.Perform as perform
-use Rattle.channels.proofs.Laws.{ReplyBytes, replied-bytes}
+use Rattle.channels.specs.Starts.{openCode}
+use Rattle.channels.proofs.Laws.{ReplyBytes, replied-bytes, GivenByte, given-byte}
 use Rattle.commands.specs.Request.{interruptTransaction}
 use Rattle.commands.specs.Spi.{go}
 use Rattle.chip.specs.Numbers.{spiChannel, gpioChannel, interruptLength}
-use Rattle.chip.specs.Event.{Event, frame, completion, sample, upset, spi}
+use Rattle.chip.specs.Event.{Event, frame, completion, sample, upset, spi, i2c}
 use Rattle.parts.proofs.Laws.{bytes-drop}
 use Rattle.chip.proofs.EventFits.{EventFits}
 use Rattle.numbers.specs.Numbers.{noFrame}
@@ -33,7 +40,7 @@ use Rattle.link.specs.Link.{rejectControl, acknowledgeControl, receiveNumber, s
 use Rattle.chip.specs.Request.{replies, finished, requested}
 use Rattle.chip.specs.Frame.{isConnect, isReset, isResetFrame, isTest, addressOf, controlOf, informationOf, connected, reset, looped, counted, commanded, numbered}
 use Rattle.chip.specs.Frame.{carried, addressed, onFrame}
-use Rattle.chip.specs.Chip.{transferred, onSpi, onSample, onUpset, reaction}
+use Rattle.chip.specs.Chip.{transferred, onSpi, startedBy, givenBy, transacted, onI2c, onSample, onUpset, reaction}
 
 -- ---- how an event can change the state, but for the send number of a reply
 
@@ -52,6 +59,10 @@ pub data Moved (a : Adapter) : Event → Adapter → Type 0 where
   requests : (port : ℕ) (body : List ℕ) → eqb (length (informationOf body)) 8 ≡ true → Moved a (frame port body) (withRegisters (counted a) (leftBy a body))
   completes : (received : List ℕ) → isBusy (a .registers) Spi ≡ true
       → Moved a (completion (spi received)) (withRegisters a (completed (a .registers) received))
+  -- the state before it holds what the end of its start needs; its channel is looked at with the event
+  ends : (channel : ℕ) (acknowledge lineLow : Bool) (received : List ℕ) (t : Transaction) → isBusy (a .registers) (Master (channel - firstMaster)) ≡ true
+      → Moved a (completion (i2c channel acknowledge lineLow received))
+      (withRegisters a (ended (channel - firstMaster) t acknowledge lineLow received (a .registers)))
   samples : (levels kind : ℕ) → isEnabled (a .registers) Gpio ≡ true → Moved a (sample levels kind) (withRegisters a (sampled (a .registers) levels kind))
   counts : Moved a upset (withRegisters a (store (a .registers) Seu ((read (a .registers) Seu + 1) % 2 ^ 32)))
 
@@ -59,6 +70,7 @@ pub data Moved (a : Adapter) : Event → Adapter → Type 0 where
 pub moved-link : (a : Adapter) (e : Event) (b : Adapter) → Moved a e b → (b .link .send ≡ a .link .send) × (b .link .port ≡ a .link .port)
 moved-link a e b (requests port body h) = (refl, refl)
 moved-link a e b (completes received h) = (refl, refl)
+moved-link a e b (ends channel acknowledge lineLow received t h) = (refl, refl)
 moved-link a e b (samples levels kind h) = (refl, refl)
 moved-link a e b counts = (refl, refl)
 
@@ -137,14 +149,32 @@ module _ (a : Adapter) (port : ℕ) (body : List ℕ) where
 of-transfer : (a : Adapter) (e : Event) (b : Adapter) (n d : ℕ) → Moved a e b → Shape a e (replies b (n % 0x100) spiChannel 0 (go .given) d)
 of-transfer a e b n d m = replied b _ _ _ _ d m (λ _. record { trn = mod-lt n (lit< tt); ch = lit< tt; err = lit< tt; len = lit< tt })
 
+-- the LEN of a kept code's reply is a byte
+given-small : (i code : ℕ) → givenBy (commandOf (Master i) code) < 256
+given-small i code = by (commandOf (Master i) code) (given-byte (Master i) code)
+  where
+    by : (k : Command) → GivenByte k → givenBy k < 256
+    by Unknown g = lit< tt
+    by (Known l doing) g = g
+
+of-ended : (a : Adapter) (channel : ℕ) (acknowledge lineLow : Bool) (received : List ℕ) (b : Adapter) (n i code d : ℕ)
+    → Moved a (completion (i2c channel acknowledge lineLow received)) b
+    → Shape a (completion (i2c channel acknowledge lineLow received)) (replies b (n % 0x100) channel 0 (givenBy (commandOf (Master i) code)) d)
+of-ended a channel acknowledge lineLow received b n i code d m =
+    replied b _ _ _ _ d m (λ f. record { trn = mod-lt n (lit< tt); ch = small channel (f .last); err = lit< tt; len = given-small i code })
+  where
+    small : (n : ℕ) → n ≤ 0x12 → n < 256
+    small n l = omega arith
+
 of-interrupt : (a : Adapter) (e : Event) (b : Adapter) (d : ℕ) → Moved a e b → Shape a e (replies b interruptTransaction gpioChannel 0 interruptLength d)
 of-interrupt a e b d m = replied b _ _ _ _ d m (λ _. record { trn = lit< tt; ch = lit< tt; err = lit< tt; len = lit< tt })
 
 -- every event's answer has one of them
 pub shapes : (a : Adapter) (e : Event) → Shape a e (reaction a e)
-unfolding reaction onSpi transferred onSample onUpset
+unfolding reaction onSpi transferred onI2c transacted onSample onUpset
 shapes a (frame port body) = of-frame a port body
 shapes a (completion (spi received)) = search (check, of-transfer, completes)
+shapes a (completion (i2c channel acknowledge lineLow received)) = search (check, of-ended, ends)
 shapes a (sample levels kind) = search (check, of-interrupt, quiet, samples)
 shapes a upset = quiet _ counts
 

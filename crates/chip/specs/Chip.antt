@@ -1,17 +1,26 @@
 -- The chip: one function from a state and an event to the one state and the one answer that the tables fix.
-use Prim.Native.Nat.{ℕ, _+_, _%_, _^_}
+use Prim.Native.Nat.{ℕ, _+_, _-_, _%_, _^_}
 use mathlib.Core.Bool.{Bool, false, not, cond}
 use mathlib.Core.List.{List}
 use Rattle.numbers.specs.Numbers.{notBusy, linesDisabled, noFrame}
-use Rattle.commands.specs.declared.channel.Channel.the-variants.{Spi, Gpio}
+use Rattle.commands.specs.declared.channel.Channel.the-variants.{Spi, Gpio, Master}
+use Rattle.commands.specs.declared.command.Command.{Command}
+use Rattle.commands.specs.declared.command.Command.the-variants.{Known, Unknown}
+use Rattle.commands.specs.declared.command.Does.{Does}
+use Rattle.commands.specs.declared.command.Does.the-variants as does
+use Rattle.commands.specs.declared.command.Transaction.{Transaction}
+use Rattle.commands.specs.declared.command.Transaction.the-variants.{Modify}
+use Rattle.commands.specs.Channels.{firstMaster, commandOf}
 use Rattle.commands.specs.declared.command.Register.the-variants.{SpiData0, SpiGo, Ints, Seu}
 use Rattle.commands.specs.Spi.{go}
 use Rattle.registers.specs.Registers.{read, store}
 use Rattle.registers.specs.Transfer.{completed}
+use Rattle.registers.specs.Transaction.{ended, endData}
 use Rattle.registers.specs.Pins.{interrupts, sampled}
 use Rattle.channels.specs.Rows.{isEnabled, isBusy}
+use Rattle.channels.specs.Starts.{openTrn, openCode}
 use Rattle.commands.specs.Request.{interruptTransaction}
-use Rattle.chip.specs.Event.{Completion, spi, Event, frame, completion, sample, upset}
+use Rattle.chip.specs.Event.{Completion, spi, i2c, Event, frame, completion, sample, upset}
 use Rattle.chip.specs.Numbers.{spiChannel, gpioChannel, interruptLength}
 use Rattle.state.specs.State.{Adapter, withRegisters}
 use Rattle.chip.specs.Answer.{Reaction, gives}
@@ -29,8 +38,42 @@ transferred a received =
 unfoldable pub onSpi : Adapter → List ℕ → Reaction
 onSpi a received = cond (not (isBusy (a .registers) Spi)) (gives a notBusy) (transferred a received)
 
+-- ---- the end of a start
+
+-- what a kept code did, and the LEN of its reply. In a state in range it is a start's; any other stands as Modify, which takes no bytes.
+abbrev pub transactionOf : Does → Transaction
+transactionOf (does.Write r) = Modify
+transactionOf (does.Switch c) = Modify
+transactionOf (does.Read r) = Modify
+transactionOf (does.Clear r) = Modify
+transactionOf (does.Start r) = Modify
+transactionOf (does.Transact i transaction) = transaction
+
+abbrev pub startedBy : Command → Transaction
+startedBy Unknown = Modify
+startedBy (Known l doing) = transactionOf doing
+
+abbrev pub givenBy : Command → ℕ
+givenBy Unknown = 0
+givenBy (Known l doing) = l .given
+
+-- The start's reply, with its own TRN: ERR 0 whatever STATUS says, LEN of its row, STATUS in D[31:24].
+unfoldable pub transacted : Adapter → ℕ → Bool → Bool → List ℕ → Reaction
+transacted a channel acknowledge lineLow received =
+    let i = channel - firstMaster in
+    let rs = a .registers in
+    let command = commandOf (Master i) (openCode rs i) in
+    replies (withRegisters a (ended i (startedBy command) acknowledge lineLow received rs)) (openTrn rs i) channel 0 (givenBy command)
+    (endData i (startedBy command) acknowledge lineLow received rs)
+
+-- Completion when idle is 15; in a state in range a disabled master is idle.
+unfoldable pub onI2c : Adapter → ℕ → Bool → Bool → List ℕ → Reaction
+onI2c a channel acknowledge lineLow received =
+    cond (not (isBusy (a .registers) (Master (channel - firstMaster)))) (gives a notBusy) (transacted a channel acknowledge lineLow received)
+
 abbrev pub onCompletion : Adapter → Completion → Reaction
 onCompletion a (spi received) = onSpi a received
+onCompletion a (i2c channel acknowledge lineLow received) = onI2c a channel acknowledge lineLow received
 
 -- A pin sample with GPIO disabled: 16. Else an interrupt with data INTS where one goes out, or 17.
 unfoldable pub onSample : Adapter → ℕ → ℕ → Reaction

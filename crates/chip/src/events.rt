@@ -1,14 +1,16 @@
-// The four events, each as one step of the chip.
+// The events, each as one step of the chip.
 ghost use mathlib.Core.Path.{_≡_};
 ghost use mathlib.Core.List.{List};
-ghost use Prim.Native.Nat.{ℕ, _≤_};
+ghost use Prim.Native.Nat.{ℕ, _-_, _≤_};
 ghost use lib.ListN.{length};
 ghost use Rattle.numbers.specs.Numbers.{bodyLeast, bodyMost, outputLeast, transferBytes};
+ghost use Rattle.commands.specs.Channels.{firstMaster};
 ghost use Rattle.registers.specs.Registers.{size};
+ghost use Rattle.channels.specs.Rows.{masterGroup};
 ghost use Rattle.state.specs.State.{adapter};
 ghost use Rattle.chip.specs.Event.{Completion, Event};
 ghost use Rattle.chip.specs.Inner.{said, says};
-ghost use Rattle.chip.specs.Chip.{transferred, reaction, acceptedReset};
+ghost use Rattle.chip.specs.Chip.{transferred, transactionOf, startedBy, givenBy, transacted, reaction, acceptedReset};
 ghost use Rattle.chip.specs.Group.{groupOf};
 use crate::Response;
 use crate::answer;
@@ -16,12 +18,17 @@ use crate::frame;
 use crate::request;
 use channels::groups;
 use channels::groups::Group;
+use commands::channel;
 use commands::channel::Channel;
+use commands::command::Command;
+use commands::command::Does;
 use commands::command::Register;
+use commands::command::Transaction;
 use commands::request::INTERRUPT;
 use commands::spi::GO;
 use link::Link;
 use registers::gpio;
+use registers::i2c;
 use registers::spi;
 
 // The channels of a GO's reply and of an interrupt; an interrupt's LEN.
@@ -30,6 +37,9 @@ const SPI_CHANNEL: u8 = 0x01;
 const GPIO_CHANNEL: u8 = 0x02;
 
 const INTERRUPT_LENGTH: u8 = 4;
+
+// The channel of master 0.
+const FIRST_MASTER: u8 = 0x03;
 
 // The bytes of a body that carries a request.
 const REQUEST_BODY: usize = 10;
@@ -93,6 +103,99 @@ pub fn on_spi(link: Link, registers: &mut [u8], received: &[u8], output: &mut [u
     } else {
         answer::give(link, numbers::NOT_BUSY)
     }
+}
+
+// What a start that was kept did on the bus, and the LEN of its reply. In a state in range there is no other command.
+fn transaction_of(does: Does) -> Transaction
+    ensures { λ r. ⌜ r ≡ transactionOf does ⌝ }
+{
+    match does {
+        Does::Write(_) => Transaction::Modify,
+        Does::Switch(_) => Transaction::Modify,
+        Does::Read(_) => Transaction::Modify,
+        Does::Clear(_) => Transaction::Modify,
+        Does::Start(_) => Transaction::Modify,
+        Does::Transact(_, transaction) => transaction,
+    }
+}
+
+fn started_by(command: Command) -> Transaction
+    ensures { λ r. ⌜ r ≡ startedBy command ⌝ }
+{
+    match command {
+        Command::Unknown => Transaction::Modify,
+        Command::Known(_, does) => transaction_of(does),
+    }
+}
+
+fn given_by(command: Command) -> u8
+    ensures { λ r. ⌜ r ≡ givenBy command ⌝ }
+{
+    match command {
+        Command::Unknown => 0,
+        Command::Known(lengths, _) => lengths.given,
+    }
+}
+
+// The start's reply, with its own TRN.
+fn transact(
+    link: Link,
+    registers: &mut [u8],
+    channel: u8,
+    acknowledge: bool,
+    low: bool,
+    received: &[u8],
+    output: &mut [u8],
+) -> Response
+    requires { ⌜ length (now registers) ≡ size ⌝ }
+    requires { ⌜ firstMaster ≤ channel ⌝ }
+    requires { ⌜ outputLeast ≤ length (now output) ⌝ }
+    ensures { λ r. ⌜ said r (now (registers .exit)) (now (output .exit)) ≡ says (transacted (adapter link (now (registers .entry))) channel acknowledge low (now (received .entry))) (now (output .entry)) ⌝ }
+{
+    let index = channel - FIRST_MASTER;
+    let open = registers::read(registers, Register::I2cOpen(index));
+    let trn = (open % 0x100) as u8;
+    let code = ((open / 0x100) % 0x100) as u8;
+    let command = channel::command_of(Channel::Master(index), code);
+    let value = i2c::end(
+        registers,
+        index,
+        started_by(command),
+        acknowledge,
+        low,
+        received,
+    );
+    request::reply(link, trn, channel, 0, given_by(command), value, output)
+}
+
+// The completion of one named I2C channel.
+pub fn on_i2c(
+    link: Link,
+    registers: &mut [u8],
+    channel: u8,
+    acknowledge: bool,
+    low: bool,
+    received: &[u8],
+    output: &mut [u8],
+) -> Response
+    requires { ⌜ length (now registers) ≡ size ⌝ }
+    requires { ⌜ firstMaster ≤ channel ⌝ }
+    requires { ⌜ outputLeast ≤ length (now output) ⌝ }
+    ensures { λ r. ⌜ said r (now (registers .exit)) (now (output .exit)) ≡ says (reaction (adapter link (now (registers .entry))) (Event.completion (Completion.i2c channel acknowledge low (now (received .entry))))) (now (output .entry)) ⌝ }
+{
+    if channels::is_busy(registers, Channel::Master(channel - FIRST_MASTER)) {
+        transact(link, registers, channel, acknowledge, low, received, output)
+    } else {
+        answer::give(link, numbers::NOT_BUSY)
+    }
+}
+
+// What it may change besides the core.
+pub fn group_of_i2c(channel: u8) -> Group
+    requires { ⌜ firstMaster ≤ channel ⌝ }
+    ensures { λ r. ⌜ r ≡ masterGroup (channel - firstMaster) ⌝ }
+{
+    channels::master_group(channel - FIRST_MASTER)
 }
 
 // A pin sample with 32 levels and an edge kind.

@@ -6,6 +6,7 @@ use crate::command::Command;
 use crate::controller;
 use crate::dac;
 use crate::gpio;
+use crate::i2c;
 use crate::seu;
 use crate::spi;
 
@@ -13,6 +14,8 @@ pub enum Channel {
     Controller,
     Spi,
     Gpio,
+    // One of the sixteen I2C masters, 0 to 15.
+    Master(u8),
     Seu,
     Id,
     Dac,
@@ -26,8 +29,7 @@ pub fn channel_of(ch: u8) -> Channel
         0x00 => Channel::Controller,
         0x01 => Channel::Spi,
         0x02 => Channel::Gpio,
-        // The I2C masters, not built yet.
-        0x03..=0x12 => Channel::Unknown,
+        0x03..=0x12 => Channel::Master(ch - 0x03),
         0x13 => Channel::Seu,
         0x14 => Channel::Id,
         0x15 => Channel::Dac,
@@ -43,6 +45,7 @@ pub fn command_of(which: Channel, cmd: u8) -> Command
         Channel::Controller => controller::command_of(cmd),
         Channel::Spi => spi::command_of(cmd),
         Channel::Gpio => gpio::command_of(cmd),
+        Channel::Master(index) => i2c::command_of(index, cmd),
         Channel::Seu => seu::command_of(cmd),
         Channel::Id => chip_id::command_of(cmd),
         Channel::Dac => dac::command_of(cmd),

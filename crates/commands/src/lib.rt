@@ -5,6 +5,7 @@ pub mod command;
 mod controller;
 mod dac;
 mod gpio;
+mod i2c;
 pub mod request;
 mod seu;
 pub mod spi;

@@ -1,7 +1,8 @@
 // Every command once, and every other event: one line for each, document 01's number and the body that is sent.
-// `stdout` is worked out by hand from document 01. The comment above a call is how its line comes about: s and r are the send and
-// the receive number in its control, 2 s + 32 r; then LEN as asked and as given, and the data. A reply is 00, control, TRN 01, CH, ERR,
-// LEN, D[23:16], D[31:24], D[7:0], D[15:8]; ERR is 0 and data is 0 where nothing else is said.
+// `stdout` is worked out by hand from document 01, for the masters from request 2026-01 and chapter 6 of 000. The comment above a call
+// is how its line comes about: s and r are the send and the receive number in its control, 2 s + 32 r; then LEN as asked and as given,
+// and the data. A reply is 00, control, TRN 01, CH, ERR, LEN, D[23:16], D[31:24], D[7:0], D[15:8]; ERR is 0 and data is 0 where nothing
+// else is said.
 mod print;
 mod requests;
 
@@ -11,6 +12,7 @@ use requests::ask;
 use requests::completion;
 use requests::frame;
 use requests::sample;
+use requests::transaction;
 use requests::upset;
 
 // The controller is always enabled. A register stands in D[31:24], the second byte of data.
@@ -19,9 +21,9 @@ fn controller(l: Link, registers: &mut [u8; SIZE]) -> Link {
     let l = ask(l, registers, 0x00, 4, 0x02, 0x07000000);
     // s 1 r 2: 42. LEN 2/4. CRB is 06: 00 06 00 00.
     let l = ask(l, registers, 0x00, 2, 0x03, 0);
-    // s 2 r 3: 64. LEN 4/2.
-    let l = ask(l, registers, 0x00, 4, 0x04, 0x80000000);
-    // s 3 r 4: 86. LEN 2/4. CRC is 80, its bit 7 is I2CC and is kept: 00 80 00 00.
+    // s 2 r 3: 64. LEN 4/2. The masters 0x0A (bit 2) and 0x0F (bit 7, I2CC) are enabled.
+    let l = ask(l, registers, 0x00, 4, 0x04, 0x84000000);
+    // s 3 r 4: 86. LEN 2/4. CRC is 84: 00 84 00 00.
     let l = ask(l, registers, 0x00, 2, 0x05, 0);
     // s 4 r 5: A8. LEN 4/2. 0x13 (bit 3) and 0x14 (bit 4) are enabled; bits 7 to 5 read 0.
     let l = ask(l, registers, 0x00, 4, 0x06, 0xF8000000);
@@ -155,6 +157,99 @@ fn outputs(l: Link, registers: &mut [u8; SIZE]) -> Link {
     ask(l, registers, 0x15, 1, 0x41, 0)
 }
 
+// CTRL, MASK and STATUS stand in D[31:24]. The LEN of a register command counts its bytes of data.
+fn master_settings(l: Link, registers: &mut [u8; SIZE]) -> Link {
+    // s 4 r 4: 88. LEN 4. CTRL is 00 still, and a start of many bytes wants an NBYTE (bits 6 to 2) of 1 to 16: ERR 10, LEN 2.
+    let l = ask(l, registers, 0x0A, 4, 0xDA, 0x50000000);
+    // s 5 r 5: AA. LEN 1/0. NBYTE is 5; bits 7, 1 and 0 are set.
+    let l = ask(l, registers, 0x0A, 1, 0x30, 0x97000000);
+    // s 6 r 6: CC. LEN 0/1. CTRL is 97: 00 97 00 00.
+    let l = ask(l, registers, 0x0A, 0, 0x31, 0);
+    // s 7 r 7: EE. LEN 1/0.
+    let l = ask(l, registers, 0x0A, 1, 0x20, 0x3C000000);
+    // s 0 r 0: 00. LEN 0/1. MASK is 3C: 00 3C 00 00.
+    ask(l, registers, 0x0A, 0, 0x21, 0)
+}
+
+// The first of four bytes stands in D[31:24], the last in D[7:0].
+fn master_data(l: Link, registers: &mut [u8; SIZE]) -> Link {
+    // s 1 r 1: 22. LEN 4/0.
+    let l = ask(l, registers, 0x0A, 4, 0x40, 0x01020304);
+    // s 2 r 2: 44. LEN 0/4. Bytes 0 to 3 are 01 02 03 04: 02 01 04 03.
+    let l = ask(l, registers, 0x0A, 0, 0x41, 0);
+    // s 3 r 3: 66. LEN 4/0.
+    let l = ask(l, registers, 0x0A, 4, 0x50, 0x05060708);
+    // s 4 r 4: 88. LEN 0/4. Bytes 4 to 7 are 05 06 07 08: 06 05 08 07.
+    let l = ask(l, registers, 0x0A, 0, 0x51, 0);
+    // s 5 r 5: AA. LEN 4/0.
+    let l = ask(l, registers, 0x0A, 4, 0x60, 0x090A0B0C);
+    // s 6 r 6: CC. LEN 0/4. Bytes 8 to 11 are 09 0A 0B 0C: 0A 09 0C 0B.
+    let l = ask(l, registers, 0x0A, 0, 0x61, 0);
+    // s 7 r 7: EE. LEN 4/0.
+    let l = ask(l, registers, 0x0A, 4, 0x70, 0x0D0E0F10);
+    // s 0 r 0: 00. LEN 0/4. Bytes 12 to 15 are 0D 0E 0F 10: 0E 0D 10 0F.
+    ask(l, registers, 0x0A, 0, 0x71, 0)
+}
+
+// A start is accepted and gives 17. Its reply comes with the completion: STATUS in D[31:24], 04 where all went well.
+fn single_starts(l: Link, registers: &mut [u8; SIZE]) -> Link {
+    // 17, then s 1 r 1: 22. LEN 4/4. A write takes no byte: 00 04 00 00.
+    let l = ask(l, registers, 0x0A, 4, 0x82, 0x50AB0000);
+    let l = transaction(l, registers, true, false, &[0xC3]);
+    // 17, then s 2 r 2: 44. LEN 4/4. A read's first byte goes to D[23:16]: C3 04 00 00.
+    let l = ask(l, registers, 0x0A, 4, 0x86, 0x50000000);
+    let l = transaction(l, registers, true, false, &[0xC3, 0x99]);
+    // 17, then s 3 r 3: 66. LEN 6/4. 00 04 00 00.
+    let l = ask(l, registers, 0x0A, 6, 0x8A, 0x7850AB00);
+    let l = transaction(l, registers, true, false, &[0xC3]);
+    // 17, then s 4 r 4: 88. LEN 4/4. No acknowledge, bit 6, and no byte is taken: 00 40 00 00.
+    let l = ask(l, registers, 0x0A, 4, 0x8E, 0x78500000);
+    transaction(l, registers, false, false, &[0xC3])
+}
+
+// NBYTE is 5.
+fn multiple_starts(l: Link, registers: &mut [u8; SIZE]) -> Link {
+    // 17, then s 5 r 5: AA. LEN 4/6. 00 04 00 00.
+    let l = ask(l, registers, 0x0A, 4, 0xDA, 0x50000000);
+    let l = transaction(l, registers, true, false, &[0xC3]);
+    // 17, then s 6 r 6: CC. LEN 4/4. Bytes 0 to 4 become A1 A2 A3 00 00: 00 04 00 00.
+    let l = ask(l, registers, 0x0A, 4, 0xDE, 0x50000000);
+    let l = transaction(l, registers, true, false, &[0xA1, 0xA2, 0xA3]);
+    // s 7 r 7: EE. LEN 0/4. Bytes 0 to 3 are A1 A2 A3 00: A2 A1 00 A3.
+    let l = ask(l, registers, 0x0A, 0, 0x41, 0);
+    // s 0 r 0: 00. LEN 0/4. Bytes 4 to 7 are 00 06 07 08: 06 00 08 07.
+    let l = ask(l, registers, 0x0A, 0, 0x51, 0);
+    // 17, then s 1 r 1: 22. LEN 2/2. 00 04 00 00.
+    let l = ask(l, registers, 0x0A, 2, 0xE2, 0x78500000);
+    let l = transaction(l, registers, true, false, &[0xC3]);
+    // 17, then s 2 r 2: 44. LEN 2/2. The line is low, bit 3: 00 08 00 00.
+    let l = ask(l, registers, 0x0A, 2, 0xE6, 0x78500000);
+    let l = transaction(l, registers, true, true, &[0xB1]);
+    // s 3 r 3: 66. LEN 0/4. No byte was taken: A2 A1 00 A3.
+    ask(l, registers, 0x0A, 0, 0x41, 0)
+}
+
+fn modifying_starts(l: Link, registers: &mut [u8; SIZE]) -> Link {
+    // 17: r is 4; s stays 4.
+    let l = ask(l, registers, 0x0A, 2, 0xC2, 0x50000000);
+    // s 4 r 5: A8. The master is busy: ERR 40, LEN 2, so that the code is not looked at.
+    let l = ask(l, registers, 0x0A, 0, 0x99, 0);
+    // s 5 r 5: AA. LEN 2/2. 00 04 00 00.
+    let l = transaction(l, registers, true, false, &[0xC3]);
+    // s 6 r 6: CC. The code is unknown: ERR 04, LEN 2, and bit 5 of STATUS is set from now on.
+    let l = ask(l, registers, 0x0A, 0, 0x99, 0);
+    // s 7 r 7: EE. LEN 0/1. STATUS is 24: 00 24 00 00.
+    let l = ask(l, registers, 0x0A, 0, 0x11, 0);
+    // 17, then s 0 r 0: 00. LEN 2/2. 00 24 00 00.
+    let l = ask(l, registers, 0x0A, 2, 0xC6, 0x50000000);
+    let l = transaction(l, registers, true, false, &[0xC3]);
+    // 17, then s 1 r 1: 22. LEN 2/2. No acknowledge and the line low, bits 6 and 3: 00 68 00 00.
+    let l = ask(l, registers, 0x0A, 2, 0xCA, 0x50000000);
+    let l = transaction(l, registers, false, true, &[0xC3]);
+    // 15: the master is not busy any more.
+    transaction(l, registers, true, false, &[0xC3])
+}
+
 fn commands(l: Link, registers: &mut [u8; SIZE]) -> Link {
     // TEST on port 1, bit 4 clear: 00 63. Port 1 is in loopback.
     let l = frame(l, registers, 1, &[0x00, 0xE3]);
@@ -181,5 +276,10 @@ fn main() {
     let l = samples(l, &mut registers);
     let l = upsets_and_id(l, &mut registers);
     let l = outputs(l, &mut registers);
+    let l = master_settings(l, &mut registers);
+    let l = master_data(l, &mut registers);
+    let l = single_starts(l, &mut registers);
+    let l = multiple_starts(l, &mut registers);
+    let l = modifying_starts(l, &mut registers);
     commands(l, &mut registers);
 }

@@ -38,6 +38,21 @@ pub(crate) fn completion(l: Link, registers: &mut [u8; SIZE], received: &[u8]) -
     show(r, output)
 }
 
+// On the master 0x0A.
+pub(crate) fn transaction(
+    l: Link,
+    registers: &mut [u8; SIZE],
+    acknowledge: bool,
+    low: bool,
+    received: &[u8],
+) -> Link
+    ensures { λ after. ⌜ adapter after (now (registers .exit)) ≡ reaction (adapter l (now (registers .entry))) (Event.completion (Completion.i2c 0x0A acknowledge low (now (received .entry)))) .adapter ⌝ }
+{
+    let mut output = [0u8; 16];
+    let r = events::on_i2c(l, registers, 0x0A, acknowledge, low, received, &mut output);
+    show(r, output)
+}
+
 pub(crate) fn sample(l: Link, registers: &mut [u8; SIZE], levels: u32, kind: u8) -> Link
     ensures { λ after. ⌜ adapter after (now (registers .exit)) ≡ reaction (adapter l (now (registers .entry))) (Event.sample levels kind) .adapter ⌝ }
 {

@@ -17,5 +17,14 @@ form-of-one κs a x y s t p q = p ∙ sym q
 pub levels-one : One 1 this.line.levels.Kinds.ps this.line.levels.Kinds.r this.line.levels.Reads.Post (λ κs x s. x)
 levels-one κs a x y s t p q = p ∙ sym q
 
+pub i2c-channel-one : One 1 this.line.i2c_channel.Kinds.ps this.line.i2c_channel.Kinds.r this.line.i2c_channel.Reads.Post (λ κs x s. x)
+i2c-channel-one κs a x y s t p q = p ∙ sym q
+
+pub i2c-acknowledge-one : One 1 this.line.i2c_acknowledge.Kinds.ps this.line.i2c_acknowledge.Kinds.r this.line.i2c_acknowledge.Reads.Post (λ κs x s. x)
+i2c-acknowledge-one κs a x y s t p q = p ∙ sym q
+
+pub i2c-line-low-one : One 1 this.line.i2c_line_low.Kinds.ps this.line.i2c_line_low.Kinds.r this.line.i2c_line_low.Reads.Post (λ κs x s. x)
+i2c-line-low-one κs a x y s t p q = p ∙ sym q
+
 pub put-answer-one : One 2 this.answer.put_answer.Kinds.ps this.answer.put_answer.Kinds.r this.answer.put_answer.Reads.Post (λ κs x s. wrote x (now (s .0)))
 put-answer-one κs a x y s t p q = p .0 ∙ sym (q .0)

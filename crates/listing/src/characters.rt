@@ -62,7 +62,7 @@ pub(crate) fn are_pairs(s: &[u8]) -> bool
     (0 < s.len()) & ((s.len() % 2 == 0) & hex)
 }
 
-fn pair_at(s: &[u8], at: usize) -> u8
+pub(crate) fn pair_at(s: &[u8], at: usize) -> u8
     requires { ⌜ at + 2 ≤ length (now s) ⌝ }
     ensures { λ r. ⌜ r ≡ frontPair (drop at (now (s .entry))) ⌝ }
 {

@@ -8,6 +8,7 @@ pub enum Form {
     Frame,
     Completion,
     Sample,
+    I2c,
     Upset,
     Back,
     Unreadable,

@@ -1,8 +1,9 @@
 // What a line says: its form, and the fields of each form.
 ghost use mathlib.Core.Path.{_≡_};
+ghost use Prim.Native.Nat.{_≤_};
 ghost use lib.ListN.{length, drop};
 ghost use Rattle.listing.specs.Characters.{pairBytes};
-ghost use Rattle.listing.specs.Line.{isFrame, isCompletion, isSample, formOf, topFirst};
+ghost use Rattle.listing.specs.Line.{isFrame, isCompletion, isSample, isRest, isI2c, formOf, topFirst, i2cChannel, i2cAcknowledge, i2cLineLow};
 use crate::Form;
 use crate::characters;
 use crate::characters::SPACE;
@@ -45,6 +46,31 @@ fn is_sample(l: &[u8]) -> bool
     (l[0] == b'P') & ((l[1] == SPACE) & (pairs & ((l[10] == SPACE) & digit)))
 }
 
+// What may stand behind line-low: nothing, or a space and pairs.
+fn is_rest(t: &[u8]) -> bool
+    ensures { λ r. ⌜ r ≡ isRest (now (t .entry)) ⌝ }
+{
+    if t.len() < 1 {
+        return true;
+    }
+    let pairs = characters::are_pairs(&t[1..]);
+    (t[0] == SPACE) & pairs
+}
+
+fn is_i2c(l: &[u8]) -> bool
+    ensures { λ r. ⌜ r ≡ isI2c (now (l .entry)) ⌝ }
+{
+    if l.len() < 8 {
+        return false;
+    }
+    let channel = characters::are_pairs(&l[2..4]);
+    let acknowledge = characters::between(48, 49, l[5]);
+    let low = characters::between(48, 49, l[7]);
+    let rest = is_rest(&l[8..]);
+    let fields = channel & ((l[4] == SPACE) & (acknowledge & ((l[6] == SPACE) & (low & rest))));
+    (l.len() <= 80) & ((l[0] == b'I') & ((l[1] == SPACE) & fields))
+}
+
 fn is_letter(l: &[u8], letter: u8) -> bool
     ensures { λ r. ⌜ r ≡ Rattle.listing.specs.Line.isLetter letter (now (l .entry)) ⌝ }
 {
@@ -67,6 +93,9 @@ pub fn form_of(l: &[u8]) -> Form
     if is_sample(l) {
         return Form::Sample;
     }
+    if is_i2c(l) {
+        return Form::I2c;
+    }
     if is_letter(l, b'U') {
         return Form::Upset;
     }
@@ -84,4 +113,28 @@ pub fn levels(l: &[u8]) -> u32
     let mut b = [0u8; 4];
     characters::load_pairs(&l[2..], &mut b);
     parts::word_of(b[3], b[2], b[1], b[0])
+}
+
+// The channel of an I2C completion's line.
+pub fn i2c_channel(l: &[u8]) -> u8
+    requires { ⌜ 8 ≤ length (now l) ⌝ }
+    ensures { λ r. ⌜ r ≡ i2cChannel (now (l .entry)) ⌝ }
+{
+    characters::pair_at(l, 2)
+}
+
+// Whether an I2C completion's line says acknowledged.
+pub fn i2c_acknowledge(l: &[u8]) -> bool
+    requires { ⌜ 8 ≤ length (now l) ⌝ }
+    ensures { λ r. ⌜ r ≡ i2cAcknowledge (now (l .entry)) ⌝ }
+{
+    l[5] == b'1'
+}
+
+// Whether it says that the bus line was low.
+pub fn i2c_line_low(l: &[u8]) -> bool
+    requires { ⌜ 8 ≤ length (now l) ⌝ }
+    ensures { λ r. ⌜ r ≡ i2cLineLow (now (l .entry)) ⌝ }
+{
+    l[7] == b'1'
 }

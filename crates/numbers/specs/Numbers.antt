@@ -14,7 +14,7 @@ shortOutput = 1
 abbrev pub badBody : ℕ
 badBody = 2
 
--- The port is not 0 or 1, the edge kind is over 2, or the completion is not 16 bytes.
+-- The port is not 0 or 1, the edge kind is over 2, or a completion is not 16 bytes, not of an I2C channel, or over 16 bytes.
 abbrev pub badArgument : ℕ
 badArgument = 3
 
@@ -113,6 +113,10 @@ outputLeast = 16
 -- The bytes received in an SPI transfer.
 abbrev pub transferBytes : ℕ
 transferBytes = 16
+
+-- The most bytes received in an I2C transaction.
+abbrev pub i2cMost : ℕ
+i2cMost = 16
 
 -- The greatest chip ID.
 abbrev pub idMost : ℕ

@@ -7,7 +7,7 @@ pub const HAS_FRAME: u8 = 0;
 pub const SHORT_OUTPUT: u8 = 1;
 // The body is not 2 to 16 bytes.
 pub const BAD_BODY: u8 = 2;
-// The port is not 0 or 1, the edge kind is over 2, or the completion is not 16 bytes.
+// The port is not 0 or 1, the edge kind is over 2, or a completion is not 16 bytes, not of an I2C channel, or over 16 bytes.
 pub const BAD_ARGUMENT: u8 = 3;
 // The journal's length, mark, version or layout is wrong.
 pub const BAD_JOURNAL: u8 = 4;
@@ -58,5 +58,7 @@ pub const INPUT_MOST: usize = 65536;
 pub const OUTPUT_LEAST: usize = 16;
 // The bytes received in an SPI transfer.
 pub const TRANSFER_BYTES: usize = 16;
+// The most bytes received in an I2C transaction.
+pub const I2C_MOST: usize = 16;
 // The greatest chip ID.
 pub const ID_MOST: u32 = 0xFFFFFF;

@@ -1,18 +1,19 @@
 -- The laws of a line that is played: each form by what its line says. Assumes nothing.
-use Prim.Native.Nat.{ℕ, _*_, _-_, _/_, _≤_, _<_}
+use Prim.Native.Nat.{ℕ, _+_, _*_, _-_, _/_, _≤_, _<_}
 use mathlib.Core.Path.{_≡_, refl, sym, ap, _∙_}
+use mathlib.Core.Bool.{Bool}
 use mathlib.Core.List.{List}
 use native.Mathlib.Omega.{arith}
 use lib.ListN.{length, take, drop, getD, length-drop}
 use lib.Seq.{take-all, length-take-le}
-use Rattle.chip.specs.Event.{spi, frame, completion, sample}
+use Rattle.chip.specs.Event.{spi, i2c, frame, completion, sample}
 use Rattle.adapter.specs.declared.Answer.{Answer}
 use Rattle.adapter.specs.declared.KeptNumber.{KeptNumber}
 use Rattle.adapter.specs.Calls.{Outcome, outcome, plain, called, Stepped, stepped, steppedBack, keptIn}
 use Rattle.listing.specs.declared.Form.{Form}
 use Rattle.listing.specs.declared.Form.the-variants.{Back, Unreadable}
 use Rattle.listing.specs.Characters.{hexValue, pairBytes}
-use Rattle.listing.specs.Line.{formOf, frameOf, completionOf, sampleOf, topFirst, saidBy, read}
+use Rattle.listing.specs.Line.{formOf, frameOf, completionOf, sampleOf, topFirst, i2cOf, i2cChannel, i2cAcknowledge, i2cLineLow, saidBy, read}
 use Rattle.listing.specs.Answer.{wrote, written, answerText}
 use Rattle.player.specs.Play.{heard, noReply, answerOf, turn}
 use Rattle.player.specs.Parts.{left, leaves}
@@ -31,6 +32,30 @@ module _ (s j l o : List ℕ) (f : Form) (e : f ≡ formOf l) where
 
   pub hears-nothing : (x : Answer) → f ≡ Unreadable → x ≡ plain 10 → outcome x s j o ≡ heard s j (read l) o
   hears-nothing x h p = hears _ Unreadable h (rw p refl)
+
+-- ---- room for the bytes of a line
+
+-- of 80 characters, no more than n pairs stand from place k on
+module _ (k n : ℕ) (l z : List ℕ) (long : length l ≤ 80) (enough : 80 ≤ k + 2 * n + 1) (e : length z ≡ n) where
+  room-for : (length l - k) / 2 ≡ length (take ((length l - k) / 2) z)
+  room-for = sym (length-take-le ((length l - k) / 2) z (omega arith))
+
+  pairs-for : k ≤ length l → 2 * length (take ((length l - k) / 2) z) ≤ length (take (length l - k) (drop k l))
+  pairs-for h = rw (← room-for, to-end k l, length-drop) (omega arith)
+
+pub body-room : (l z : List ℕ) → 6 ≤ length l → length l ≤ 80 → length z ≡ 38 → (length l - 4) / 2 ≡ length (take ((length l - 4) / 2) z)
+body-room l z h g e = room-for 4 38 l z g (omega arith) e
+
+pub body-fits : (l z : List ℕ) → 6 ≤ length l → length l ≤ 80 → length z ≡ 38
+    → 2 * length (take ((length l - 4) / 2) z) ≤ length (take (length l - 4) (drop 4 l))
+body-fits l z h g e = pairs-for 4 38 l z g (omega arith) e (omega arith)
+
+pub bytes-room : (l z : List ℕ) → length l ≤ 80 → length z ≡ 35 → (length l - 9) / 2 ≡ length (take ((length l - 9) / 2) z)
+bytes-room l z g e = room-for 9 35 l z g (omega arith) e
+
+pub bytes-fit : (l z : List ℕ) → 9 ≤ length l → length l ≤ 80 → length z ≡ 35
+    → 2 * length (take ((length l - 9) / 2) z) ≤ length (take (length l - 9) (drop 9 l))
+bytes-fit l z h g e = pairs-for 9 35 l z g (omega arith) e h
 
 -- ---- the fields of each form
 
@@ -56,12 +81,23 @@ module _ (s j o : List ℕ) (x : Outcome) where
       body-long l z h g e =
           length-take-le ((length l - 4) / 2) z (omega arith) ∙ ap (λ (k : ℕ). k / 2) (sym (length-drop 4 l))
 
-pub body-room : (l z : List ℕ) → 6 ≤ length l → length l ≤ 80 → length z ≡ 38 → (length l - 4) / 2 ≡ length (take ((length l - 4) / 2) z)
-body-room l z h g e = sym (length-take-le ((length l - 4) / 2) z (omega arith))
+  pub i2c-call : (channel : ℕ) (a w : Bool) (received b : List ℕ) → x ≡ called s j (completion (i2c channel a w received)) o → received ≡ b
+      → x ≡ called s j (completion (i2c channel a w b)) o
+  i2c-call channel a w received b h e = h ∙ ap (λ (t : List ℕ). called s j (completion (i2c channel a w t)) o) e
 
-pub body-fits : (l z : List ℕ) → 6 ≤ length l → length l ≤ 80 → length z ≡ 38
-    → 2 * length (take ((length l - 4) / 2) z) ≤ length (take (length l - 4) (drop 4 l))
-body-fits l z h g e = rw (← body-room l z h g e, to-end 4 l, length-drop) (omega arith)
+  module _ (l z : List ℕ) (channel : ℕ) (a w : Bool) (ec : channel ≡ i2cChannel l) (ea : a ≡ i2cAcknowledge l) (ew : w ≡ i2cLineLow l) where
+    -- a line that ends with line-low
+    pub i2c-none : length l < 9 → x ≡ called s j (completion (i2c channel a w (take 0 z))) o → x ≡ called s j (i2cOf l) o
+    unfolding pairBytes
+    i2c-none h t =
+        let n : (length l - 9) / 2 ≡ 0 = omega arith in
+        t ∙ rw (ec, ea, ew, n) refl
+
+    -- as many bytes as their room lends
+    pub i2c-line : length l ≤ 80 → length z ≡ 35
+        → x ≡ called s j (completion (i2c channel a w (pairBytes (length (take ((length l - 9) / 2) z)) (take (length l - 9) (drop 9 l))))) o
+        → x ≡ called s j (i2cOf l) o
+    i2c-line g e t = t ∙ rw (ec, ea, ew, ← bytes-room l z g e, to-end 9 l) refl
 
 -- ---- an answer's line
 

@@ -13,7 +13,7 @@ use Rattle.listing.specs.declared.Form.{Form}
 use Rattle.listing.specs.Line.{saidBy, read, unreadable}
 use Rattle.player.specs.Play.{Turn, turn, linesFrom, lastLine, answers, newState, emptyJournal, played}
 use Rattle.player.specs.Parts.{Held, held, added, Player, sofar, ends, joins, takes, closes, begins, handedOver, playedIn}
-use Rattle.listing.proofs.Reading.{frame-long, completion-other, sample-other, letter-other, form-none}
+use Rattle.listing.proofs.Reading.{frame-long, completion-other, sample-other, i2c-long, letter-other, form-none}
 use Rattle.player.proofs.Feeding.{after, ends-after, takes-after, whole-again, takes-end, takes-char}
 
 -- ---- blocks one after the other
@@ -54,7 +54,7 @@ over-long l h =
     ap (λ (f : Form). saidBy f l)
     (sym
     (form-none l false (frame-long l (omega arith) h) false (completion-other l (λ e. omega arith)) refl false (sample-other l (λ e. omega arith)) refl false
-    (letter-other l 85 (λ e. omega arith)) refl false (letter-other l 66 (λ e. omega arith)) refl refl))
+    (i2c-long l h) refl false (letter-other l 85 (λ e. omega arith)) refl false (letter-other l 66 (λ e. omega arith)) refl refl))
 
 same-read : (l : List ℕ) → read (take 81 l) ≡ read l
 same-read l = either (ltb 80 (length l)) refl

@@ -9,16 +9,16 @@ use borrow.Author.Tests.{ltb-true}
 use Rattle.bits.specs.Bits.{word}
 use Rattle.commands.specs.Channels.{channelOf}
 use Rattle.commands.specs.Command.{codeOf}
-use Rattle.registers.specs.Registers.{read, store, zeroed}
+use Rattle.registers.specs.Registers.{bank, read, store, zeroed}
 use Rattle.registers.specs.Pins.{interrupts, sampled, datainAfter, firingLines}
-use Rattle.channels.specs.Rows.{held, heldAll}
+use Rattle.channels.specs.Rows.{masterControl, masterBit, held, heldAll}
 use Rattle.channels.specs.Errors.{decoded}
-use Rattle.channels.specs.Perform.{replied, performed}
+use Rattle.channels.specs.Perform.{marked, replied, performed}
 use Rattle.parts.specs.Parts.{part, put}
 use Rattle.parts.specs.Digits.{number, digits}
 use Rattle.wire.specs.Bits.{low, wire}
 use Rattle.wire.specs.Frame.{stuff}
-use Rattle.chip.specs.Event.{spi, frame, completion, sample, upset}
+use Rattle.chip.specs.Event.{spi, i2c, frame, completion, sample, upset}
 use Rattle.state.specs.State.{poweredOn}
 use Rattle.chip.specs.Request.{replies, requested}
 use Rattle.chip.specs.Frame.{isResetFrame, commanded, numbered, carried, addressed, onFrame}
@@ -39,7 +39,7 @@ use Rattle.promises.proofs.Lines.{textLines, lines-told}
 use Rattle.promises.proofs.Text.{ofLine, joined, Says, none, happens, steps, answers-text}
 
 -- literal bytes are bytes
-below : List ℕ → Bool
+unfoldable pub below : List ℕ → Bool
 below [] = true
 below (x ∷ xs) = ltb x 256 && below xs
 
@@ -49,20 +49,22 @@ bytes [] h i = lit< tt
 bytes (x ∷ xs) h zero = ltb-true x 256 (and-left (ltb x 256) (below xs) h)
 bytes (x ∷ xs) h (suc i) = bytes xs (and-right (ltb x 256) (below xs) h) i
 
-literal : List Call → Bool
+unfoldable pub literal : List Call → Bool
 literal [] = true
 literal (event (frame port body) o ∷ ks) = below body && literal ks
 literal (event (completion (spi received)) o ∷ ks) = below received && literal ks
+literal (event (completion (i2c channel acknowledge lineLow received)) o ∷ ks) = below received && literal ks
 literal (event (sample levels kind) o ∷ ks) = ltb levels (2 ^ 32) && literal ks
 literal (event upset o ∷ ks) = literal ks
 literal (back ∷ ks) = literal ks
 literal (empty ∷ ks) = literal ks
 
-typed : (ks : List Call) → literal ks ≡ true → AllOfTheirTypes ks
+pub typed : (ks : List Call) → literal ks ≡ true → AllOfTheirTypes ks
 unfolding literal
 typed [] h = tt
 typed (event (frame port body) o ∷ ks) h = let b = both (below body) (literal ks) h in (bytes body (b .0), typed ks (b .1))
 typed (event (completion (spi received)) o ∷ ks) h = let b = both (below received) (literal ks) h in (bytes received (b .0), typed ks (b .1))
+typed (event (completion (i2c channel acknowledge lineLow received)) o ∷ ks) h = let b = both (below received) (literal ks) h in (bytes received (b .0), typed ks (b .1))
 typed (event (sample levels kind) o ∷ ks) h = let b = both (ltb levels (2 ^ 32)) (literal ks) h in (ltb-true levels (2 ^ 32) (b .0), typed ks (b .1))
 typed (event upset o ∷ ks) h = (tt, typed ks h)
 typed (back ∷ ks) h = (tt, typed ks h)
@@ -71,19 +73,19 @@ typed (empty ∷ ks) h = (tt, typed ks h)
 listing-text : textLines 0x00000A (atStart 64) listing ≡ listingOutput
 unfolding
     reaction onFrame addressed commanded carried numbered requested replied performed decoded replies poweredOn isResetFrame put channelOf codeOf
-    read store zeroed held heldAll part number digits
+    read store zeroed held heldAll part number digits bank masterControl masterBit marked
 listing-text = refl
 
 everything-text : textLines 0x00000A (atStart 64) everything ≡ everythingOutput
 unfolding
     reaction onFrame addressed commanded carried numbered requested replied performed decoded replies onSample onUpset poweredOn isResetFrame put
-    channelOf codeOf read store zeroed held heldAll interrupts sampled datainAfter firingLines word part number digits
+    channelOf codeOf read store zeroed held heldAll interrupts sampled datainAfter firingLines word part number digits bank masterControl masterBit marked
 everything-text = refl
 
 -- the file's lines say the calls
 listing-says : Says (linesFrom [] (text inputText)) listing
 unfolding
-    text linesFrom Line.read Line.formOf Line.isFrame Line.isCompletion Line.isSample Line.isLetter
+    text linesFrom Line.read Line.formOf Line.isFrame Line.isCompletion Line.isSample Line.isI2c Line.isLetter
     arePairs allHex isHex pairBytes hexValue
 listing-says =
     happens refl (happens refl (happens refl (happens refl (happens refl (steps refl (steps refl (happens refl none)))))))

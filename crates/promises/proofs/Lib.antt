@@ -1,4 +1,5 @@
 pub mod Examples
+pub mod Masters
 pub mod Errors
 pub mod Sentences
 pub mod Lines

@@ -13,7 +13,7 @@ use Rattle.sca.proofs as sca
 use Rattle.adapter.specs.Calls.{made, stepped}
 use Rattle.sca.specs.Adapter.{left}
 -- the adapter's eight calls
-pub use Rattle.adapter.proofs.OneOutcome.{create-one, empty-one, kept-one, frame-one, completion-one, sample-one, upset-one, step-back-one}
+pub use Rattle.adapter.proofs.OneOutcome.{create-one, empty-one, kept-one, frame-one, completion-one, i2c-completion-one, sample-one, upset-one, step-back-one}
 
 -- ---- the link: a result and the output's bytes
 
@@ -57,6 +57,9 @@ sca-frame-one κs a x y s t p q = p ∙ sym q
 
 pub sca-completion-one : One 4 sca.sca_completion.Kinds.ps sca.sca_completion.Kinds.r sca.sca_completion.Reads.Post (λ κs x s. left x (now (s .0)) (now (s .1 .0)) (now (s .1 .1 .1 .0)))
 sca-completion-one κs a x y s t p q = p ∙ sym q
+
+pub sca-i2c-completion-one : One 4 sca.sca_i2c_completion.Kinds.ps sca.sca_i2c_completion.Kinds.r sca.sca_i2c_completion.Reads.Post (λ κs x s. left x (now (s .0)) (now (s .1 .0)) (now (s .1 .1 .1 .1 .1 .1 .0)))
+sca-i2c-completion-one κs a x y s t p q = p ∙ sym q
 
 pub sca-sample-one : One 3 sca.sca_sample.Kinds.ps sca.sca_sample.Kinds.r sca.sca_sample.Reads.Post (λ κs x s. left x (now (s .0)) (now (s .1 .0)) (now (s .1 .1 .1 .1 .0)))
 sca-sample-one κs a x y s t p q = p ∙ sym q

@@ -9,11 +9,11 @@ use native.Mathlib.Nat.{eq-zero-or-pos}
 use native.Mathlib.Omega.{arith}
 use lib.ListN.{length, drop, replicate, length-drop, length-replicate}
 use lib.Seq.{drop-drop}
-use lib.Dec.{eqb, ltb}
-use borrow.Author.Tests.{eq-eqb, ne-eqb, eqb-true, ltb-false, le-ltb, not-false}
+use lib.Dec.{eqb, leb, ltb}
+use borrow.Author.Tests.{eq-eqb, ne-eqb, eqb-true, ltb-false, le-ltb, leb-true, not-false}
 use Rattle.numbers.specs.Numbers as number
 use Rattle.state.specs.State.{Adapter, powerOn}
-use Rattle.chip.specs.Event.{spi, Event, frame, completion, sample, upset}
+use Rattle.chip.specs.Event.{spi, i2c, Event, frame, completion, sample, upset}
 use Rattle.chip.proofs.EventFits.{EventFits}
 use Rattle.state.specs.Bytes.{stateSize, stateBytes, stateIn}
 use Rattle.state.proofs.Spelling.{state-back, state-bytes}
@@ -25,7 +25,8 @@ use Rattle.chip.proofs.Laws.{good-stays, number-given, id-given, id-stays}
 use Rattle.state.proofs.Good.{Good, power-on-good}
 use Rattle.journal.specs.Layout.{slotsOf, wrongLength, keptOf, past, emptied, lowered}
 use Rattle.journal.specs.Record.{restored, sound}
-use Rattle.bits.proofs.Tests.{either}
+use Rattle.bits.proofs.Tests.{either, both}
+use Rattle.commands.specs.Channels.{isMaster}
 use Rattle.journal.proofs.Ring.{Well, well-of, emptied-well, emptied-slots, emptied-kept, lowered-well, lowered-slots, lowered-kept, lowered-past}
 use Rattle.adapter.specs.declared.Verdict.the-variants.{Refused, Passed}
 use Rattle.adapter.specs.declared.KeptNumber.{KeptNumber}
@@ -71,6 +72,11 @@ fits (frame port body) output t h =
 fits (completion (spi received)) output t h =
     let b = both-right (ltb (length output) 16) (wrongArgument (completion (spi received))) false h in
     record { sixteen = eqb-true (length received) 16 (not-false _ (b .0)); bytes = t }
+fits (completion (i2c channel acknowledge lineLow received)) output t h =
+    let b = both-right (ltb (length output) 16) (wrongArgument (completion (i2c channel acknowledge lineLow received))) false h in
+    let n = neither (not (isMaster channel)) (ltb 16 (length received)) (b .0) in
+    let m = both (leb 0x03 channel) (leb channel 0x12) (not-false (isMaster channel) (n .0)) in
+    record { first = leb-true 0x03 channel (m .0); last = leb-true channel 0x12 (m .1); sixteen = ltb-false 16 (length received) (n .1); bytes = t }
 fits (sample levels kind) output t h =
     let b = both-right (ltb (length output) 16) (wrongArgument (sample levels kind)) false h in
     record { levels = t; kind = ltb-false 2 kind (b .0) }

@@ -25,13 +25,13 @@ use Rattle.promises.proofs.Formats.{slots-64, any-17408}
 -- ---- short runs
 
 -- calls after the start of the bench's chip, whose journal was zeros
-abbrev zeros : List ℕ
+abbrev pub zeros : List ℕ
 zeros = replicate 17408 0
 
-as-long : length zeros ≡ 17408
+pub as-long : length zeros ≡ 17408
 as-long = length-replicate {A = ℕ} 17408 0
 
-abbrev ran : (calls : List Call) → AllOfTheirTypes calls → Run
+abbrev pub ran : (calls : List Call) → AllOfTheirTypes calls → Run
 ran calls typed =
     record { id = 0x00000A; id-fits = lit≤ tt; bytes = zeros; size = any-17408 zeros as-long; calls = calls; typed = typed }
 
@@ -77,7 +77,7 @@ start-of c = c .start 0x00000A (replicate 17408 0)
 abbrev upsets : Adapter → ℕ
 upsets a = read (a .registers) Seu
 
-abbrev numberOf : Given → ℕ
+abbrev pub numberOf : Given → ℕ
 numberOf g = g .number
 
 module _ (c : Calls) (d : Demand3 c) where

@@ -10,7 +10,7 @@ use lib.Dec.{eqb, ltb, leb}
 use Rattle.numbers.specs.Numbers as number
 use Rattle.state.specs.State.{Adapter, powerOn}
 use Rattle.chip.specs.Answer.{Reaction, frontLength, laid}
-use Rattle.chip.specs.Event.{Completion, spi, Event, frame, completion, sample, upset}
+use Rattle.chip.specs.Event.{Completion, spi, i2c, Event, frame, completion, sample, upset}
 use Rattle.chip.specs.Chip.{reaction, acceptedReset}
 use Rattle.journal.specs.Layout.{slotsOf, wrongLength}
 use Rattle.adapter.specs.declared.KeptNumber.{KeptNumber}
@@ -47,6 +47,7 @@ pub record Calls : Type 1 where
 -- What every value of the language has, and the definitions' numbers need not: a byte is below 256, levels are 32 bits.
 abbrev pub CompletionOfTypes : Completion → Type 0
 CompletionOfTypes (spi received) = (i : ℕ) → getD received i 0 < 256
+CompletionOfTypes (i2c channel acknowledge lineLow received) = (i : ℕ) → getD received i 0 < 256
 
 abbrev pub EventOfTypes : Event → Type 0
 EventOfTypes (frame port body) = (i : ℕ) → getD body i 0 < 256

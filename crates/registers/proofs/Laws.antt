@@ -1,18 +1,20 @@
 -- The laws of registers read and stored into: what changes, what stays, what stays within masks and at zero.
-use Prim.Native.Nat.{ℕ, zero, suc, _+_, _-_, _^_, _≤_, _<_}
+use Prim.Native.Nat.{ℕ, zero, suc, _+_, _*_, _-_, _^_, _≤_, _<_}
 use mathlib.Core.Bool.{Bool, true, false, _&&_, _||_}
-use mathlib.Core.List.{List}
+use mathlib.Core.List.{List, [], _∷_}
+use mathlib.Core.Logic.{_⊎_, inl, inr}
 use mathlib.Core.Path.{_≡_, refl, sym, ap, ap₂, subst, _∙_}
 use native.Mathlib.Nat.{lt-of-le-of-lt, lt-of-lt-of-le}
 use native.Mathlib.Omega.{arith}
-use borrow.Author.Tests.{eq-eqb, eqb-true}
+use borrow.Author.Tests.{eq-eqb, eqb-true, eqb-false}
 use lib.Bits.{bitAnd, and-le-r}
 use lib.Dec.{eqb, lit≤}
-use lib.ListN.{length, replicate, length-replicate}
+use lib.ListN.{length, take, drop, replicate, length-replicate}
+use lib.Seq.{take-nil, drop-drop}
 use Rattle.bits.proofs.Bits.{bits-ext, bit-and}
 use Rattle.bits.specs.Bits.{bitOf}
 use Rattle.bits.proofs.Taut.{taut3}
-use Rattle.bits.proofs.Tests.{and-left, and-right, both, le-or-le}
+use Rattle.bits.proofs.Tests.{and-left, and-right, and-assoc, both, le-or-le}
 use Rattle.parts.specs.Parts.{part, put, allZero}
 use Rattle.parts.specs.Digits.{number, digits}
 use Rattle.parts.specs.Digits.{bytesIn}
@@ -20,10 +22,11 @@ use Rattle.parts.specs.declared.Width.{Width}
 use Rattle.parts.specs.declared.Width.the-variants.{Byte, Half, Word}
 use Rattle.parts.proofs.Laws.{Apart, AreBytes, bytes-put, length-put, part-put-apart, part-put-same, part-part}
 use Rattle.parts.proofs.Digits.{length-digits, number-digits, digit-bytes, zeros-number, zeros-replicate, zeros-take, zeros-drop}
+use Rattle.commands.specs.Field.{Status, master}
 use Rattle.commands.specs.declared.command.Register.{Register}
 use Rattle.commands.specs.declared.command.Register.the-variants.{Crb, Crd, ChipId, Intenable}
-use Rattle.registers.specs.Registers.{size, rowOf, read, store, zeroed, areZero, isWithin, within}
-use Rattle.registers.proofs.Rows.{place, wide, end, apart, alike, only, placed, mask-fits}
+use Rattle.registers.specs.Registers.{size, rowOf, read, store, zeroed, areZero, isWithin, fourWithin, each, within}
+use Rattle.registers.proofs.Rows.{place, wide, end, apart, alike, or-any, or-first, only, status-alone, placed, mask-fits}
 
 pub record RegistersFit (rs : List ℕ) : Type 0 where
   pub long : length rs ≡ size
@@ -134,6 +137,63 @@ read-zero first many rs r z l u =
     zeros-number (part (place r) (wide r) rs)
     (rw (part-part rs first many (place r) (wide r) l u) (zeros-part (place r - first) (wide r) (part first many rs) z))
 
+-- ---- each of so many in a row
+
+-- what makes one of them another makes all of them so
+pub each-through : (n first : ℕ) (f g : ℕ → Bool) → ((i : ℕ) → i < first + n → f i ≡ true → g i ≡ true) → each n first f ≡ true → each n first g ≡ true
+each-through zero first f g step h = refl
+each-through (suc n) first f g step h =
+    let e = both (f first) (each n (suc first) f) h in
+    ap₂ _&&_ (step first (omega arith) (e .0)) (each-through n (suc first) f g (λ i l. step i (omega arith)) (e .1))
+
+pub each-at : (n first : ℕ) (f : ℕ → Bool) → each n first f ≡ true → (i : ℕ) → first ≤ i → i < first + n → f i ≡ true
+each-at zero first f h i l u = absurd (omega arith)
+each-at (suc n) first f h i l u =
+    let e = both (f first) (each n (suc first) f) h in
+    by (eqb first i) refl (e .0) (λ m v. each-at n (suc first) f (e .1) i m v)
+  where
+    by : (t : Bool) → eqb first i ≡ t → f first ≡ true → (suc first ≤ i → i < suc first + n → f i ≡ true) → f i ≡ true
+    by true q here there = rw (← eqb-true first i q) here
+    by false q here there = let d = eqb-false first i q in there (omega arith) (omega arith)
+
+pub each-same : (n first : ℕ) (f g : ℕ → Bool) → ((i : ℕ) → i < first + n → f i ≡ g i) → each n first f ≡ each n first g
+each-same zero first f g h = refl
+each-same (suc n) first f g h = ap₂ _&&_ (h first (omega arith)) (each-same n (suc first) f g (λ i l. h i (omega arith)))
+
+pub each-within : (n first : ℕ) (f g : ℕ → Bool) → ((i : ℕ) → first ≤ i → i < first + n → f i ≡ g i) → each n first f ≡ each n first g
+each-within zero first f g h = refl
+each-within (suc n) first f g h =
+    ap₂ _&&_ (h first (omega arith) (omega arith)) (each-within n (suc first) f g (λ i l u. h i (omega arith) (omega arith)))
+
+-- ---- bytes at 0 in a row
+
+zeros-split : (m n : ℕ) (s : List ℕ) → allZero (take (m + n) s) ≡ (allZero (take m s) && allZero (take n (drop m s)))
+unfolding allZero
+zeros-split zero n s = let e : zero + n ≡ n = omega arith in rw e refl
+zeros-split (suc m) n [] =
+    ap allZero (take-nil {A = ℕ} (suc m + n)) ∙ sym (ap allZero (take-nil {A = ℕ} n))
+zeros-split (suc m) n (b ∷ s) =
+    let e : suc m + n ≡ suc (m + n) = omega arith in
+    rw e (ap (λ (t : Bool). eqb b 0 && t) (zeros-split m n s) ∙ and-assoc (eqb b 0) (allZero (take m s)) (allZero (take n (drop m s))))
+
+zero-split : (p m n : ℕ) (rs : List ℕ) → areZero p (m + n) rs ≡ (areZero p m rs && areZero (p + m) n rs)
+unfolding areZero part
+zero-split p m n rs =
+    zeros-split m n (drop p rs) ∙ ap (λ (s : List ℕ). allZero (take m (drop p rs)) && allZero (take n s)) (drop-drop m p rs)
+
+none-zero : (p : ℕ) (rs : List ℕ) → areZero p 0 rs ≡ true
+unfolding areZero part allZero
+none-zero p rs = refl
+
+-- so many masters, one behind the other
+pub each-zero : (n k : ℕ) (rs : List ℕ) → each n k (λ (i : ℕ). areZero (70 + 21 * i) 21 rs) ≡ areZero (70 + 21 * k) (21 * n) rs
+each-zero zero k rs = sym (none-zero (70 + 21 * k) rs)
+each-zero (suc n) k rs =
+    let e : 21 * suc n ≡ 21 + 21 * n = omega arith in
+    let f : 70 + 21 * suc k ≡ 70 + 21 * k + 21 = omega arith in
+    ap (λ (t : Bool). areZero (70 + 21 * k) 21 rs && t) (each-zero n (suc k) rs ∙ ap (λ (p : ℕ). areZero p (21 * n) rs) f)
+    ∙ sym (zero-split (70 + 21 * k) 21 (21 * n) rs) ∙ ap (λ (m : ℕ). areZero (70 + 21 * k) m rs) (sym e)
+
 -- ---- no bit is set that reads 0
 
 and-again : (v m k : ℕ) → m < 2 ^ 32 → k ≡ m → bitAnd (bitAnd v m) k ≡ bitAnd v m
@@ -159,9 +219,8 @@ module _ (rs : List ℕ) (r : Register) (v : ℕ) (n : length rs ≡ size) where
           rw (read-alike q e) (eq-eqb _ _ (and-again v (rowOf r .mask) (rowOf q .mask) (lt-of-lt-of-le (mask-fits r) (few r)) k))
       by false e f = rw (read-other rs r v n q f) w
 
-  -- what is stored has no bit that reads 0
-  pub store-within : within rs ≡ true → within (store rs r v) ≡ true
-  store-within h =
+  four-within : fourWithin rs ≡ true → fourWithin (store rs r v) ≡ true
+  four-within h =
       let crb = alike Crb r || apart Crb r in
       let crd = alike Crd r || apart Crd r in
       let id = alike ChipId r || apart ChipId r in
@@ -174,3 +233,14 @@ module _ (rs : List ℕ) (r : Register) (v : ℕ) (n : length rs ≡ size) where
       ap₂ _&&_
       (ap₂ _&&_ (ap₂ _&&_ (stays-within Crb (o1 .0) (h1 .0)) (stays-within Crd (o1 .1) (h1 .1))) (stays-within ChipId (o2 .1) (h2 .1)))
       (stays-within Intenable (o3 .1) (h3 .1))
+
+  or-either : {a b : Bool} → (a ≡ true) ⊎ (b ≡ true) → (a || b) ≡ true
+  or-either {a} {b} (inl h) = or-first a b h
+  or-either {a} {b} (inr h) = or-any a b h
+
+  -- what is stored has no bit that reads 0
+  pub store-within : within rs ≡ true → within (store rs r v) ≡ true
+  store-within h =
+      let w = both (fourWithin rs) _ h in
+      ap₂ _&&_ (four-within (w .0)) (each-through 16 0 (λ i. isWithin rs (master i Status)) (λ i. isWithin (store rs r v) (master i Status))
+      (λ i _ g. stays-within (master i Status) (or-either (status-alone i r)) g) (w .1))

@@ -3,4 +3,5 @@ pub mod Rows
 pub mod Laws
 pub mod Pins
 pub mod Transfer
+pub mod Transaction
 pub mod OneOutcome

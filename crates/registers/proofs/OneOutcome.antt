@@ -4,6 +4,7 @@ use mathlib.Core.List.{List}
 use mathlib.Core.Path.{sym, ap, ap₂, _∙_}
 use Prim.Native.Nat.{ℕ}
 use denote.Ref.{now}
+use Rattle.bits.proofs.Outcome.{OneOutcome}
 use Rattle.parts.proofs.Outcome.{One}
 use Rattle.commands.specs.declared.command.Register.the-variants.{SpiData0}
 use Rattle.registers.specs.Registers.{read}
@@ -37,3 +38,15 @@ pub spi-complete-one : One {B = ℕ × List ℕ} 2 this.spi.complete.Kinds.ps th
 spi-complete-one κs a x y s t e f =
     let after = e .0 ∙ sym (f .0) in
     ap₂ (λ (n : ℕ) (l : List ℕ). (n, l)) (e .1 ∙ ap (λ (l : List ℕ). read l SpiData0) after ∙ sym (f .1)) after
+
+pub bank-one : OneOutcome 0 this.bank.Kinds.ps this.bank.Kinds.r this.bank.Reads.Post
+bank-one κs a x y s t e f = e ∙ sym f
+
+pub is-within-one : One 1 this.is_within.Kinds.ps this.is_within.Kinds.r this.is_within.Reads.Post (λ κs x s. x)
+is-within-one κs a x y s t e f = e ∙ sym f
+
+pub i2c-allows-one : OneOutcome 0 this.i2c.allows.Kinds.ps this.i2c.allows.Kinds.r this.i2c.allows.Reads.Post
+i2c-allows-one κs a x y s t e f = e ∙ sym f
+
+pub i2c-end-one : One {B = ℕ × List ℕ} 2 this.i2c.end.Kinds.ps this.i2c.end.Kinds.r this.i2c.end.Reads.Post (λ κs x s. (x, now (s .0)))
+i2c-end-one κs a x y s t e f = ap₂ (λ (n : ℕ) (l : List ℕ). (n, l)) (e .1 ∙ sym (f .1)) (e .0 ∙ sym (f .0))

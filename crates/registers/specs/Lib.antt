@@ -1,4 +1,5 @@
--- The registers, and what a pin sample and an SPI transfer make of them.
+-- The registers, and what a pin sample, an SPI transfer and the end of an I2C transaction make of them.
 pub mod Registers
 pub mod Pins
 pub mod Transfer
+pub mod Transaction

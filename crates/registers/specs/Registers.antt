@@ -1,7 +1,7 @@
 -- The registers of all channels, as bytes: a row for each, with its place, its width, the bits that it keeps, and the bit of D where its lowest
--- one stands. First those of the core, then those of the channels that CRB switches. docs/JOURNAL.md has them byte by byte.
-use Prim.Native.Nat.{ℕ, _*_, _/_, _%_, _^_}
-use mathlib.Core.Bool.{Bool, _&&_}
+-- one stands. First those of the core, then those of the channels that CRB, CRC and CRD switch. docs/JOURNAL.md has them byte by byte.
+use Prim.Native.Nat.{ℕ, zero, suc, _+_, _*_, _/_, _%_, _^_}
+use mathlib.Core.Bool.{Bool, true, _&&_}
 use mathlib.Core.List.{List}
 use lib.Bits.{bitAnd}
 use lib.Dec.{eqb}
@@ -10,20 +10,27 @@ use Rattle.parts.specs.Parts.{part, put, allZero}
 use Rattle.parts.specs.Digits.{number, digits, bytesIn}
 use Rattle.parts.specs.declared.Width.{Width}
 use Rattle.parts.specs.declared.Width.the-variants.{Byte, Half, Word}
+use Rattle.commands.specs.Field.{Status, master}
 use Rattle.commands.specs.declared.command.Register.{Register}
 use Rattle.commands.specs.declared.command.Register.the-variants.{Crb, Crc, Crd, SpiControl, SpiFreq, SpiSs, SpiData0, SpiData1, SpiData2, SpiData3}
 use Rattle.commands.specs.declared.command.Register.the-variants.{SpiGo, Dataout, Datain, Direction, Intsel, Inttrig, Ints, Clksel, Edgesel}
 use Rattle.commands.specs.declared.command.Register.the-variants.{Intenable, Seu, DacA, DacB, DacC, DacD, ChipId}
+use Rattle.commands.specs.declared.command.Register.the-variants.{I2cMask, I2cCtrl, I2cStatus, I2cOpen, I2cData0, I2cData1, I2cData2, I2cData3}
 use Rattle.registers.specs.declared.Row.{Row}
 
 -- ---- the rows
 
 -- the bytes of all of them
 abbrev pub size : ℕ
-size = 70
+size = 406
 
 abbrev pub row : ℕ → Width → ℕ → ℕ → Row
 row place width mask low = record { place = place; width = width; mask = mask; low = low }
+
+-- where the bytes of an I2C master start: sixteen, one behind the other, 21 bytes each. A number counts modulo 16, so that any number names a master;
+-- only 0 to 15 are used.
+unfoldable pub bank : ℕ → ℕ
+bank i = 70 + 21 * (i % 16)
 
 abbrev pub rowOf : Register → Row
 -- the controller, in D[31:24]: CRB bit 0 and CRD bits 7 to 5 read 0
@@ -58,6 +65,16 @@ rowOf Ints = row 57 Word 0xFFFFFFFF 0
 rowOf Clksel = row 61 Word 0xFFFFFFFF 0
 rowOf Edgesel = row 65 Word 0xFFFFFFFF 0
 rowOf Intenable = row 69 Byte 0x1 0
+-- the I2C masters: MASK, CTRL and STATUS (bits 0, 1, 4 and 7 read 0) in D[31:24]; TRN of an open start, and its code above it, 0 where none is open;
+-- the words of DATA, the first byte of each (BYTE0, 4, 8, 12) in D[31:24], so that the bytes stand as BYTE3, 2, 1, 0, 7, ..
+rowOf (I2cMask i) = row (bank i) Byte 0xFF 24
+rowOf (I2cCtrl i) = row (bank i + 1) Byte 0xFF 24
+rowOf (I2cStatus i) = row (bank i + 2) Byte 0x6C 24
+rowOf (I2cOpen i) = row (bank i + 3) Half 0xFFFF 0
+rowOf (I2cData0 i) = row (bank i + 5) Word 0xFFFFFFFF 0
+rowOf (I2cData1 i) = row (bank i + 9) Word 0xFFFFFFFF 0
+rowOf (I2cData2 i) = row (bank i + 13) Word 0xFFFFFFFF 0
+rowOf (I2cData3 i) = row (bank i + 17) Word 0xFFFFFFFF 0
 
 -- ---- one register
 
@@ -89,6 +106,17 @@ areZero first many rs = allZero (part first many rs)
 abbrev pub isWithin : List ℕ → Register → Bool
 isWithin rs r = eqb (bitAnd (read rs r) (rowOf r .mask)) (read rs r)
 
--- the four that do not keep every bit of their bytes
+-- those that do not keep every bit of their bytes: four, and STATUS of every master
+abbrev pub fourWithin : List ℕ → Bool
+fourWithin rs = isWithin rs Crb && isWithin rs Crd && isWithin rs ChipId && isWithin rs Intenable
+
+-- so many in a row, from the first on
+abbrev pub each : ℕ → ℕ → (ℕ → Bool) → Bool
+each zero first f = true
+each (suc n) first f = f first && each n (suc first) f
+
+abbrev pub eachMaster : (ℕ → Bool) → Bool
+eachMaster f = each 16 0 f
+
 abbrev pub within : List ℕ → Bool
-within rs = isWithin rs Crb && isWithin rs Crd && isWithin rs ChipId && isWithin rs Intenable
+within rs = fourWithin rs && eachMaster (λ i. isWithin rs (master i Status))

@@ -1,18 +1,19 @@
 // The registers of all channels, in lent bytes: a row for each, with its place, its width, the bits that it keeps, and where it stands in D.
-// One way to read them and one to store into them, and what a pin sample and an SPI transfer leave of them. Nothing here of LEN, of enable
-// bits, of errors.
+// One way to read them and one to store into them, and what a pin sample, an SPI transfer and an I2C transaction leave of them. Nothing here of
+// LEN, of enable bits, of errors.
 pub mod gpio;
+pub mod i2c;
 pub mod spi;
 
 ghost use mathlib.Core.Path.{_≡_};
 ghost use Prim.Native.Nat.{_+_, _≤_};
 ghost use lib.ListN.{length};
-ghost use Rattle.registers.specs.Registers.{row, rowOf, read, store, shown, written, zeroed, areZero, isWithin, within, size};
+ghost use Rattle.registers.specs.Registers.{row, rowOf, bank, read, store, shown, written, zeroed, areZero, isWithin, fourWithin, size};
 use commands::command::Register;
 use parts::Width;
 
 // The bytes of all of them.
-pub const SIZE: usize = 70;
+pub const SIZE: usize = 406;
 
 // A register's place and width, the bits that it keeps, and the bit of D where its lowest one stands.
 pub struct Row {
@@ -31,6 +32,17 @@ fn at(place: usize, width: Width, mask: u32, low: u32) -> Row
         mask: mask,
         low: low,
     }
+}
+
+// Where the bytes of an I2C master start, and how many they are. A master's number counts modulo 16.
+pub const MASTER_BYTES: usize = 21;
+
+pub const FIRST_MASTER: usize = 70;
+
+pub fn bank(index: u8) -> usize
+    ensures { λ r. ⌜ r ≡ bank index ⌝ }
+{
+    FIRST_MASTER + MASTER_BYTES * ((index % 16) as usize)
 }
 
 fn row_of(which: Register) -> Row
@@ -63,6 +75,14 @@ fn row_of(which: Register) -> Row
         Register::Clksel => at(61, Width::Word, 0xffffffff, 0),
         Register::Edgesel => at(65, Width::Word, 0xffffffff, 0),
         Register::Intenable => at(69, Width::Byte, 0x1, 0),
+        Register::I2cMask(index) => at(bank(index), Width::Byte, 0xff, 24),
+        Register::I2cCtrl(index) => at(bank(index) + 1, Width::Byte, 0xff, 24),
+        Register::I2cStatus(index) => at(bank(index) + 2, Width::Byte, 0x6c, 24),
+        Register::I2cOpen(index) => at(bank(index) + 3, Width::Half, 0xffff, 0),
+        Register::I2cData0(index) => at(bank(index) + 5, Width::Word, 0xffffffff, 0),
+        Register::I2cData1(index) => at(bank(index) + 9, Width::Word, 0xffffffff, 0),
+        Register::I2cData2(index) => at(bank(index) + 13, Width::Word, 0xffffffff, 0),
+        Register::I2cData3(index) => at(bank(index) + 17, Width::Word, 0xffffffff, 0),
     }
 }
 
@@ -130,7 +150,7 @@ pub fn are_zero(registers: &[u8], first: usize, many: usize) -> bool
     all
 }
 
-fn is_within(registers: &[u8], which: Register) -> bool
+pub fn is_within(registers: &[u8], which: Register) -> bool
     requires { ⌜ length (now registers) ≡ size ⌝ }
     ensures { λ r. ⌜ r ≡ isWithin (now (registers .entry)) which ⌝ }
 {
@@ -139,10 +159,10 @@ fn is_within(registers: &[u8], which: Register) -> bool
     value & row.mask == value
 }
 
-// Whether no register has a bit set that reads 0.
+// Whether no register of the core, SPI and GPIO has a bit set that reads 0.
 pub fn are_within(registers: &[u8]) -> bool
     requires { ⌜ length (now registers) ≡ size ⌝ }
-    ensures { λ r. ⌜ r ≡ within (now (registers .entry)) ⌝ }
+    ensures { λ r. ⌜ r ≡ fourWithin (now (registers .entry)) ⌝ }
 {
     let crb = is_within(registers, Register::Crb);
     let crd = is_within(registers, Register::Crd);

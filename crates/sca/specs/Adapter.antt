@@ -1,6 +1,8 @@
 -- The adapter's calls as C and Rust programs link them: the call of crate `adapter`, with what it gives packed into one number.
 use Prim.Native.Nat.{ℕ, _+_, _*_}
+use mathlib.Core.Bool.{Bool, not}
 use mathlib.Core.List.{List}
+use lib.Dec.{eqb}
 use Rattle.adapter.specs.declared.Answer.{Answer}
 use Rattle.adapter.specs.declared.KeptNumber.{KeptNumber}
 use Rattle.adapter.specs.Calls.{Outcome}
@@ -12,6 +14,10 @@ packAnswer a = a .number + 256 * a .length + 65536 * a .port
 -- the number in bits 7 to 0, the kept number in bits 15 to 8
 abbrev pub packKept : KeptNumber → ℕ
 packKept k = k .number + 256 * k .kept
+
+-- a bit handed over as a number: any but 0 means 1
+abbrev pub isSet : ℕ → Bool
+isSet n = not (eqb n 0)
 
 -- an event: a result, the state, the journal and the output afterwards
 pub record Left : Type 0 where

@@ -12,10 +12,10 @@ ghost use Prim.Native.Nat.{_≤_, _<_};
 ghost use Rattle.chip.specs.Event.{Completion, Event};
 ghost use Rattle.sca.specs.Link as calls;
 ghost use Rattle.adapter.specs.Calls as adapters;
-ghost use Rattle.sca.specs.Adapter.{packAnswer, packKept, left, packed};
+ghost use Rattle.sca.specs.Adapter.{packAnswer, packKept, isSet, left, packed};
 ghost use Rattle.sca.specs.Version.{version};
 
-const VERSION: u64 = 0x010100;
+const VERSION: u64 = 0x010200;
 
 // A number, in a result of 64 bits.
 fn wide(number: u8) -> u64
@@ -140,6 +140,30 @@ pub extern "C" fn sca_completion(
     ensures { λ r. ⌜ left r (now (state .exit)) (now (journal .exit)) (now (output .exit)) ≡ packed (adapters.called (now (state .entry)) (now (journal .entry)) (Event.completion (Completion.spi (now (received .entry)))) (now (output .entry))) ⌝ }
 {
     pack_answer(adapter::completion(state, journal, received, output))
+}
+
+// The completion of one named I2C channel; a bit is 1 where its number is not 0.
+#[no_mangle]
+pub extern "C" fn sca_i2c_completion(
+    state: &mut [u8],
+    journal: &mut [u8],
+    channel: u32,
+    acknowledge: u32,
+    low: u32,
+    received: &[u8],
+    output: &mut [u8],
+) -> u64
+    ensures { λ r. ⌜ left r (now (state .exit)) (now (journal .exit)) (now (output .exit)) ≡ packed (adapters.called (now (state .entry)) (now (journal .entry)) (Event.completion (Completion.i2c channel (isSet acknowledge) (isSet low) (now (received .entry)))) (now (output .entry))) ⌝ }
+{
+    pack_answer(adapter::i2c_completion(
+        state,
+        journal,
+        channel,
+        acknowledge != 0,
+        low != 0,
+        received,
+        output,
+    ))
 }
 
 // A pin sample.

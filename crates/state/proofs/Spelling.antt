@@ -13,8 +13,8 @@ use Rattle.bits.proofs.Tests.{and-left, and-right}
 use Rattle.parts.specs.Parts.{part}
 use Rattle.parts.proofs.Laws.{AreBytes, bytes-take, bytes-drop, length-part, put-all}
 use Rattle.commands.specs.declared.command.Register.the-variants.{ChipId}
-use Rattle.registers.specs.Registers.{size, store, zeroed, within}
-use Rattle.channels.specs.Rows.{allHeld}
+use Rattle.registers.specs.Registers.{size, store, zeroed}
+use Rattle.channels.specs.Starts.{soundRegisters}
 use Rattle.state.specs.State.{Adapter, blank, inRange}
 use Rattle.state.specs.Bytes.{linkBytes, stateSize, linkImage, stateBytes, stateIn, spelled, isState}
 use Rattle.state.proofs.Good.{Good, good, good-ranged}
@@ -110,11 +110,10 @@ zeros-over rs n = put-all (replicate size 0) rs (length-replicate {A = ℕ} size
 pub powers-on : (rs ss ts : List ℕ) (id : ℕ) → length rs ≡ size → ss ≡ zeroed 0 size rs → ts ≡ store ss ChipId id → ts ≡ blank id
 powers-on rs ss ts id n e f = simp (f, e, zeros-over rs n)
 
-pub is-a-state : (s : List ℕ) (x y : Bool) → length s ≡ stateSize → x ≡ within (take (stateSize - linkBytes) (drop linkBytes s))
-    → y ≡ allHeld (take (stateSize - linkBytes) (drop linkBytes s))
-    → (leb (getD s 3 0) 1 && leb (getD s 4 0) 1 && (leb (getD s 0 0) 7 && leb (getD s 1 0) 7 && leb (getD s 2 0) 1 && x && y)) ≡ isState s
+pub is-a-state : (s : List ℕ) (x : Bool) → length s ≡ stateSize → x ≡ soundRegisters (take (stateSize - linkBytes) (drop linkBytes s))
+    → (leb (getD s 3 0) 1 && leb (getD s 4 0) 1 && (leb (getD s 0 0) 7 && leb (getD s 1 0) 7 && leb (getD s 2 0) 1 && x)) ≡ isState s
 unfolding isState inRange stateIn part
-is-a-state s x y n e f = simp (eq-eqb (length s) stateSize n, e, f)
+is-a-state s x n e = simp (eq-eqb (length s) stateSize n, e)
 
 pub is-no-state : (s : List ℕ) → (length s ≡ stateSize → ⊥) → false ≡ isState s
 unfolding isState

@@ -5,8 +5,8 @@ use mathlib.Core.List.{List}
 use lib.Dec.{leb}
 use lib.ListN.{replicate}
 use Rattle.commands.specs.declared.command.Register.the-variants.{ChipId}
-use Rattle.registers.specs.Registers.{size, store, within}
-use Rattle.channels.specs.Rows.{allHeld}
+use Rattle.registers.specs.Registers.{size, store}
+use Rattle.channels.specs.Starts.{soundRegisters}
 use Rattle.link.specs.Link.{freshLink}
 use Rattle.link.specs.declared.Link.{Link}
 
@@ -38,10 +38,9 @@ inRange a =
     && leb (a .link .receive .0) 7
     -- port over 1
     && leb (a .link .port) 1
-    -- ID over 24 bits, or another set bit that reads 0
-    && within (a .registers)
-    -- a disabled SPI or GPIO register not 0, a GO open with SPI disabled
-    && allHeld (a .registers)
+    -- ID over 24 bits, or another set bit that reads 0; a disabled SPI, GPIO or I2C register not 0, a GO or a start open with its channel disabled;
+    -- exactly one of an open start's TRN and code 0; a kept code that is no start; an open multi-byte start with NBYTE outside 1 to 16
+    && soundRegisters (a .registers)
 
 -- ---- one part anew
 

@@ -74,9 +74,8 @@ pub fn is_state(s: &[u8]) -> bool
     if s.len() == BYTES {
         let numbers = (s[0] <= LAST_NUMBER) & (s[1] <= LAST_NUMBER) & (s[2] <= LAST_PORT);
         let loopbacks = (s[3] <= LOOPING) & (s[4] <= LOOPING);
-        let masked = registers::are_within(&s[LINK..BYTES]);
-        let held = channels::are_held(&s[LINK..BYTES]);
-        return loopbacks & (numbers & masked & held);
+        let sound = channels::are_sound(&s[LINK..BYTES]);
+        return loopbacks & (numbers & sound);
     }
     false
 }

@@ -1,14 +1,8 @@
--- `row_of` meets its contract: each arm is its register's row. Assumes nothing.
-use mathlib.Core.Path.{_≡_}
+-- `row_of` meets its contract. Assumes nothing.
 use borrow.Author.Needs.{needs}
-use Rattle.commands.specs.declared.command.Register.{Register}
-use Rattle.registers.specs.declared.Row.{Row}
-use Rattle.registers.specs.Registers.{rowOf}
+use Rattle.registers.proofs.Transaction.{place-fits, row-at, field-at, first-at}
 use Rattle.registers.proofs.row_of.Statement.{statement}
 use Rattle.registers.proofs.row_of.Tie as tie
-
-row-at : (k which : Register) (x : Row) → which ≡ k → x ≡ rowOf k → x ≡ rowOf which
-row-at k which x e h = simp (e, h)
 
 pub row-of-spec : {M : Type 1} → statement M
 row-of-spec =
@@ -66,6 +60,37 @@ row-of-spec =
     (λ c κs. search needs)
     (λ c. search needs)
     (λ c κs. search needs)
+    (λ c. search needs)
+    (λ c κs. search needs)
+    (λ c κs. search needs)
+    (λ c. search needs)
+    (λ c κs. search needs)
+    (λ c. search place-fits)
+    (λ c κs. search needs)
+    (λ c. search needs)
+    (λ c κs. search needs)
+    (λ c. search place-fits)
+    (λ c κs. search needs)
+    (λ c. search needs)
+    (λ c κs. search needs)
+    (λ c. search place-fits)
+    (λ c κs. search needs)
+    (λ c. search needs)
+    (λ c κs. search needs)
+    (λ c. search place-fits)
+    (λ c κs. search needs)
+    (λ c. search needs)
+    (λ c κs. search needs)
+    (λ c. search place-fits)
+    (λ c κs. search needs)
+    (λ c. search needs)
+    (λ c κs. search needs)
+    (λ c. search place-fits)
+    (λ c κs. search needs)
+    (λ c. search needs)
+    (λ c κs. search needs)
+    (λ c. search place-fits)
+    (λ c κs. search needs)
     (λ c. search row-at)
     (λ c. search row-at)
     (λ c. search row-at)
@@ -91,4 +116,12 @@ row-of-spec =
     (λ c. search row-at)
     (λ c. search row-at)
     (λ c. search row-at)
-    (λ c. search row-at))
+    (λ c. search row-at)
+    (λ c. search first-at)
+    (λ c. search field-at)
+    (λ c. search field-at)
+    (λ c. search field-at)
+    (λ c. search field-at)
+    (λ c. search field-at)
+    (λ c. search field-at)
+    (λ c. search field-at))

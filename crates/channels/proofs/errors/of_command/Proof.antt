@@ -1,6 +1,6 @@
 -- `errors::of_command` meets its contract. Assumes nothing.
 use borrow.Author.Needs.{needs}
-use Rattle.channels.proofs.Cases.{wrong-length, no-command, right}
+use Rattle.channels.proofs.Cases.{no-command, wrong-length, cannot, right}
 use Rattle.channels.proofs.errors.of_command.Statement.{statement}
 use Rattle.channels.proofs.errors.of_command.Tie as tie
 
@@ -10,6 +10,8 @@ of-command-spec =
     (tie.spec
     (λ c. search needs)
     (λ c. search needs)
-    (λ c. search wrong-length)
-    (λ c. search no-command)
-    (λ c. search right))
+    (λ c. search (no-command, wrong-length, cannot, right))
+    (λ c κs. search needs)
+    (λ c. search (no-command, wrong-length, cannot, right))
+    (λ c. search (no-command, wrong-length, cannot, right))
+    (λ c. search (no-command, wrong-length, cannot, right)))

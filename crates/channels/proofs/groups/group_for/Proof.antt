@@ -13,10 +13,10 @@ use Rattle.channels.proofs.groups.group_for.Tie as tie
 
 -- the match's other arm: the controller is the first of the channels
 abbrev Other : Channel → Type 0
-Other ch = OneOf (1 ∷ 2 ∷ 3 ∷ 4 ∷ 5 ∷ 6 ∷ []) (tagOf the-type ch)
+Other ch = OneOf (1 ∷ 2 ∷ 3 ∷ 4 ∷ 5 ∷ 6 ∷ 7 ∷ []) (tagOf the-type ch)
 
 not-controller : (ch : Channel) → Other ch → ch ≡ Controller → ⊥
-not-controller ch o e = miss (1 ∷ 2 ∷ 3 ∷ 4 ∷ 5 ∷ 6 ∷ []) 0 tt (subst Other e o)
+not-controller ch o e = miss (1 ∷ 2 ∷ 3 ∷ 4 ∷ 5 ∷ 6 ∷ 7 ∷ []) 0 tt (subst Other e o)
 
 pub group-for-spec : {M : Type 1} → statement M
 group-for-spec =

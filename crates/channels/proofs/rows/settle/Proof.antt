@@ -1,6 +1,6 @@
 -- `rows::settle` meets its contract. Assumes nothing.
 use borrow.Author.Needs.{needs}
-use Rattle.channels.proofs.Cases.{settles, nothing-by-c, nothing-by-d}
+use Rattle.channels.proofs.Cases.{settles}
 use Rattle.channels.proofs.rows.settle.Statement.{statement}
 use Rattle.channels.proofs.rows.settle.Tie as tie
 
@@ -13,7 +13,13 @@ settle-spec =
     (λ c κs. search needs)
     (λ c. search needs)
     (λ c. search needs)
+    (λ c κs. search needs)
     (λ c. search needs)
-    (λ c. search (settles, nothing-by-c, nothing-by-d))
-    (λ c. search (settles, nothing-by-c, nothing-by-d))
-    (λ c. search (settles, nothing-by-c, nothing-by-d)))
+    (λ c. search needs)
+    (λ c κs. search needs)
+    (λ c. search needs)
+    (λ c. search settles)
+    (λ c. search needs)
+    (λ c. search settles)
+    (λ c. search needs)
+    (λ c. search settles))

@@ -18,4 +18,6 @@ form-of-spec =
     (λ c. search forms)
     (λ c κs. search needs)
     (λ c. search forms)
+    (λ c κs. search needs)
+    (λ c. search forms)
     (λ c. search forms))
