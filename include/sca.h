@@ -6,18 +6,18 @@
  *     cc program.c libsca.a
  *
  *     For x86-64 with the System V calling convention, as on Linux; for C99 and
- *     later, and C++. Of the C library the archive needs memcpy and nothing else.
+ *     later, and C++. Of the C library the archive needs memcpy and memset, and nothing else.
  *
  * DESCRIPTION
  *     The link reads frames from the bits of a cable (sca_receive) and writes
  *     them (sca_transmit). The adapter is the chip: it takes events (sca_frame,
- *     sca_completion, sca_sample, sca_upset), gives what the chip would send,
- *     and can take events back (sca_step_back).
+ *     sca_completion, sca_i2c_completion, sca_sample, sca_upset), gives what the
+ *     chip would send, and can take events back (sca_step_back).
  *
  *     The library keeps nothing: whatever lasts from call to call stands in
  *     bytes that the caller lends. It allocates nothing, opens nothing and
  *     holds no lock, so that calls on different buffers may run side by side.
- *     No call takes more than 700 bytes of stack.
+ *     No call takes more than 768 bytes of stack.
  *
  *     A buffer is a pointer and its length in bytes. A pointer whose length
  *     is 0 is not read and may be NULL. The buffers of one call must not
@@ -50,8 +50,8 @@ extern "C" {
 
 /* ------------------------------------------------------------------ version */
 
-/* The version that this header is of, 1.1.0: major << 16 | minor << 8 | patch. */
-#define SCA_VERSION 0x010100
+/* The version that this header is of, 1.2.0: major << 16 | minor << 8 | patch. */
+#define SCA_VERSION 0x010200
 
 /* ------------------------------------------------------------------ numbers */
 
@@ -61,7 +61,8 @@ enum {
     /* refused: nothing has changed */
     SCA_SHORT_OUTPUT = 1,     /* the output is under SCA_OUTPUT_LEAST (sca_transmit: SCA_CABLE_MOST) bytes */
     SCA_BAD_BODY = 2,         /* the body is not SCA_BODY_LEAST to SCA_BODY_MOST bytes */
-    SCA_BAD_ARGUMENT = 3,     /* the port is not 0 or 1, the edge kind is over 2, or the completion is not 16 bytes */
+    SCA_BAD_ARGUMENT = 3,     /* the port is not 0 or 1, the edge kind is over 2, an SPI completion is not 16 bytes,
+                                 or an I2C completion is of a channel that is not I2C, or over 16 bytes */
     SCA_BAD_JOURNAL = 4,      /* the journal's length, mark, version or layout is wrong */
     SCA_NONE_KEPT = 5,        /* the kept number is 0: there is no event to take back */
     SCA_BAD_STATE = 6,        /* the state or the receiver has another length, or a field out of range */
@@ -75,7 +76,7 @@ enum {
     SCA_OTHER_PORT = 12,      /* the port is not the active one */
     SCA_OTHER_CONTROL = 13,   /* a control with bit 0 set that is no CONNECT, RESET or TEST */
     SCA_BAD_INFORMATION = 14, /* the information is not 8 bytes, or not empty with CONNECT, RESET or TEST */
-    SCA_NOT_BUSY = 15,        /* a completion when no SPI transfer is open */
+    SCA_NOT_BUSY = 15,        /* a completion when its channel, SPI or an I2C master, has nothing open */
     SCA_LINES_DISABLED = 16,  /* a pin sample with GPIO disabled */
 
     SCA_NO_FRAME = 17,        /* done, and there is no frame */
@@ -95,9 +96,10 @@ enum {
 #define SCA_INPUT_MOST 65536    /* the most bytes of cable in one call of sca_receive */
 #define SCA_OUTPUT_LEAST 16     /* the least output of sca_receive and of an event */
 #define SCA_TRANSFER_BYTES 16   /* the bytes received in an SPI transfer, whatever its length */
+#define SCA_I2C_MOST 16         /* the most bytes received in an I2C transaction */
 #define SCA_ID_MOST 0xFFFFFF    /* the greatest chip ID */
 #define SCA_RECEIVER_BYTES 24   /* a receiver */
-#define SCA_STATE_BYTES 75      /* an adapter's state */
+#define SCA_STATE_BYTES 411     /* an adapter's state */
 #define SCA_JOURNAL_BYTES 17408 /* a journal */
 #define SCA_KEPT_MOST 64        /* the most events that can be taken back */
 
@@ -109,7 +111,10 @@ enum {
 
     SCA_SYSTEM_CLOCK = 0,       /* edge kinds */
     SCA_STROBE_RISING = 1,
-    SCA_STROBE_FALLING = 2
+    SCA_STROBE_FALLING = 2,
+
+    SCA_I2C_FIRST = 0x03,       /* the channels of the sixteen I2C masters, from this one */
+    SCA_I2C_LAST = 0x12         /* to this one */
 };
 
 /* --------------------------------------------------------- reading a result */
@@ -141,7 +146,7 @@ static inline const char *sca_text(unsigned number) {
     case SCA_HAS_FRAME: return "a frame was read or sent";
     case SCA_SHORT_OUTPUT: return "the output is under 16 bytes (transmitter: under 24)";
     case SCA_BAD_BODY: return "the body is not 2 to 16 bytes";
-    case SCA_BAD_ARGUMENT: return "the port is not 0 or 1, the edge kind is over 2, or the completion is not 16 bytes";
+    case SCA_BAD_ARGUMENT: return "the port is not 0 or 1, the edge kind is over 2, the channel is not I2C, or the completion is not 16 bytes (I2C: over 16)";
     case SCA_BAD_JOURNAL: return "the journal's length, mark, version or layout is wrong";
     case SCA_NONE_KEPT: return "the kept number is 0";
     case SCA_BAD_STATE: return "the state or the receiver has another length, or a field out of range";
@@ -153,7 +158,7 @@ static inline const char *sca_text(unsigned number) {
     case SCA_OTHER_PORT: return "dropped: the port is not active";
     case SCA_OTHER_CONTROL: return "dropped: the control has bit 0 set and is not CONNECT, RESET or TEST";
     case SCA_BAD_INFORMATION: return "dropped: the information is not as long as the control asks";
-    case SCA_NOT_BUSY: return "dropped: a completion came when SPI was not busy";
+    case SCA_NOT_BUSY: return "dropped: a completion came when its channel was not busy";
     case SCA_LINES_DISABLED: return "dropped: a pin sample came with GPIO disabled";
     case SCA_NO_FRAME: return "done, and there is no frame";
     case SCA_LONG_CONTENT: return "the receiver dropped a frame: its content is over 144 bits";
@@ -277,9 +282,9 @@ uint64_t sca_transmit(const uint8_t *body, size_t body_length, uint8_t *output, 
  *         send(sca_port(result), output, sca_length(result));
  *
  * THE EVENTS
- *     They are sca_frame, sca_completion, sca_sample and sca_upset. Each writes
- *     the body that it sends at the front of output; no other byte of output
- *     changes.
+ *     They are sca_frame, sca_completion, sca_i2c_completion, sca_sample and
+ *     sca_upset. Each writes the body that it sends at the front of output; no
+ *     other byte of output changes.
  *
  *     Number of every event, with sca_length and sca_port:
  *         0         a body of sca_length bytes is to leave on port sca_port
@@ -287,7 +292,7 @@ uint64_t sca_transmit(const uint8_t *body, size_t body_length, uint8_t *output, 
  *         17        done, and nothing is to be sent
  *     or refused:
  *         6         state_length is not SCA_STATE_BYTES, or a field of the state
- *                   is out of range, as the table of its bytes below says
+ *                   is out of range, as the tables of its bytes below say
  *         4         journal_length is not SCA_JOURNAL_BYTES, or the journal's
  *                   mark, version or layout is wrong
  *         1         output_length is under SCA_OUTPUT_LEAST
@@ -295,9 +300,10 @@ uint64_t sca_transmit(const uint8_t *body, size_t body_length, uint8_t *output, 
  *
  * THE STATE
  *     It holds all that lasts: link numbers, port, loopback, registers, an open
- *     GO, the SEU counter and the chip ID. It may be copied, kept in a file and
- *     handed in again. Byte by byte; a field of several bytes has its lowest
- *     byte first, so that bit n of it is bit n % 8 of its byte n / 8:
+ *     GO, the open I2C starts, the SEU counter and the chip ID. It may be copied,
+ *     kept in a file and handed in again. Byte by byte; a field of several bytes
+ *     has its lowest byte first, so that bit n of it is bit n % 8 of its byte
+ *     n / 8:
  *
  *         byte      field                                channel  range
  *         0         send number                                   0 to 7
@@ -327,13 +333,31 @@ uint64_t sca_transmit(const uint8_t *body, size_t body_length, uint8_t *output, 
  *         70 to 73  EDGESEL                              0x02
  *         74        INTENABLE                            0x02     0 or 1
  *
- *     While SPI is disabled (CRB bit 1 is 0), all fields of channel 0x01 are 0,
- *     and while GPIO is disabled (CRB bit 2 is 0), all of channel 0x02. A state
- *     of any other length, or that is not in these ranges, is refused with 6,
- *     and no other is. Every call that is not refused leaves a state in range.
+ *     Then the sixteen I2C masters, 21 bytes each. Those of channel 0x03 + n
+ *     stand from m = 75 + 21 * n on, the last ones up to byte 410:
  *
- *     A state that version 1.0.0 of the library left has another length: 6.
- *     Make a new one with sca_create.
+ *         byte              field                                   range
+ *         m                 MASK
+ *         m + 1             CTRL
+ *         m + 2             STATUS                                  bits 7, 4, 1, 0 are 0
+ *         m + 3             TRN of the open start; 0: none is open
+ *         m + 4             CMD of the open start; 0: none is open  0 or that of a start
+ *         m + 5 to m + 8    DATA, bytes 3, 2, 1, 0
+ *         m + 9 to m + 12   DATA, bytes 7, 6, 5, 4
+ *         m + 13 to m + 16  DATA, bytes 11, 10, 9, 8
+ *         m + 17 to m + 20  DATA, bytes 15, 14, 13, 12
+ *
+ *     Byte k of DATA is at m + 5 + 4 * (k / 4) + 3 - k % 4: a word stands as it does
+ *     in D, where its first byte is on top. TRN and CMD of the open start are both 0
+ *     or both not, and while a multi-byte start is open, NBYTE of CTRL is 1 to 16.
+ *
+ *     While SPI, GPIO or an I2C master is disabled, all fields of its channel are
+ *     0. Which bit enables it, the tables of the commands say. A state of any other
+ *     length, or that is not in these ranges, is refused with 6, and no other is.
+ *     Every call that is not refused leaves a state in range.
+ *
+ *     A state that a version before 1.2.0 of the library left has another length:
+ *     6. Make a new one with sca_create.
  *
  * THE JOURNAL
  *     It holds what sca_step_back needs. Every event that is not refused is kept
@@ -360,9 +384,9 @@ uint64_t sca_transmit(const uint8_t *body, size_t body_length, uint8_t *output, 
  *     damaged, or would leave the state handed in out of range. No journal that
  *     the calls themselves left is refused with the state that went with it.
  *
- *     A journal that version 1.0.0 of the library left has the same length, mark
- *     and version of its own, but other records, and no call can tell. Make it
- *     empty with sca_empty first.
+ *     A journal that a version before 1.2.0 of the library left has the same
+ *     length, mark and version of its own, 1, but other records, and no call can
+ *     tell. Make it empty with sca_empty first.
  *
  * THE CHIP
  *     A body is address, control, information. Address 0x00 is the chip's. The
@@ -385,18 +409,20 @@ uint64_t sca_transmit(const uint8_t *body, size_t body_length, uint8_t *output, 
  *     read.
  *
  *     ERR is 0, or the first of these; the reply then has LEN 2 and zero data, and
- *     no register has changed:
+ *     no register has changed, but for INVCOM of an I2C master with 0x04:
  *         0x08  TRN is 0x00 or 0xFF
- *         0x02  CH is none of the table below
+ *         0x02  CH is none of the tables below
  *         0x20  the channel is not enabled
- *         0x40  SPI is busy: a GO is open
+ *         0x40  the channel is busy: a GO is open, or a start of this I2C master
  *         0x04  CMD is none of the channel's
- *         0x10  LEN is not the one that the table asks
+ *         0x10  LEN is not the one that the table asks, or NBYTE is not 1 to 16 at
+ *               a multi-byte I2C start
  *
  *     Commands in hex, the write and the read of a register as 40/41, and LEN
  *     asked/given. CRB bit 0 and CRD bits 7 to 5 read 0 whatever was written. A
- *     write that disables SPI or GPIO zeroes all fields of its channel: an open GO
- *     is dropped, and its reply never comes.
+ *     write that disables SPI, GPIO or an I2C master zeroes all fields of its
+ *     channel: an open GO or start is dropped, and its reply never comes. RESET
+ *     drops them too, CONNECT does not.
  *
  *         CH    enabled by  commands                               LEN
  *         0x00  always      CRB 02/03, CRC 04/05, CRD 06/07        write 4/2
@@ -409,11 +435,44 @@ uint64_t sca_transmit(const uint8_t *body, size_t body_length, uint8_t *output, 
  *                           INTS 70/71, CLKSEL 80/81,
  *                           EDGESEL 90/91; INTENABLE 60/61 in
  *                           D[0]; read DATAIN 01
+ *         0x03  the I2C masters, below
+ *         to
+ *         0x12
  *         0x13  CRD bit 3   SEU counter: read F1, clear F0         read 4/4
  *                                                                  clear 4/2
  *         0x14  CRD bit 4   chip ID: read D1, D[23:0]              4/4
  *         0x15  always      DAC A, B, C, D 10/11, 20/21, 30/31,    write 4/1
  *                           40/41 in D[7:0]                        read 1/4
+ *
+ * THE I2C MASTERS
+ *     CRB bits 3 to 7 enable the channels 0x03 to 0x07, CRC bits 0 to 7 0x08 to
+ *     0x0F, CRD bits 0 to 2 0x10 to 0x12. They work side by side, and each has
+ *
+ *         MASK    8 bits, kept and read back
+ *         CTRL    8 bits, kept and read back; bits 6 to 2 are NBYTE
+ *         STATUS  bit 2 SUCC, bit 3 LEVERR, bit 5 INVCOM, bit 6 NOACK; read alone
+ *         DATA    bytes 0 to 15
+ *
+ *     and the commands
+ *
+ *         MASK 20/21, CTRL 30/31 in D[31:24]                   write 1/0, read 0/1
+ *         STATUS: read 11, D[31:24]                            0/1
+ *         DATA 40/41 (bytes 0 to 3), 50/51 (4 to 7),           write 4/0, read 0/4
+ *         60/61 (8 to 11), 70/71 (12 to 15), the first byte
+ *         in D[31:24], the last in D[7:0]
+ *
+ *         starts                               address of 7 bits  of 10 bits
+ *         a byte is written                    82 4/4             8A 6/4
+ *         a byte is read                       86 4/4             8E 4/4
+ *         multi-byte: NBYTE bytes are written  DA 4/6             E2 2/2
+ *         multi-byte: NBYTE bytes are read     DE 4/4             E6 2/2
+ *         read-modify-write: AND, OR, XOR      C2, C6, CA 2/2
+ *
+ *     A start gives 17 and makes its channel busy; what it would send on the bus
+ *     shows nowhere, and its data is not read. Its reply comes with
+ *     sca_i2c_completion, which also sets SUCC, LEVERR and NOACK. INVCOM is set
+ *     where a request is answered with 0x04, and stays until the channel is disabled
+ *     or a RESET comes; it hinders nothing.
  */
 
 /*
@@ -460,7 +519,8 @@ uint64_t sca_kept(const uint8_t *journal, size_t journal_length);
  *     12  the port is not the active one
  *     14  the information is not 8 bytes
  *     0   the frame is not the one that is due: SREJ
- *     17  a GO that starts a transfer: its reply comes with sca_completion
+ *     17  a GO or an I2C start: its reply comes with sca_completion or
+ *         sca_i2c_completion
  *     0   the reply
  * or refused, after 6, 4 and 1:
  *     3   port is not SCA_PRIMARY or SCA_AUXILIARY; 256 is no port either
@@ -483,6 +543,33 @@ uint64_t sca_frame(uint8_t *state, size_t state_length, uint8_t *journal, size_t
  */
 uint64_t sca_completion(uint8_t *state, size_t state_length, uint8_t *journal, size_t journal_length,
                         const uint8_t *received, size_t received_length, uint8_t *output, size_t output_length);
+
+/*
+ * sca_i2c_completion - an I2C transaction is complete
+ *
+ * channel is the master's, SCA_I2C_FIRST to SCA_I2C_LAST. acknowledge is not 0
+ * where the slave acknowledged, line_low is not 0 where the data line was found
+ * low; any value but 0 means 1. received holds the bytes that came in, 0 to
+ * SCA_I2C_MOST, the first one first.
+ *
+ * Of STATUS, LEVERR becomes whether the line was low, NOACK whether there was no
+ * acknowledge, and SUCC whether neither was; INVCOM stays. With SUCC a multi-byte
+ * read puts the bytes received into DATA from byte 0 on, NBYTE of them: lacking
+ * ones are 0, further ones are not read, DATA from byte NBYTE on stays. A read of
+ * one byte has the first byte received in its reply alone, 0 where there is none.
+ * Writes and read-modify-write take no bytes, and without SUCC none is taken.
+ *
+ * Number: of the events, with
+ *     0   the reply of the open start, with its own TRN, ERR 0 and LEN as the
+ *         table says, STATUS in D[31:24], the byte of a read of one in D[23:16]
+ *     15  no start is open on this channel, or it is disabled
+ * or refused, after 6, 4 and 1:
+ *     3   channel is not SCA_I2C_FIRST to SCA_I2C_LAST, 0x103 is none either; or
+ *         received_length is over SCA_I2C_MOST
+ */
+uint64_t sca_i2c_completion(uint8_t *state, size_t state_length, uint8_t *journal, size_t journal_length, uint32_t channel,
+                            uint32_t acknowledge, uint32_t line_low, const uint8_t *received, size_t received_length,
+                            uint8_t *output, size_t output_length);
 
 /*
  * sca_sample - the pins are sampled

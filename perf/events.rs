@@ -14,6 +14,8 @@ const EVENTS: usize = 4_096;
 const ADAPTERS: usize = 32;
 /// The most events that a journal keeps.
 const FULL: usize = 64;
+/// The I2C master of the measurements, one of those with the longest record.
+const MASTER: u8 = 0x08;
 
 /// A request for each receive number, so that they are in sequence round after round.
 type Requests = Vec<[u8; 10]>;
@@ -45,6 +47,8 @@ trait Side: Clone {
     fn new() -> Self;
     fn frame(&mut self, body: &[u8]) -> usize;
     fn sample(&mut self, levels: u32) -> usize;
+    /// The end of a read on the master, which gets 16 bytes.
+    fn i2c_completion(&mut self) -> usize;
     fn step_back(&mut self) -> usize;
 }
 
@@ -65,6 +69,13 @@ impl Side for Ours {
     fn sample(&mut self, levels: u32) -> usize {
         let mut output = [0; 16];
         let answer = boundary::sca_sample(&mut self.state, &mut self.journal, levels, 0, &mut output);
+        sum(answer.number, &output)
+    }
+
+    fn i2c_completion(&mut self) -> usize {
+        let (mut output, channel) = ([0; 16], u32::from(MASTER));
+        let (state, journal) = (&mut self.state, &mut self.journal);
+        let answer = boundary::sca_i2c_completion(state, journal, channel, 1, 0, &RECEIVED, &mut output);
         sum(answer.number, &output)
     }
 
@@ -93,24 +104,45 @@ impl Side for Theirs {
         sum(answer.number, &output)
     }
 
+    fn i2c_completion(&mut self) -> usize {
+        let (mut output, channel) = ([0; 16], u32::from(MASTER));
+        let (state, journal) = (&mut self.state, &mut self.journal);
+        let answer = adapter::i2c_completion(state, journal, channel, 1, 0, &RECEIVED, &mut output);
+        sum(answer.number, &output)
+    }
+
     fn step_back(&mut self) -> usize {
         usize::from(adapter::step_back(&mut self.state, &mut self.journal))
     }
 }
 
+const RECEIVED: [u8; 16] = *b"sixteen I2C data";
+
 fn sum(number: u8, output: &[u8]) -> usize {
     usize::from(number) + usize::from(output[1]) + usize::from(output[4]) + usize::from(output[8])
 }
 
-/// An adapter with its channels on, all lines with interrupts, and a full journal.
+/// An adapter with SPI and GPIO on, all lines with interrupts, and a full journal.
 fn ready<S: Side>() -> S {
     let mut side = S::new();
     side.frame(&[0x00, 0x00, 0x01, 0x00, 0x04, 0x02, 0x00, 0x06, 0x00, 0x00]);
     side.frame(&[0x00, 0x02, 0x02, 0x02, 0x04, 0x30, 0xFF, 0xFF, 0xFF, 0xFF]);
     side.frame(&[0x00, 0x04, 0x03, 0x02, 0x04, 0x60, 0x00, 0x00, 0x01, 0x00]);
-    let read = [0x04, 0x02, 0x01, 0x11, 0x00, 0x00, 0x00, 0x00];
-    let requests = requests(read);
-    for event in 3..3 + FULL + 5 {
+    filled(side, 3)
+}
+
+/// The same with the eight masters that CRC enables, one of them set for 16 bytes.
+fn ready_masters<S: Side>() -> S {
+    let mut side = in_sequence(ready::<S>());
+    side.frame(&[0x00, 0x00, 0x04, 0x00, 0x04, 0x04, 0x00, 0xFF, 0x00, 0x00]);
+    side.frame(&[0x00, 0x02, 0x05, MASTER, 0x01, 0x30, 0x00, 0x40, 0x00, 0x00]);
+    filled(side, 2)
+}
+
+/// Reads until the journal is full, the frame of this number next.
+fn filled<S: Side>(mut side: S, next: usize) -> S {
+    let requests = requests([0x04, 0x02, 0x01, 0x11, 0x00, 0x00, 0x00, 0x00]);
+    for event in next..next + FULL + 5 {
         side.frame(&requests[event % 8]);
     }
     side
@@ -126,6 +158,22 @@ fn frames<S: Side>(side: &mut S, requests: &Requests) -> (f64, usize) {
 fn samples<S: Side>(side: &mut S) -> (f64, usize) {
     let begin = Instant::now();
     let sum = (0..EVENTS).map(|event| side.sample(event as u32)).sum();
+    (begin.elapsed().as_nanos() as f64 / EVENTS as f64, sum)
+}
+
+/// An I2C start and its completion, over and over.
+fn transactions<S: Side>(side: &mut S, starts: &Requests) -> (f64, usize) {
+    let begin = Instant::now();
+    let both = |event: usize| side.frame(&starts[event % 8]) + side.i2c_completion();
+    let sum = (0..EVENTS).map(both).sum();
+    (begin.elapsed().as_nanos() as f64 / EVENTS as f64, sum)
+}
+
+/// The same, and a step back over each of the two.
+fn transactions_and_back<S: Side>(side: &mut S, start: &[u8]) -> (f64, usize) {
+    let begin = Instant::now();
+    let all = |_| side.frame(start) + side.i2c_completion() + side.step_back() + side.step_back();
+    let sum = (0..EVENTS).map(all).sum();
     (begin.elapsed().as_nanos() as f64 / EVENTS as f64, sum)
 }
 
@@ -159,9 +207,41 @@ fn compare(what: &str, mut ours: impl FnMut() -> (f64, usize), mut theirs: impl 
 
 /// Frames of one request over and over, both journals full.
 fn compare_frames(what: &str, channel: u8, length: u8, command: u8) {
-    let requests = requests([0x05, channel, length, command, 0x12, 0x34, 0x56, 0x78]);
-    let (mut ours, mut theirs) = (in_sequence(ready::<Ours>()), in_sequence(ready::<Theirs>()));
+    compare_frames_on(what, (ready(), ready()), [0x05, channel, length, command, 0x12, 0x34, 0x56, 0x78]);
+}
+
+fn compare_frames_on(what: &str, (ours, theirs): (Ours, Theirs), request: [u8; 8]) {
+    let requests = requests(request);
+    let (mut ours, mut theirs) = (in_sequence(ours), in_sequence(theirs));
     compare(what, || frames(&mut ours, &requests), || frames(&mut theirs, &requests));
+}
+
+/// A frame and its step back over and over, both journals full.
+fn compare_back(what: &str, (ours, theirs): (Ours, Theirs), channel: u8, length: u8, command: u8) {
+    let request = requests([0x05, channel, length, command, 0x12, 0x34, 0x56, 0x78])[0];
+    let (mut ours, mut theirs) = (in_sequence(ours), in_sequence(theirs));
+    compare(
+        what,
+        || there_and_back(&mut ours, &request),
+        || there_and_back(&mut theirs, &request),
+    );
+}
+
+/// I2C reads of 16 bytes, to their ends, and back again.
+fn compare_transactions() {
+    let starts = requests([0x05, MASTER, 0x04, 0xDE, 0x00, 0x50, 0x00, 0x00]);
+    let (mut ours, mut theirs) = (in_sequence(ready_masters::<Ours>()), in_sequence(ready_masters::<Theirs>()));
+    compare(
+        "I2C start and its completion",
+        || transactions(&mut ours, &starts),
+        || transactions(&mut theirs, &starts),
+    );
+    let (mut ours, mut theirs) = (in_sequence(ready_masters::<Ours>()), in_sequence(ready_masters::<Theirs>()));
+    compare(
+        "I2C start and its completion, and back twice",
+        || transactions_and_back(&mut ours, &starts[0]),
+        || transactions_and_back(&mut theirs, &starts[0]),
+    );
 }
 
 /// After a CONNECT, by which number 0 is due.
@@ -182,20 +262,19 @@ fn main() {
     );
     compare_frames("frame, a register written", 0x02, 4, 0x10);
     compare_frames("frame, a register read", 0x02, 1, 0x11);
-    compare_frames("frame, an unknown channel", 0x03, 1, 0x11);
+    compare_frames("frame, an unknown channel", 0x16, 1, 0x11);
+    let register = [0x05, MASTER, 4, 0x40, 0x12, 0x34, 0x56, 0x78];
+    compare_frames_on("frame, an I2C register written", (ready_masters(), ready_masters()), register);
     let (mut ours, mut theirs) = (ready::<Ours>(), ready::<Theirs>());
     compare(
         "pin sample, an interrupt",
         || samples(&mut ours),
         || samples(&mut theirs),
     );
-    let request = requests([0x05, 0x02, 0x04, 0x10, 0x12, 0x34, 0x56, 0x78])[0];
-    let (mut ours, mut theirs) = (in_sequence(ready::<Ours>()), in_sequence(ready::<Theirs>()));
-    compare(
-        "frame, a register written, and its step back",
-        || there_and_back(&mut ours, &request),
-        || there_and_back(&mut theirs, &request),
-    );
+    compare_back("frame, a register written, and its step back", (ready(), ready()), 0x02, 4, 0x10);
+    let masters = (ready_masters(), ready_masters());
+    compare_back("frame, an I2C register, and its step back", masters, MASTER, 4, 0x40);
+    compare_transactions();
     let (ours, theirs) = (ready::<Ours>(), ready::<Theirs>());
     compare("step back", || steps_back(&ours), || steps_back(&theirs));
 }

@@ -31,6 +31,21 @@ printf 'U\nU' | answers "no final LF" '17 1\n17 2\n'
 characters "${LONG:-1000000000}" '\n' | head -c 1000000 | program_run bench | sort | uniq -c >"$got"
 if [ "$(awk '{ print $1, $2, $3 }' "$got")" = "1000000 10 0" ]; then good "a million empty lines"; else bad "a million empty lines"; fi
 
+# each wrong shape of an I2C line is 10; a start is open around them, and still ends
+wrong_i2c() {
+    printf 'I\nI \nI 03\nI 03 \nI 03 1\nI 03 1 \nI 03 1 0 \n I 03 1 0\nI  03 1 0\nI 03  1 0\nI 03 1  0\nI 03 1 0  99\nI 03 1 0 99 \n'
+    printf 'I 3 1 0\nI 003 1 0\nI 0x03 1 0\nI 0g 1 0\nI 03 2 0\nI 03 1 2\nI 03 9 9\nI 03 a 0\nI 03 -1 0\nI 03 01 0\nI 03 1 00\n'
+    printf 'I 03 1 0 9\nI 03 1 0 999\nI 03 1 0 9g\nI 03 1 0 99 88\nI03 1 0\nI 031 0\nI 03 10\nI 0310\nI 03 1 099\ni 03 1 0\n'
+    printf 'I\t03 1 0\nI 03,1,0\nI 03 1 0\r\nI 03 1 0\000\nI 03 1 0 99\200\n'
+    printf 'I 03 1 0 ' && characters 71 9 && printf '\nI 03 1 0 ' && characters 72 9 && echo
+}
+unreadable=$(wrong_i2c | LC_ALL=C sed 's/.*/10 2/')
+{ printf 'F 0 00000100040200080000\nF 0 00020203048600500000\n' && wrong_i2c && printf 'I 03 1 0 99\nI 03 1 0\n'; } |
+    answers "every wrong shape of an I2C line" "0 1 0 00200100000200000000\n17 2\n$unreadable\n0 3 0 00420203000499040000\n15 4\n"
+{ printf 'I 03 1 0 ' && characters 32 a && printf '\nI 12 0 1 ' && characters 34 A && printf '\nI 12 0 1 ' && characters 70 A && echo; } |
+    answers "an I2C line with 16 bytes, with 17 and with 35" '15 1\n3 1\n3 1\n'
+printf 'I 02 1 0\nI 13 1 0\nI fF 1 0\nI 00 0 0 99\nI 0A 0 1\n' | answers "I2C lines of other channels" '3 0\n3 0\n3 0\n3 0\n15 1\n'
+
 # the answers do not hang on how the input is cut
 program_run bench <crates/bench/stdin >"$said"
 for size in 1 7 4096; do

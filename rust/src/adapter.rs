@@ -40,6 +40,22 @@ impl Adapter {
         self.event(|state, journal, output| boundary::sca_completion(state, journal, received, output))
     }
 
+    /// An I2C transaction is complete: whether the slave acknowledged, whether the line was found low, and the bytes that
+    /// came in. Refused where the channel is not [`crate::I2C_FIRST`] to [`crate::I2C_LAST`], or the bytes are over
+    /// [`crate::I2C_MOST`].
+    pub fn i2c_completion(
+        &mut self,
+        channel: u8,
+        acknowledge: bool,
+        line_low: bool,
+        received: &[u8],
+    ) -> Result<Answer, Refusal> {
+        let (channel, acknowledge, line_low) = (channel.into(), acknowledge.into(), line_low.into());
+        self.event(|state, journal, output| {
+            boundary::sca_i2c_completion(state, journal, channel, acknowledge, line_low, received, output)
+        })
+    }
+
     /// The pins are sampled; bit n of `levels` is the level of line n.
     pub fn sample(&mut self, levels: u32, edge: Edge) -> Result<Answer, Refusal> {
         self.event(|state, journal, output| boundary::sca_sample(state, journal, levels, edge as u32, output))

@@ -32,7 +32,8 @@ pub enum Refusal {
     ShortOutput = 1,
     /// The body is not 2 to 16 bytes.
     BadBody = 2,
-    /// A port, edge kind or completion of no meaning. This crate's types have none; [`crate::boundary`] takes any.
+    /// The channel of an I2C completion is not I2C, or its bytes are over [`crate::I2C_MOST`]. Or a port, edge kind or SPI
+    /// completion of no meaning: this crate's types have none; [`crate::boundary`] takes any.
     BadArgument = 3,
     /// The journal's length, mark, version or layout is wrong, or its newest record is damaged.
     BadJournal = 4,
@@ -60,7 +61,7 @@ pub enum Dropped {
     OtherControl = 13,
     /// The information is not as long as the control asks.
     BadInformation = 14,
-    /// A completion while SPI is not busy.
+    /// A completion while its channel, SPI or an I2C master, is not busy.
     NotBusy = 15,
     /// A pin sample while GPIO is disabled.
     LinesDisabled = 16,
@@ -124,7 +125,10 @@ pub fn text(number: u8) -> &'static str {
         0 => "a frame was read or sent",
         1 => "the output is under 16 bytes (transmitter: under 24)",
         2 => "the body is not 2 to 16 bytes",
-        3 => "the port is not 0 or 1, the edge kind is over 2, or the completion is not 16 bytes",
+        3 => {
+            "the port is not 0 or 1, the edge kind is over 2, the channel is not I2C, \
+             or the completion is not 16 bytes (I2C: over 16)"
+        }
         4 => "the journal's length, mark, version or layout is wrong",
         5 => "the kept number is 0",
         6 => "the state or the receiver has another length, or a field out of range",
@@ -136,7 +140,7 @@ pub fn text(number: u8) -> &'static str {
         12 => "dropped: the port is not active",
         13 => "dropped: the control has bit 0 set and is not CONNECT, RESET or TEST",
         14 => "dropped: the information is not as long as the control asks",
-        15 => "dropped: a completion came when SPI was not busy",
+        15 => "dropped: a completion came when its channel was not busy",
         16 => "dropped: a pin sample came with GPIO disabled",
         17 => "done, and there is no frame",
         21 => "the receiver dropped a frame: its content is over 144 bits",

@@ -42,6 +42,19 @@ mod library {
             output: *mut u8,
             output_length: usize,
         ) -> u64;
+        pub fn sca_i2c_completion(
+            state: *mut u8,
+            state_length: usize,
+            journal: *mut u8,
+            journal_length: usize,
+            channel: u32,
+            acknowledge: u32,
+            line_low: u32,
+            received: *const u8,
+            received_length: usize,
+            output: *mut u8,
+            output_length: usize,
+        ) -> u64;
         pub fn sca_sample(
             state: *mut u8,
             state_length: usize,
@@ -206,6 +219,34 @@ pub fn sca_completion(state: &mut [u8], journal: &mut [u8], received: &[u8], out
             state.len(),
             journal.as_mut_ptr(),
             journal.len(),
+            received.as_ptr(),
+            received.len(),
+            output.as_mut_ptr(),
+            output.len(),
+        )
+    })
+}
+
+/// An I2C transaction is complete; any acknowledge and line low but 0 mean 1.
+pub fn sca_i2c_completion(
+    state: &mut [u8],
+    journal: &mut [u8],
+    channel: u32,
+    acknowledge: u32,
+    line_low: u32,
+    received: &[u8],
+    output: &mut [u8],
+) -> RawAnswer {
+    // Sound: as above.
+    RawAnswer::of(unsafe {
+        library::sca_i2c_completion(
+            state.as_mut_ptr(),
+            state.len(),
+            journal.as_mut_ptr(),
+            journal.len(),
+            channel,
+            acknowledge,
+            line_low,
             received.as_ptr(),
             received.len(),
             output.as_mut_ptr(),

@@ -26,8 +26,8 @@ pub use answers::{text, Answer, Broken, Dropped, Edge, Heard, Port, Received, Re
 pub use bytes::{Body, Bytes, Frame};
 pub use link::{transmit, Listening, Receiver};
 pub use sizes::{
-    BODY_LEAST, BODY_MOST, CABLE_MOST, ID_MOST, INPUT_MOST, JOURNAL_BYTES, KEPT_MOST, OUTPUT_LEAST, RECEIVER_BYTES,
-    STATE_BYTES, TRANSFER_BYTES, VERSION,
+    BODY_LEAST, BODY_MOST, CABLE_MOST, I2C_FIRST, I2C_LAST, I2C_MOST, ID_MOST, INPUT_MOST, JOURNAL_BYTES, KEPT_MOST,
+    OUTPUT_LEAST, RECEIVER_BYTES, STATE_BYTES, TRANSFER_BYTES, VERSION,
 };
 
 /// The version of the archive that was linked: [`VERSION`], where it is the one that this crate is made for.

@@ -1,7 +1,8 @@
-//! The version and the sizes of what calls take, under the names of `include/sca.h`, there with `SCA_` in front.
+//! The version, the sizes of what calls take and the channels of the I2C masters, under the names of `include/sca.h`, there
+//! with `SCA_` in front.
 
-/// The version that this crate is made for, 1.1.0: major << 16 | minor << 8 | patch. [`crate::version`] gives the archive's.
-pub const VERSION: u64 = 0x01_0100;
+/// The version that this crate is made for, 1.2.0: major << 16 | minor << 8 | patch. [`crate::version`] gives the archive's.
+pub const VERSION: u64 = 0x01_0200;
 
 /// The bytes of the shortest body.
 pub const BODY_LEAST: usize = 2;
@@ -15,12 +16,18 @@ pub const INPUT_MOST: usize = 65_536;
 pub const OUTPUT_LEAST: usize = 16;
 /// The bytes received in an SPI transfer, whatever its length.
 pub const TRANSFER_BYTES: usize = 16;
+/// The most bytes received in an I2C transaction.
+pub const I2C_MOST: usize = 16;
+/// The channel of the first of the sixteen I2C masters.
+pub const I2C_FIRST: u8 = 0x03;
+/// The channel of the last one.
+pub const I2C_LAST: u8 = 0x12;
 /// The greatest chip ID.
 pub const ID_MOST: u32 = 0xFF_FFFF;
 /// The bytes of a receiver.
 pub const RECEIVER_BYTES: usize = 24;
 /// The bytes of an adapter's state.
-pub const STATE_BYTES: usize = 75;
+pub const STATE_BYTES: usize = 411;
 /// The bytes of a journal.
 pub const JOURNAL_BYTES: usize = 17_408;
 /// The most events that can be taken back.

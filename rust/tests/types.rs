@@ -5,8 +5,8 @@
 #![deny(unreachable_patterns)]
 
 use sca::{boundary, text, transmit, Adapter, Answer, Broken, Dropped, Edge, Heard, Port, Receiver, Refusal};
-use sca::{BODY_LEAST, BODY_MOST, CABLE_MOST, ID_MOST, INPUT_MOST, KEPT_MOST, OUTPUT_LEAST};
-use sca::{RECEIVER_BYTES, STATE_BYTES, TRANSFER_BYTES, VERSION};
+use sca::{BODY_LEAST, BODY_MOST, CABLE_MOST, I2C_FIRST, I2C_LAST, I2C_MOST, ID_MOST, INPUT_MOST, KEPT_MOST};
+use sca::{OUTPUT_LEAST, RECEIVER_BYTES, STATE_BYTES, TRANSFER_BYTES, VERSION};
 
 fn adapter() -> Adapter {
     Adapter::new(0x00_000A).unwrap()
@@ -23,6 +23,22 @@ fn enabled() -> Adapter {
         [0x00, 0x00, 0x01, 0x00, 0x04, 0x02, 0x00, 0x06, 0x00, 0x00],
         [0x00, 0x02, 0x02, 0x02, 0x04, 0x30, 0xFF, 0xFF, 0xFF, 0xFF],
         [0x00, 0x04, 0x03, 0x02, 0x04, 0x60, 0x00, 0x00, 0x01, 0x00],
+    ] {
+        assert!(matches!(
+            adapter.frame(Port::Primary, &request),
+            Ok(Answer::HasFrame { .. })
+        ));
+    }
+    adapter
+}
+
+/// All I2C masters on.
+fn masters() -> Adapter {
+    let mut adapter = adapter();
+    for request in [
+        [0x00, 0x00, 0x01, 0x00, 0x04, 0x02, 0x00, 0xF8, 0x00, 0x00],
+        [0x00, 0x02, 0x02, 0x00, 0x04, 0x04, 0x00, 0xFF, 0x00, 0x00],
+        [0x00, 0x04, 0x03, 0x00, 0x04, 0x06, 0x00, 0x07, 0x00, 0x00],
     ] {
         assert!(matches!(
             adapter.frame(Port::Primary, &request),
@@ -58,8 +74,12 @@ fn dropped_events() {
     assert_eq!(adapter.frame(Port::Primary, &[0, 1]), dropped(Dropped::OtherControl));
     assert_eq!(adapter.frame(Port::Primary, &[0, 0]), dropped(Dropped::BadInformation));
     assert_eq!(adapter.completion(&[0; 16]), dropped(Dropped::NotBusy));
+    assert_eq!(
+        adapter.i2c_completion(I2C_FIRST, true, false, &[]),
+        dropped(Dropped::NotBusy)
+    );
     assert_eq!(adapter.sample(1, Edge::SystemClock), dropped(Dropped::LinesDisabled));
-    assert_eq!(adapter.kept(), 6);
+    assert_eq!(adapter.kept(), 7);
 }
 
 #[test]
@@ -84,6 +104,64 @@ fn later_answers() {
     assert!(sent(Port::Primary, &interrupt)(
         adapter.sample(1, Edge::SystemClock).unwrap()
     ));
+}
+
+/// On each channel, a multi-byte read of three bytes, of which two come: DATA has both and a zero. Taken back, it ends again, in
+/// another way.
+#[test]
+fn i2c_exchanges() {
+    for channel in I2C_FIRST..=I2C_LAST {
+        let mut adapter = masters();
+        let control = [0x00, 0x06, 0x04, channel, 0x01, 0x30, 0x00, 0x0C, 0x00, 0x00];
+        let written = [0x00, 0x86, 0x04, channel, 0x00, 0x00, 0x00, 0x00, 0x00, 0x00];
+        assert!(sent(Port::Primary, &written)(
+            adapter.frame(Port::Primary, &control).unwrap()
+        ));
+        let start = [0x00, 0x08, 0x05, channel, 0x04, 0xDE, 0x00, 0x50, 0x00, 0x00];
+        assert_eq!(adapter.frame(Port::Primary, &start), Ok(Answer::NoFrame));
+        let busy = *adapter.state();
+
+        let reply = [0x00, 0xA8, 0x05, channel, 0x00, 0x04, 0x00, 0x04, 0x00, 0x00];
+        let answer = adapter.i2c_completion(channel, true, false, &[0x11, 0x22]);
+        assert!(sent(Port::Primary, &reply)(answer.unwrap()));
+        let read = [0x00, 0x0A, 0x06, channel, 0x00, 0x41, 0x00, 0x00, 0x00, 0x00];
+        let bytes = [0x00, 0xCA, 0x06, channel, 0x00, 0x04, 0x22, 0x11, 0x00, 0x00];
+        assert!(sent(Port::Primary, &bytes)(
+            adapter.frame(Port::Primary, &read).unwrap()
+        ));
+        assert_eq!(
+            adapter.i2c_completion(channel, true, false, &[]),
+            Ok(Answer::Dropped(Dropped::NotBusy))
+        );
+
+        for _ in 0..3 {
+            assert_eq!(adapter.step_back(), Ok(()));
+        }
+        assert_eq!(*adapter.state(), busy);
+        for (acknowledge, line_low, status) in [(true, true, 0x08), (false, false, 0x40), (false, true, 0x48)] {
+            let reply = [0x00, 0xA8, 0x05, channel, 0x00, 0x04, 0x00, status, 0x00, 0x00];
+            let answer = adapter.i2c_completion(channel, acknowledge, line_low, &[0x11, 0x22]);
+            assert!(sent(Port::Primary, &reply)(answer.unwrap()));
+            assert_eq!(adapter.step_back(), Ok(()));
+        }
+        assert_eq!(*adapter.state(), busy);
+    }
+}
+
+/// A channel that is not I2C, and more bytes than a transaction has.
+#[test]
+fn refused_i2c_completions_change_nothing() {
+    let mut adapter = masters();
+    let before = adapter.clone();
+    for channel in 0..=u8::MAX {
+        if !(I2C_FIRST..=I2C_LAST).contains(&channel) {
+            let refused = adapter.i2c_completion(channel, true, false, &[]);
+            assert_eq!(refused, Err(Refusal::BadArgument));
+        }
+        let refused = adapter.i2c_completion(channel, true, false, &[0; I2C_MOST + 1]);
+        assert_eq!(refused, Err(Refusal::BadArgument));
+    }
+    assert_eq!(adapter, before);
 }
 
 #[test]
@@ -166,7 +244,7 @@ fn receivers_are_only_looked_at() {
 }
 
 #[test]
-fn wide_ports_and_kinds() {
+fn wide_ports_kinds_and_channels() {
     let adapter = enabled();
     let (mut state, mut journal) = (*adapter.state(), adapter.journal().to_vec());
     for wide in [256, 257, 258, 0x1_0000, 0x1_0001, 0x8000_0000, u32::MAX] {
@@ -174,16 +252,44 @@ fn wide_ports_and_kinds() {
         assert_eq!((answer.number, answer.length, answer.port), (3, 0, 0));
         let answer = boundary::sca_sample(&mut state, &mut journal, 1, wide, &mut [0; 16]);
         assert_eq!((answer.number, answer.length, answer.port), (3, 0, 0));
+        let channel = wide | u32::from(I2C_FIRST);
+        let answer = boundary::sca_i2c_completion(&mut state, &mut journal, channel, 1, 0, &[], &mut [0; 16]);
+        assert_eq!((answer.number, answer.length, answer.port), (3, 0, 0));
     }
     assert_eq!((&state, &journal[..]), (adapter.state(), adapter.journal()));
 }
 
+/// Any acknowledge and any line low but 0 mean 1.
+#[test]
+fn wide_bits() {
+    let mut adapter = masters();
+    let start = [0x00, 0x06, 0x04, I2C_FIRST, 0x04, 0x86, 0x00, 0x50, 0x00, 0x00];
+    assert_eq!(adapter.frame(Port::Primary, &start), Ok(Answer::NoFrame));
+    for wide in [1, 2, 255, 256, 0x1_0000, 0x8000_0000, u32::MAX] {
+        for (acknowledge, line_low, status, byte) in [(wide, 0, 0x04, 0x99), (wide, wide, 0x08, 0), (0, wide, 0x48, 0)]
+        {
+            let (mut state, mut journal, mut output) = (*adapter.state(), adapter.journal().to_vec(), [0; 16]);
+            let channel = u32::from(I2C_FIRST);
+            boundary::sca_i2c_completion(
+                &mut state,
+                &mut journal,
+                channel,
+                acknowledge,
+                line_low,
+                &[0x99],
+                &mut output,
+            );
+            assert_eq!(output[6..8], [byte, status]);
+        }
+    }
+}
+
 #[test]
 fn the_version() {
-    assert_eq!(VERSION, 0x01_0100);
+    assert_eq!(VERSION, 0x01_0200);
     assert_eq!(sca::version(), VERSION);
     let manifest = include_str!("../Cargo.toml");
-    assert!(manifest.lines().any(|line| line == "version = \"1.1.0\""));
+    assert!(manifest.lines().any(|line| line == "version = \"1.2.0\""));
 }
 
 #[test]
@@ -240,6 +346,7 @@ fn sizes_have_one_name() {
         ("BODY_LEAST", BODY_LEAST),
         ("BODY_MOST", BODY_MOST),
         ("CABLE_MOST", CABLE_MOST),
+        ("I2C_MOST", I2C_MOST),
         ("INPUT_MOST", INPUT_MOST),
         ("OUTPUT_LEAST", OUTPUT_LEAST),
         ("TRANSFER_BYTES", TRANSFER_BYTES),
@@ -323,6 +430,7 @@ fn sizes() {
         ("INPUT_MOST", INPUT_MOST),
         ("OUTPUT_LEAST", sca::OUTPUT_LEAST),
         ("TRANSFER_BYTES", sca::TRANSFER_BYTES),
+        ("I2C_MOST", I2C_MOST),
         ("RECEIVER_BYTES", RECEIVER_BYTES),
         ("STATE_BYTES", STATE_BYTES),
         ("JOURNAL_BYTES", sca::JOURNAL_BYTES),
@@ -332,7 +440,9 @@ fn sizes() {
     }
     assert!(header.contains(&format!("#define SCA_ID_MOST 0x{:X} ", ID_MOST)));
     assert!(header.contains(&format!("#define SCA_VERSION 0x{:06X}\n", VERSION)));
-    assert_eq!(header.matches("#define SCA_").count(), 13); // with SCA_H
+    assert!(header.contains(&format!("    SCA_I2C_FIRST = 0x{:02X}, ", I2C_FIRST)));
+    assert!(header.contains(&format!("    SCA_I2C_LAST = 0x{:02X} ", I2C_LAST)));
+    assert_eq!(header.matches("#define SCA_").count(), 14); // with SCA_H
 }
 
 /// The enums that will grow; see the head of this file.

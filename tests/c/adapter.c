@@ -22,6 +22,11 @@ static uint64_t completion(const uint8_t *received, size_t length) {
     return sca_completion(state, sizeof state, journal, sizeof journal, received, length, output, sizeof output);
 }
 
+static uint64_t i2c_completion(uint32_t channel, uint32_t acknowledge, uint32_t line_low, const void *received, size_t length) {
+    return sca_i2c_completion(state, sizeof state, journal, sizeof journal, channel, acknowledge, line_low, received, length, output,
+                              sizeof output);
+}
+
 static uint64_t sample(uint32_t levels, uint32_t kind) {
     return sca_sample(state, sizeof state, journal, sizeof journal, levels, kind, output, sizeof output);
 }
@@ -32,7 +37,7 @@ static uint64_t step_back(void) { return sca_step_back(state, sizeof state, jour
 
 static void sizes(void) {
     static uint8_t bytes[2 * SCA_JOURNAL_BYTES], room[2 * SCA_OUTPUT_LEAST];
-    int states = 1, journals = 1, outputs = 1, transfers = 1, bodies = 1;
+    int states = 1, journals = 1, outputs = 1, transfers = 1, transactions = 1, bodies = 1;
     for (size_t length = 0; length <= 2 * SCA_STATE_BYTES; length++)
         states &= sca_create(bytes, length, ID) == (length == SCA_STATE_BYTES ? SCA_NO_FRAME : SCA_BAD_STATE);
     check(states, "a state is SCA_STATE_BYTES and no other length");
@@ -50,9 +55,11 @@ static void sizes(void) {
     begin();
     for (size_t length = 0; length <= sizeof room; length++) {
         transfers &= completion(room, length) == (length == SCA_TRANSFER_BYTES ? SCA_NOT_BUSY : SCA_BAD_ARGUMENT);
+        transactions &= i2c_completion(SCA_I2C_FIRST, 1, 0, room, length) == (length <= SCA_I2C_MOST ? SCA_NOT_BUSY : SCA_BAD_ARGUMENT);
         bodies &= sca_refused(frame(SCA_PRIMARY, room, length)) == (length < SCA_BODY_LEAST || length > SCA_BODY_MOST);
     }
     check(transfers, "a transfer is SCA_TRANSFER_BYTES and no other length");
+    check(transactions, "an I2C transaction brings at most SCA_I2C_MOST bytes");
     check(bodies, "a body is SCA_BODY_LEAST to SCA_BODY_MOST");
 }
 
@@ -85,44 +92,56 @@ static void numbers(void) {
     check(frame(SCA_AUXILIARY + 1, "\x00\x2F", 2) == SCA_BAD_ARGUMENT, "a third port is SCA_BAD_ARGUMENT");
     check(frame(SCA_PRIMARY, "\x00", 1) == SCA_BAD_BODY, "a body of one byte is SCA_BAD_BODY");
     check(completion(received, sizeof received) == SCA_NOT_BUSY, "a completion without a GO is SCA_NOT_BUSY");
+    check(i2c_completion(SCA_I2C_FIRST, 1, 0, NULL, 0) == SCA_NOT_BUSY && i2c_completion(SCA_I2C_LAST, 1, 0, NULL, 0) == SCA_NOT_BUSY,
+          "an I2C completion without a start is SCA_NOT_BUSY");
+    check(i2c_completion(SCA_I2C_FIRST - 1, 1, 0, NULL, 0) == SCA_BAD_ARGUMENT && i2c_completion(SCA_I2C_LAST + 1, 1, 0, NULL, 0) == SCA_BAD_ARGUMENT,
+          "an I2C completion of another channel is SCA_BAD_ARGUMENT");
     check(sample(0, SCA_SYSTEM_CLOCK) == SCA_LINES_DISABLED, "a sample of disabled pins is SCA_LINES_DISABLED");
     check(sample(0, SCA_STROBE_FALLING + 1) == SCA_BAD_ARGUMENT, "a fourth edge kind is SCA_BAD_ARGUMENT");
 }
 
-/* Ports and edge kinds whose low byte, or low half, alone would do. */
+/* Ports, edge kinds and I2C channels whose low byte, or low half, alone would do. */
 static void wide_arguments(void) {
     static const uint32_t ports[] = {256, 257, 0x10000, 0x10001, 0x80000000, 0xFFFFFFFF};
     static const uint32_t kinds[] = {256, 257, 258, 0x10000, 0x10002, 0x80000000, 0xFFFFFFFF};
+    static const uint32_t channels[] = {0x103, 0x112, 0x10003, 0x10012, 0x80000003, 0xFFFFFF12};
     static uint8_t was[SCA_JOURNAL_BYTES];
-    int port = 1, kind = 1;
+    int port = 1, kind = 1, channel = 1;
     begin();
     memcpy(was, journal, sizeof was);
     for (size_t at = 0; at < sizeof ports / sizeof ports[0]; at++) port &= frame(ports[at], "\x00\x2F", 2) == SCA_BAD_ARGUMENT;
     for (size_t at = 0; at < sizeof kinds / sizeof kinds[0]; at++) kind &= sample(1, kinds[at]) == SCA_BAD_ARGUMENT;
+    for (size_t at = 0; at < sizeof channels / sizeof channels[0]; at++)
+        channel &= i2c_completion(channels[at], 1, 0, NULL, 0) == SCA_BAD_ARGUMENT;
     check(port, "ports over 255 are SCA_BAD_ARGUMENT");
     check(kind, "edge kinds over 255 are SCA_BAD_ARGUMENT");
+    check(channel, "I2C channels over 255 are SCA_BAD_ARGUMENT");
     check(memcmp(was, journal, sizeof was) == 0 && sca_kept_in(sca_kept(journal, sizeof journal)) == 0, "and none of them is kept");
 }
 
 /* 6, 4, 1, 3, 2: each is asked for with all that come after it. */
 static void order_of_refusals(void) {
-    int ports = 1, kinds = 1;
+    int ports = 1, kinds = 1, channels = 1;
     begin();
     ports &= frame(256, "\x00", 1) == SCA_BAD_ARGUMENT;
     ports &= sca_frame(state, sizeof state, journal, sizeof journal, 256, NULL, 0, output, 15) == SCA_SHORT_OUTPUT;
     kinds &= sca_sample(state, sizeof state, journal, sizeof journal, 0, 256, output, 15) == SCA_SHORT_OUTPUT;
+    channels &= sca_i2c_completion(state, sizeof state, journal, sizeof journal, 256, 1, 0, NULL, 0, output, 15) == SCA_SHORT_OUTPUT;
     journal[3] = 2;
     ports &= sca_frame(state, sizeof state, journal, sizeof journal, 256, NULL, 0, output, 15) == SCA_BAD_JOURNAL;
     kinds &= sca_sample(state, sizeof state, journal, sizeof journal, 0, 256, output, 15) == SCA_BAD_JOURNAL;
+    channels &= sca_i2c_completion(state, sizeof state, journal, sizeof journal, 256, 1, 0, NULL, 0, output, 15) == SCA_BAD_JOURNAL;
     state[2] = 2;
     ports &= sca_frame(state, sizeof state, journal, sizeof journal, 256, NULL, 0, output, 15) == SCA_BAD_STATE;
     kinds &= sca_sample(state, sizeof state, journal, sizeof journal, 0, 256, output, 15) == SCA_BAD_STATE;
+    channels &= sca_i2c_completion(state, sizeof state, journal, sizeof journal, 256, 1, 0, NULL, 0, output, 15) == SCA_BAD_STATE;
     check(ports, "port 256 is refused after 6, 4 and 1, and before 2");
     check(kinds, "edge kind 256 is refused after 6, 4 and 1");
+    check(channels, "I2C channel 256 is refused after 6, 4 and 1");
 }
 
 static void version(void) {
-    check(SCA_VERSION == (1 << 16 | 1 << 8 | 0) && sca_version() == SCA_VERSION, "the library is of the header's version, 1.1.0");
+    check(SCA_VERSION == (1 << 16 | 2 << 8 | 0) && sca_version() == SCA_VERSION, "the library is of the header's version, 1.2.0");
 }
 
 static void readers(void) {
@@ -150,7 +169,7 @@ static void texts(void) {
     check(others, "what is no number is an unknown one");
     begin();
     check(strcmp(sca_text(sca_number(frame(256, "\x00\x2F", 2))),
-                 "the port is not 0 or 1, the edge kind is over 2, or the completion is not 16 bytes") == 0,
+                 "the port is not 0 or 1, the edge kind is over 2, the channel is not I2C, or the completion is not 16 bytes (I2C: over 16)") == 0,
           "a result in words");
 }
 
@@ -202,19 +221,69 @@ static void state_bytes(void) {
     check(done && memcmp(state + 5, disabled + 5, sizeof disabled - 5) == 0, "the loopback of each port has a byte of its own");
 }
 
+/* The bytes of master n, of channel 0x03 + n, are played to be their own places in the state, but for STATUS, TRN and CMD: an unknown code, a
+ * start that ends in each way, MASK, CTRL, DATA, and a start that stays open. */
+static void master_bytes(void) {
+    static const uint8_t starts[][2] = {{0x82, 4}, {0x86, 4}, {0x8A, 6}, {0x8E, 4}, {0xC2, 2}, {0xC6, 2}, {0xCA, 2}};
+    static const uint8_t status[] = {0x24, 0x28, 0x60, 0x68};
+    static const uint8_t switches[] = {0xF8, 0xFF, 0x07};
+    static uint8_t expected[SCA_STATE_BYTES];
+    unsigned place = 1;
+    int done = 1, disabled = 1;
+    begin();
+    memcpy(expected, state, sizeof expected);
+    for (unsigned at = 0; at < 3; at++, place++) done &= sca_length(request(place, 0x00, 4, (uint8_t)(2 + 2 * at), (uint32_t)switches[at] << 24)) == 10;
+    for (unsigned n = 0; n < 16; n++) {
+        unsigned m = 75 + 21 * n;
+        uint8_t channel = (uint8_t)(SCA_I2C_FIRST + n);
+        const uint8_t *start = starts[n % 7];
+        done &= sca_length(request(place++, channel, 0, 0xFF, 0)) == 10 && output[4] == 0x04;
+        done &= request(place++, channel, 4, 0x82, 0) == SCA_NO_FRAME;
+        done &= sca_length(i2c_completion(channel, !(n & 2), n & 1, NULL, 0)) == 10 && output[7] == status[n % 4];
+        done &= sca_length(request(place++, channel, 1, 0x20, m << 24)) == 10;
+        done &= sca_length(request(place++, channel, 1, 0x30, (m + 1) << 24)) == 10;
+        for (unsigned word = 0; word < 4; word++) {
+            unsigned low = m + 5 + 4 * word;
+            uint32_t data = (low & 0xFF) | ((low + 1) & 0xFF) << 8 | ((low + 2) & 0xFF) << 16 | (uint32_t)((low + 3) & 0xFF) << 24;
+            done &= sca_length(request(place++, channel, 4, (uint8_t)(0x40 + 0x10 * word), data)) == 10;
+        }
+        for (unsigned at = 0; at < 21; at++) expected[m + at] = (uint8_t)(m + at);
+        expected[m + 2] = status[n % 4], expected[m + 3] = (uint8_t)place, expected[m + 4] = start[0];
+        done &= request(place++, channel, start[1], start[0], 0) == SCA_NO_FRAME;
+    }
+    /* 3 replies, and 8 on each channel; 9 requests on each */
+    expected[0] = 131 % 8, expected[1] = 147 % 8, expected[5] = 0xF8, expected[6] = 0xFF, expected[7] = 0x07;
+    check(done && memcmp(state, expected, sizeof expected) == 0, "the masters' bytes are those that sca.h lists");
+    for (unsigned at = 0; at < 3; at++, place++) {
+        static const size_t from[] = {75, 180, 348, 411};
+        disabled &= sca_length(request(place, 0x00, 4, (uint8_t)(2 + 2 * at), 0)) == 10;
+        expected[0] = (expected[0] + 1) % 8, expected[1] = (expected[1] + 1) % 8, expected[5 + at] = 0;
+        memset(expected + from[at], 0, from[at + 1] - from[at]);
+        disabled &= memcmp(state, expected, sizeof expected) == 0;
+    }
+    check(disabled, "disabled masters hold zeros, those of CRB, of CRC and of CRD");
+}
+
 /* The journal's bytes as docs/JOURNAL.md lists them, after events of each kind. A row is the front of a slot: the tag, then the state's bytes
- * 0 to 15 as they were before the event. Behind it the registers that CRB switches, with tag 1 alone. */
+ * 0 to 15 as they were before the event. Behind it the registers that CRB, CRC or CRD switches, with tag 1, 2 or 3. */
 static void record_bytes(void) {
+    static const size_t group_bytes[] = {0, 160, 168, 63};
     static const uint8_t fronts[][17] = {
         {1},
-        {2, 1, 1, 0, 0, 0, 0x06},
-        {3, 2, 2, 0, 0, 0, 0x06, 0x55},
-        {0, 3, 3, 0, 0, 0, 0x06, 0x55, 0x08},
-        {1, 4, 4, 0, 0, 0, 0x06, 0x55, 0x08, 0, 0, 0, 0, 0, 0x77},
-        {1, 5, 5, 0, 0, 0, 0x06, 0x55, 0x08, 0, 0, 0, 0, 0, 0x77},
-        {0, 5, 5, 0, 0, 0, 0x06, 0x55, 0x08, 0, 0, 0, 0, 0, 0x77},
-        {0, 5, 5, 0, 0, 0, 0x06, 0x55, 0x08, 1, 0, 0, 0, 0, 0x77},
-        {1, 5, 5, 0, 0, 1, 0x06, 0x55, 0x08, 1, 0, 0, 0, 0, 0x77},
+        {2, 1, 1, 0, 0, 0, 0x0E},
+        {3, 2, 2, 0, 0, 0, 0x0E, 0x55},
+        {0, 3, 3, 0, 0, 0, 0x0E, 0x55, 0x09},
+        {1, 4, 4, 0, 0, 0, 0x0E, 0x55, 0x09, 0, 0, 0, 0, 0, 0x77},
+        {1, 5, 5, 0, 0, 0, 0x0E, 0x55, 0x09, 0, 0, 0, 0, 0, 0x77},
+        {0, 5, 5, 0, 0, 0, 0x0E, 0x55, 0x09, 0, 0, 0, 0, 0, 0x77},
+        {0, 5, 5, 0, 0, 0, 0x0E, 0x55, 0x09, 1, 0, 0, 0, 0, 0x77},
+        {1, 5, 5, 0, 0, 1, 0x0E, 0x55, 0x09, 1, 0, 0, 0, 0, 0x77},
+        {1, 5, 5, 0, 0, 1, 0x0E, 0x55, 0x09, 1, 0, 0, 0, 0, 0x77},
+        {2, 6, 6, 0, 0, 1, 0x0E, 0x55, 0x09, 1, 0, 0, 0, 0, 0x77},
+        {3, 7, 7, 0, 0, 1, 0x0E, 0x55, 0x09, 1, 0, 0, 0, 0, 0x77},
+        {1, 0, 0, 0, 0, 1, 0x0E, 0x55, 0x09, 1, 0, 0, 0, 0, 0x77},
+        {2, 0, 0, 0, 0, 1, 0x0E, 0x55, 0x09, 1, 0, 0, 0, 0, 0x77},
+        {3, 0, 0, 0, 0, 1, 0x0E, 0x55, 0x09, 1, 0, 0, 0, 0, 0x77},
     };
     static const uint8_t received[SCA_TRANSFER_BYTES];
     static uint8_t expected[SCA_JOURNAL_BYTES];
@@ -222,19 +291,24 @@ static void record_bytes(void) {
     memset(journal, 0xEE, sizeof journal);
     memset(expected, 0xEE, sizeof expected);
     begin();
-    done &= sca_length(request(1, 0x00, 4, 0x02, 0x06000000)) == 10 && sca_length(request(2, 0x00, 4, 0x04, 0x55000000)) == 10;
-    done &= sca_length(request(3, 0x00, 4, 0x06, 0x08000000)) == 10 && sca_length(request(4, 0x15, 4, 0x20, 0x00000077)) == 10;
+    done &= sca_length(request(1, 0x00, 4, 0x02, 0x0E000000)) == 10 && sca_length(request(2, 0x00, 4, 0x04, 0x55000000)) == 10;
+    done &= sca_length(request(3, 0x00, 4, 0x06, 0x09000000)) == 10 && sca_length(request(4, 0x15, 4, 0x20, 0x00000077)) == 10;
     done &= sca_length(request(5, 0x01, 6, 0x60, 0x00000099)) == 10 && sample(0x04030201, SCA_SYSTEM_CLOCK) == SCA_NO_FRAME;
     done &= upset() == SCA_NO_FRAME && sca_length(frame(SCA_AUXILIARY, "\x00\xE3", 2)) == 2;
     done &= completion(received, sizeof received) == SCA_NOT_BUSY;
-    memcpy(expected, "SCJ\x01\x00\x00\x09", 7);
+    done &= sca_length(request(6, 0x03, 1, 0x20, 0xA1000000)) == 10 && sca_length(request(7, 0x08, 1, 0x20, 0xA2000000)) == 10;
+    done &= sca_length(request(8, 0x10, 1, 0x20, 0xA3000000)) == 10 && i2c_completion(0x07, 1, 0, NULL, 0) == SCA_NOT_BUSY;
+    done &= i2c_completion(0x0F, 1, 0, NULL, 0) == SCA_NOT_BUSY && i2c_completion(0x12, 1, 0, NULL, 0) == SCA_NOT_BUSY;
+    memcpy(expected, "SCJ\x01\x00\x00\x0F", 7);
     for (size_t row = 0; row < sizeof fronts / sizeof fronts[0]; row++) {
         uint8_t *slot = expected + 1024 + 256 * row;
         memcpy(slot, fronts[row], sizeof fronts[row]);
-        if (slot[0] == 1) memset(slot + 17, 0, 55);
+        memset(slot + 17, 0, group_bytes[slot[0]]);
         if (slot[0] == 1 && row >= 5) slot[21] = 0x99; /* SS, the state's byte 24 */
         if (slot[0] == 1 && row >= 6) memcpy(slot + 43, "\x01\x02\x03\x04", 4); /* DATAIN, bytes 46 to 49 */
     }
+    /* MASK of the first master of CRB, of CRC and of CRD: the state's bytes 75, 180 and 348 */
+    expected[1024 + 256 * 12 + 17 + 55] = 0xA1, expected[1024 + 256 * 13 + 17] = 0xA2, expected[1024 + 256 * 14 + 17] = 0xA3;
     check(done && memcmp(journal, expected, sizeof expected) == 0, "the journal's bytes are those that docs/JOURNAL.md lists");
 }
 
@@ -296,6 +370,31 @@ static void later_answers(void) {
           "CONNECT is acknowledged on its own port");
 }
 
+/* Reads and writes on two masters at once, and a step back over each end. */
+static void i2c_exchange(void) {
+    int good = 1;
+    begin();
+    request(1, 0x00, 4, 0x02, 0x08000000);
+    request(2, 0x00, 4, 0x06, 0x04000000);
+    request(3, 0x03, 1, 0x30, 0x0C000000);
+    good &= sca_length(request(4, 0x03, 4, 0x40, 0xAABBCCDD)) == 10 && memcmp(output, "\x00\x86\x04\x03\x00\x00\x00\x00\x00\x00", 10) == 0;
+    check(good, "an I2C register is written");
+    check(request(5, 0x03, 4, 0xDE, 0x50000000) == SCA_NO_FRAME && request(6, 0x12, 4, 0x86, 0x51000000) == SCA_NO_FRAME,
+          "I2C starts give SCA_NO_FRAME");
+    good = sca_length(request(7, 0x03, 0, 0x31, 0)) == 10 && memcmp(output, "\x00\xE8\x07\x03\x40\x02\x00\x00\x00\x00", 10) == 0;
+    check(good, "a busy master answers 0x40");
+    good = sca_length(i2c_completion(0x12, 1, 0, "\x99", 1)) == 10 && memcmp(output, "\x00\xEA\x06\x12\x00\x04\x99\x04\x00\x00", 10) == 0;
+    check(good, "a read of one byte has it in its reply");
+    good = sca_length(i2c_completion(0x03, 7, 0, "\x11\x22", 2)) == 10 && memcmp(output, "\x00\xEC\x05\x03\x00\x04\x00\x04\x00\x00", 10) == 0;
+    good &= sca_length(request(8, 0x03, 0, 0x41, 0)) == 10 && memcmp(output, "\x00\x0E\x08\x03\x00\x04\x22\x11\xDD\x00", 10) == 0;
+    check(good, "a read of three, of which two came, fills DATA with them and a zero");
+    check(i2c_completion(0x03, 1, 0, NULL, 0) == SCA_NOT_BUSY, "and then there is no start open");
+    for (unsigned step = 0; step < 3; step++) good &= step_back() == SCA_NO_FRAME;
+    good &= sca_length(i2c_completion(0x03, 0, 9, "\x11\x22", 2)) == 10 && memcmp(output, "\x00\xEC\x05\x03\x00\x04\x00\x48\x00\x00", 10) == 0;
+    good &= sca_length(request(8, 0x03, 0, 0x41, 0)) == 10 && memcmp(output, "\x00\x0E\x08\x03\x00\x04\xBB\xAA\xDD\xCC", 10) == 0;
+    check(good, "taken back, it ends in another way, and DATA stays");
+}
+
 int main(void) {
     sizes();
     kept();
@@ -306,8 +405,10 @@ int main(void) {
     readers();
     texts();
     state_bytes();
+    master_bytes();
     record_bytes();
     listing();
     later_answers();
+    i2c_exchange();
     return failures != 0;
 }

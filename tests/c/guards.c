@@ -68,9 +68,9 @@ static void touched(int signal) {
 
 /* -------------------------------------------------------------------- calls */
 
-enum call { FRAME, COMPLETION, SAMPLE, UPSET, STEP_BACK, CALLS };
+enum call { FRAME, COMPLETION, I2C, SAMPLE, UPSET, STEP_BACK, CALLS };
 
-static uint32_t port, kind;
+static uint32_t port, kind, channel, acknowledge, line_low;
 
 static uint64_t call(enum call call) {
     switch (call) {
@@ -78,6 +78,9 @@ static uint64_t call(enum call call) {
         return sca_frame(state.at, state.length, journal.at, journal.length, port, body.at, body.length, output.at, output.length);
     case COMPLETION:
         return sca_completion(state.at, state.length, journal.at, journal.length, received.at, received.length, output.at, output.length);
+    case I2C:
+        return sca_i2c_completion(state.at, state.length, journal.at, journal.length, channel, acknowledge, line_low, received.at, received.length,
+                                  output.at, output.length);
     case SAMPLE:
         return sca_sample(state.at, state.length, journal.at, journal.length, 0xFFFF0000, kind, output.at, output.length);
     case UPSET:
@@ -88,22 +91,34 @@ static uint64_t call(enum call call) {
 }
 
 /* A record stands at the front of its slot: its tag, the state's bytes 0 to 15, then those of its tag's group. docs/JOURNAL.md has them. */
-enum { CORE_BYTES = 16, GROUP_AT = 20, GROUP_OF_CRB_BYTES = 55, SLOTS_AT = 1024, SLOT_BYTES = 256 };
+enum { CORE_BYTES = 16, SLOTS_AT = 1024, SLOT_BYTES = 256, MASTERS_AT = 75, MASTER_BYTES = 21 };
 
-static size_t group_bytes(uint8_t tag) { return tag == 1 ? GROUP_OF_CRB_BYTES : 0; }
+/* Where the group of tag 1, 2 and 3 begins in a state: that of CRB, of CRC, of CRD. The last ends with it; tag 0 has none. */
+static const size_t groups[] = {20, 20, 180, 348, SCA_STATE_BYTES};
+enum { GROUPS_AT = 20, GROUP_MOST = 168 };
+
+static size_t group_at(uint8_t tag) { return groups[tag]; }
+
+static size_t group_bytes(uint8_t tag) { return tag == 0 ? 0 : groups[tag + 1] - groups[tag]; }
 
 static uint8_t *slot_of(uint8_t *bytes, unsigned after_first) {
     return bytes + SLOTS_AT + SLOT_BYTES * (size_t)((bytes[5] + after_first) % SCA_KEPT_MOST);
 }
 
+/* The tag of the register that switches a channel. */
+static uint8_t tag_of_channel(uint32_t number) {
+    return number == 0x00 || number > SCA_I2C_LAST ? 0 : number <= 0x07 ? 1 : number <= 0x0F ? 2 : 3;
+}
+
 /* The tag of an event's record: the event alone decides. */
 static uint8_t tag_of(enum call which) {
-    uint8_t channel, command;
+    uint8_t command;
+    if (which == I2C) return tag_of_channel(channel);
     if (which != FRAME) return which == UPSET ? 0 : 1;
     if (body.length != 10) return 0;
-    channel = body.at[3], command = body.at[5];
-    if (channel == 0x00) return command == 0x02 ? 1 : command == 0x04 ? 2 : command == 0x06 ? 3 : 0;
-    return channel == 0x01 || channel == 0x02 ? 1 : 0;
+    command = body.at[5];
+    if (body.at[3] == 0x00) return command == 0x02 ? 1 : command == 0x04 ? 2 : command == 0x06 ? 3 : 0;
+    return tag_of_channel(body.at[3]);
 }
 
 static int is_reset(enum call which) {
@@ -124,7 +139,7 @@ static int journal_as_left(enum call which) {
     } else {
         slot[0] = tag;
         memcpy(slot + 1, state_was, CORE_BYTES);
-        memcpy(slot + 1 + CORE_BYTES, state_was + GROUP_AT, group_bytes(tag));
+        memcpy(slot + 1 + CORE_BYTES, state_was + group_at(tag), group_bytes(tag));
         if (expected[6] == SCA_KEPT_MOST)
             expected[5] = (expected[5] + 1) % SCA_KEPT_MOST;
         else
@@ -157,19 +172,24 @@ static unsigned number_of(enum call which, int *good) {
 
 static uint8_t some_state[SCA_STATE_BYTES], some_journal[SCA_JOURNAL_BYTES];
 
-/* Plays requests on a new adapter: none, or enough to have every register, loopback and an open GO. Then the event whose record has this tag: an
- * upset, a pin sample, a write of CRC, one of CRD. Unwritten slots hold what CRB's group may hold where it is enabled, or what it never may. */
+/* Plays requests on a new adapter: none, or enough to have something in the registers of every group, loopback, an open GO, and I2C starts open:
+ * of a read of 16 bytes on channel 0x05, and one in each other group. Then the event whose record has this tag: an upset, a pin sample, a write
+ * of CRC, one of CRD. Unwritten slots hold what every group may hold, or what none may. */
 static void reach(int deep, uint8_t tag) {
     static const char *const requests[] = {
         "\x00\x00\x01\x00\x04\x02\x00\xFF\x00\x00", "\x00\x02\x02\x00\x04\x06\x00\xFF\x00\x00",
         "\x00\x04\x03\x02\x04\x20\x55\x55\x00\x00", "\x00\x06\x04\x02\x04\x30\xFF\xFF\xFF\xFF",
         "\x00\x08\x05\x02\x04\x60\x00\x00\x01\x00", "\x00\x0A\x06\x01\x06\x40\x00\x00\x21\x00",
         "\x00\x0C\x07\x01\x06\x10\x12\x34\x56\x78", "\x00\x0E\x08\x15\x04\x30\x00\x00\x99\x00",
-        "\x00\x00\x09\x01\x02\x72\x00\x00\x00\x00",
+        "\x00\x00\x09\x01\x02\x72\x00\x00\x00\x00", "\x00\x02\x0A\x00\x04\x04\x00\xFF\x00\x00",
+        "\x00\x04\x0B\x05\x01\x30\x00\x40\x00\x00", "\x00\x06\x0C\x05\x04\x50\x12\x34\x56\x78",
+        "\x00\x08\x0D\x05\x04\xDE\x00\x50\x00\x00", "\x00\x0A\x0E\x0B\x01\x20\x00\x77\x00\x00",
+        "\x00\x0C\x0F\x0B\x04\x82\x00\x50\x00\x00", "\x00\x0E\x10\x11\x00\xFF\x00\x00\x00\x00",
+        "\x00\x00\x11\x12\x02\xC2\x00\x50\x00\x00",
     };
     uint8_t sent[SCA_OUTPUT_LEAST];
     sca_create(some_state, sizeof some_state, deep ? SCA_ID_MOST : 0x00000A);
-    memset(some_journal, deep ? 0x01 : 0xEE, sizeof some_journal);
+    memset(some_journal, deep ? 0x00 : 0xEE, sizeof some_journal);
     sca_empty(some_journal, sizeof some_journal);
     for (size_t at = 0; deep && at < sizeof requests / sizeof requests[0]; at++)
         sca_frame(some_state, sizeof some_state, some_journal, sizeof some_journal, 0, (const uint8_t *)requests[at], 10, sent, sizeof sent);
@@ -186,7 +206,7 @@ static void reach(int deep, uint8_t tag) {
 
 /* All as it must be for a call to be granted. */
 static void lend_all(void) {
-    port = 0, kind = SCA_SYSTEM_CLOCK;
+    port = 0, kind = SCA_SYSTEM_CLOCK, channel = 0x05, acknowledge = 1, line_low = 0;
     lend_bytes(&state, some_state, sizeof some_state);
     lend_bytes(&journal, some_journal, sizeof some_journal);
     lend_bytes(&body, "\x00\x2F", 2);
@@ -200,11 +220,29 @@ static int all_zero(const uint8_t *bytes, size_t from, size_t to) {
     return 1;
 }
 
+static int among(uint8_t byte, const char *bytes) { return byte != 0 && strchr(bytes, (char)byte) != NULL; }
+
+/* What number 6 asks of one I2C master. */
+static int master_in_range(const uint8_t *master, int enabled) {
+    static const char single[] = "\x82\x86\x8A\x8E\xC2\xC6\xCA", multi[] = "\xDA\xDE\xE2\xE6";
+    unsigned count = master[1] >> 2 & 0x1F;
+    if (!enabled) return all_zero(master, 0, MASTER_BYTES - 1);
+    if (master[2] & 0x93 || (master[3] == 0) != (master[4] == 0)) return 0;
+    return master[4] == 0 || among(master[4], single) || (among(master[4], multi) && count >= 1 && count <= 16);
+}
+
+static int masters_in_range(const uint8_t *bytes) {
+    unsigned enabled = (unsigned)bytes[5] >> 3 | (unsigned)bytes[6] << 5 | (bytes[7] & 7u) << 13;
+    for (unsigned n = 0; n < 16; n++)
+        if (!master_in_range(bytes + MASTERS_AT + MASTER_BYTES * n, enabled >> n & 1)) return 0;
+    return 1;
+}
+
 /* Number 6, on the bytes as sca.h lists them. */
 static int in_range(const uint8_t *bytes) {
     int spi = bytes[5] & 0x02, gpio = bytes[5] & 0x04;
     return bytes[0] <= 7 && bytes[1] <= 7 && bytes[2] <= 1 && bytes[3] <= 1 && bytes[4] <= 1 && !(bytes[5] & 0x01) && !(bytes[7] & 0xE0) &&
-           bytes[19] == 0 && bytes[74] <= 1 && (spi || all_zero(bytes, 20, 41)) && (gpio || all_zero(bytes, 42, 74));
+           bytes[19] == 0 && bytes[74] <= 1 && (spi || all_zero(bytes, 20, 41)) && (gpio || all_zero(bytes, 42, 74)) && masters_in_range(bytes);
 }
 
 /* What a step back by a slot's record makes of a state; it stays where the record is damaged. */
@@ -213,7 +251,7 @@ static int restored(const uint8_t *slot, uint8_t *bytes) {
     if (slot[0] > 3) return 0;
     memcpy(after, bytes, sizeof after);
     memcpy(after, slot + 1, CORE_BYTES);
-    memcpy(after + GROUP_AT, slot + 1 + CORE_BYTES, group_bytes(slot[0]));
+    memcpy(after + group_at(slot[0]), slot + 1 + CORE_BYTES, group_bytes(slot[0]));
     if (!in_range(after)) return 0;
     memcpy(bytes, after, sizeof after);
     return 1;
@@ -332,7 +370,7 @@ static void altered_records(void) {
                 for (size_t bit = 0; bit < 8 * SLOT_BYTES; bit++) {
                     uint8_t byte = (uint8_t)(slot[bit / 8] ^ 1 << bit % 8);
                     bits &= altered_back(some_state, bit / 8, byte);
-                    if (bit / 8 < 1 + CORE_BYTES + GROUP_OF_CRB_BYTES) others &= altered_back(states[!deep], bit / 8, byte);
+                    if (bit / 8 < 1 + CORE_BYTES + GROUP_MOST) others &= altered_back(states[!deep], bit / 8, byte);
                 }
                 for (unsigned other = 0; other <= 0xFF; other++)
                     tags &= altered_back(some_state, 0, (uint8_t)other) && altered_back(states[!deep], 0, (uint8_t)other);
@@ -351,22 +389,28 @@ static void records_apart(void) {
     memcpy(deep, some_state, sizeof deep);
     for (at_end = 0; at_end <= 1; at_end++) {
         unsigned number;
-        /* a new adapter's upset: CRB is off, and the registers that it switches, not in the record, are not 0 */
-        reach(0, 0);
-        lend_all();
-        memcpy(state.at, deep, sizeof deep);
-        number = number_of(STEP_BACK, &good);
-        good &= number == SCA_BAD_JOURNAL;
+        /* a new adapter's events: CRB, CRC and CRD are off, and of the registers that they switch, those not in the record are not 0 */
+        for (uint8_t tag = 0; tag <= 3; tag++) {
+            reach(0, tag);
+            lend_all();
+            memcpy(state.at, deep, sizeof deep);
+            number = number_of(STEP_BACK, &good);
+            good &= number == SCA_BAD_JOURNAL;
+        }
 
-        /* a new adapter's sample: the record has their zeros, so that all is as at power-on but the chip ID */
-        reach(0, 1);
-        lend_all();
-        memcpy(state.at, deep, sizeof deep);
-        number = number_of(STEP_BACK, &good);
-        sca_create(expected, sizeof expected, SCA_ID_MOST);
-        good &= number == SCA_NO_FRAME && memcmp(state.at, expected, sizeof expected) == 0;
+        /* where only those in the record are not 0, it has their zeros, so that all is as at power-on but the chip ID */
+        for (uint8_t tag = 1; tag <= 3; tag++) {
+            reach(0, tag);
+            lend_all();
+            memcpy(state.at, deep, GROUPS_AT);
+            memset(state.at + GROUPS_AT, 0, SCA_STATE_BYTES - GROUPS_AT);
+            memcpy(state.at + group_at(tag), deep + group_at(tag), group_bytes(tag));
+            number = number_of(STEP_BACK, &good);
+            sca_create(expected, sizeof expected, SCA_ID_MOST);
+            good &= number == SCA_NO_FRAME && memcmp(state.at, expected, sizeof expected) == 0;
+        }
 
-        /* the other way round: CRB is on, and the registers stay those of a new adapter */
+        /* the other way round: all are on, and the registers stay those of a new adapter */
         reach(1, 0);
         lend_all();
         sca_create(state.at, state.length, 0x123456);
@@ -374,7 +418,7 @@ static void records_apart(void) {
         memcpy(expected, deep, sizeof expected);
         memset(expected + 8, 0, 4); /* the SEU counter before its upset */
         memcpy(expected + 16, "\x56\x34\x12\x00", 4);
-        memset(expected + GROUP_AT, 0, GROUP_OF_CRB_BYTES);
+        memset(expected + GROUPS_AT, 0, SCA_STATE_BYTES - GROUPS_AT);
         good &= number == SCA_NO_FRAME && memcmp(state.at, expected, sizeof expected) == 0;
     }
     check(good, "what a record has not got is that of the state handed in, and 4 where that is no state");
@@ -382,27 +426,27 @@ static void records_apart(void) {
 
 /* That each leaves the record of its tag, number_of looks at. The bodies stand right before a guard page: a short one has no CH or CMD. */
 static void records_of_frames(void) {
-    static const uint8_t commands[] = {0x01, 0x02, 0x04, 0x06, 0x10, 0x72, 0xF1};
+    static const uint8_t commands[] = {0x01, 0x02, 0x04, 0x06, 0x10, 0x30, 0x72, 0x86, 0xDE, 0xF1};
     static const uint8_t fronts[][2] = {{0x00, 0x02}, {0x00, 0x04}, {0x00, 0x01}, {0x00, 0x2F}, {0x00, 0x8F}, {0xFF, 0x02}};
     int good = 1;
     reach(1, 0);
     at_end = 1;
-    for (unsigned channel = 0; channel <= 0xFF; channel++)
-        for (unsigned at = 0; at < (channel ? sizeof commands : 0x100); at++) {
+    for (unsigned to = 0; to <= 0xFF; to++)
+        for (unsigned at = 0; at < (to ? sizeof commands : 0x100); at++) {
             lend_all();
             lend_bytes(&body, "\x00\x02\x0A\x00\x04\x00\x00\xFE\x00\x00", 10);
-            body.at[3] = (uint8_t)channel, body.at[5] = channel ? commands[at] : (uint8_t)at;
+            body.at[3] = (uint8_t)to, body.at[5] = to ? commands[at] : (uint8_t)at;
             unsigned number = number_of(FRAME, &good);
             good &= !sca_refused(number);
         }
     check(good, "the records of requests to every channel");
     good = 1;
     for (size_t length = SCA_BODY_LEAST; length <= SCA_BODY_MOST; length++)
-        for (uint8_t channel = 0; channel <= 3; channel++)
+        for (uint8_t to = 0; to <= 3; to++)
             for (uint8_t command = 0; command <= 7; command++)
                 for (size_t front = 0; front < sizeof fronts / sizeof fronts[0]; front++)
                     for (uint32_t on = SCA_PRIMARY; on <= SCA_AUXILIARY; on++) {
-                        uint8_t bytes[SCA_BODY_MOST] = {fronts[front][0], fronts[front][1], 0x0A, channel, 0x04, command};
+                        uint8_t bytes[SCA_BODY_MOST] = {fronts[front][0], fronts[front][1], 0x0A, to, 0x04, command};
                         lend_all();
                         port = on;
                         lend_bytes(&body, bytes, length);
@@ -413,7 +457,7 @@ static void records_of_frames(void) {
 }
 
 static void lengths_of_states(void) {
-    static const size_t lengths[] = {0, SCA_STATE_BYTES - 1, SCA_STATE_BYTES, SCA_STATE_BYTES + 1};
+    static const size_t lengths[] = {0, MASTERS_AT, SCA_STATE_BYTES - 1, SCA_STATE_BYTES, SCA_STATE_BYTES + 1};
     int good = 1;
     for (size_t at = 0; at < sizeof lengths / sizeof lengths[0]; at++) {
         size_t length = lengths[at];
@@ -432,11 +476,11 @@ static void lengths_of_states(void) {
                 good &= unchanged_after(&state, number == SCA_NO_FRAME ? length : 0);
             }
     }
-    check(good, "states one byte short and long, and of none");
+    check(good, "states one byte short and long, of none, and as before there were masters");
 }
 
 static void arguments(void) {
-    int bodies = 1, transfers = 1, ports = 1, kinds = 1;
+    int bodies = 1, transfers = 1, transactions = 1, ports = 1, kinds = 1, channels = 1;
     for (at_end = 0; at_end <= 1; at_end++) {
         for (size_t length = 0; length <= 20; length++) {
             lend_all();
@@ -445,6 +489,9 @@ static void arguments(void) {
             lend_all();
             lend(&received, length);
             transfers &= (number_of(COMPLETION, &transfers) == SCA_BAD_ARGUMENT) == (length != 16);
+            lend_all();
+            lend(&received, length);
+            transactions &= number_of(I2C, &transactions) == (length > 16 ? SCA_BAD_ARGUMENT : SCA_HAS_FRAME);
         }
         for (unsigned at = 0; at <= 0x3FF; at++) {
             uint32_t value = at <= 0x2FF ? at : 0xFFFFFC00 + at; /* 0 to 767, then the last 256 numbers of 32 bits */
@@ -454,6 +501,9 @@ static void arguments(void) {
             lend_all();
             kind = value;
             kinds &= (number_of(SAMPLE, &kinds) == SCA_BAD_ARGUMENT) == (value > 2);
+            lend_all();
+            channel = value;
+            channels &= (number_of(I2C, &channels) == SCA_BAD_ARGUMENT) == (value < SCA_I2C_FIRST || value > SCA_I2C_LAST);
         }
         for (unsigned bit = 8; bit < 32; bit++) { /* one bit above a low byte that would do */
             lend_all();
@@ -462,12 +512,43 @@ static void arguments(void) {
             lend_all();
             kind = (uint32_t)1 << bit | SCA_STROBE_FALLING;
             kinds &= number_of(SAMPLE, &kinds) == SCA_BAD_ARGUMENT;
+            lend_all();
+            channel = (uint32_t)1 << bit | 0x05;
+            channels &= number_of(I2C, &channels) == SCA_BAD_ARGUMENT;
         }
     }
     check(bodies, "bodies of 0 to 20 bytes");
     check(transfers, "completions of 0 to 20 bytes");
+    check(transactions, "I2C completions of 0 to 20 bytes");
     check(ports, "every port up to 767, and those of one more bit");
     check(kinds, "every edge kind up to 767, and those of one more bit");
+    check(channels, "every I2C channel up to 767, and those of one more bit");
+}
+
+/* A read of each NBYTE that gets each number of bytes, the last of them right before a guard page: what DATA then holds. */
+static void receptions(void) {
+    const size_t master = MASTERS_AT + MASTER_BYTES * (0x05 - SCA_I2C_FIRST), data = master + 5;
+    int good = 1;
+    for (at_end = 0; at_end <= 1; at_end++)
+        for (unsigned count = 1; count <= SCA_I2C_MOST; count++)
+            for (unsigned length = 0; length <= SCA_I2C_MOST; length++)
+                for (unsigned way = 0; way < 4; way++) {
+                    uint8_t was[16];
+                    lend_all();
+                    acknowledge = way & 1, line_low = way & 2;
+                    state.at[master + 1] = (uint8_t)(count << 2);
+                    for (unsigned k = 0; k < 16; k++) state.at[data + k] = (uint8_t)(0xA0 + k);
+                    memcpy(was, state.at + data, sizeof was);
+                    lend(&received, length);
+                    unsigned number = number_of(I2C, &good);
+                    good &= number == SCA_HAS_FRAME;
+                    for (unsigned k = 0; k < 16; k++) {
+                        unsigned at = 4 * (k / 4) + 3 - k % 4;
+                        uint8_t due = k >= count || way != 1 ? was[at] : k < length ? received.at[k] : 0;
+                        good &= state.at[data + at] == due;
+                    }
+                }
+    check(good, "I2C reads of 1 to 16 bytes that get 0 to 16, ended in each way");
 }
 
 /* Of several reasons to refuse, the first in the order 6, 4, 1, 3, 2. */
@@ -486,6 +567,24 @@ static void order(void) {
             good &= number == first;
         }
     check(good, "of several reasons the first in order");
+}
+
+/* The same for an I2C completion: 6, 4, 1, 3, the last for its channel or its bytes. */
+static void i2c_order(void) {
+    int good = 1;
+    for (at_end = 0; at_end <= 1; at_end++)
+        for (unsigned wrong = 1; wrong < 32; wrong++) {
+            unsigned first = wrong & 1 ? 6 : wrong & 2 ? 4 : wrong & 4 ? 1 : 3;
+            lend_all();
+            if (wrong & 1) state.at[MASTERS_AT + 2] = 0x80;
+            if (wrong & 2) journal.at[0] = 0;
+            if (wrong & 4) lend(&output, SCA_OUTPUT_LEAST - 1);
+            if (wrong & 8) channel = at_end ? 256 : SCA_I2C_LAST + 1;
+            if (wrong & 16) lend(&received, SCA_I2C_MOST + 1);
+            unsigned number = number_of(I2C, &good);
+            good &= number == first;
+        }
+    check(good, "and at an I2C completion");
 }
 
 static void no_buffers(void) {
@@ -642,7 +741,9 @@ int main(void) {
     headers_of_journals();
     lengths_of_states();
     arguments();
+    receptions();
     order();
+    i2c_order();
     no_buffers();
     bits_of_states();
     altered_records();

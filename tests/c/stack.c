@@ -8,7 +8,7 @@
 #include "check.h"
 #include "sca.h"
 
-enum { STACK = 1 << 16, PAINT = 0xA5, MOST = 700 };
+enum { STACK = 1 << 16, PAINT = 0xA5, MOST = 768 };
 
 static uint8_t state[SCA_STATE_BYTES], journal[SCA_JOURNAL_BYTES], output[SCA_CABLE_MOST], receiver[SCA_RECEIVER_BYTES];
 static uint8_t cable[SCA_CABLE_MOST];
@@ -46,6 +46,17 @@ static void waiting(void) {
     frame(intenable, sizeof intenable);
 }
 
+/* All masters of CRC on; a read of 16 bytes is open. */
+static void transacting(void) {
+    static const uint8_t crc[] = {0x00, 0x00, 0x01, 0x00, 0x04, 0x04, 0x00, 0xFF, 0x00, 0x00};
+    static const uint8_t ctrl[] = {0x00, 0x02, 0x02, 0x0F, 0x01, 0x30, 0x00, 0x40, 0x00, 0x00};
+    static const uint8_t start[] = {0x00, 0x04, 0x03, 0x0F, 0x04, 0xDE, 0x00, 0x50, 0x00, 0x00};
+    fresh();
+    frame(crc, sizeof crc);
+    frame(ctrl, sizeof ctrl);
+    frame(start, sizeof start);
+}
+
 /* A link number of the newest record is out of range. */
 static void damaged(void) {
     enabled();
@@ -77,6 +88,17 @@ static void write_data(void) {
     frame(body, sizeof body);
 }
 
+/* Eight masters are disabled, one of them busy. */
+static void write_crc(void) {
+    static const uint8_t body[] = {0x00, 0x06, 0x04, 0x00, 0x04, 0x04, 0x00, 0x00, 0x00, 0x00};
+    frame(body, sizeof body);
+}
+
+static void start_i2c(void) {
+    static const uint8_t body[] = {0x00, 0x06, 0x04, 0x08, 0x04, 0x86, 0x00, 0x50, 0x00, 0x00};
+    frame(body, sizeof body);
+}
+
 static void reset(void) {
     static const uint8_t body[] = {0x00, 0x8F};
     frame(body, sizeof body);
@@ -85,6 +107,16 @@ static void reset(void) {
 static void completion(void) {
     static const uint8_t received[SCA_TRANSFER_BYTES];
     sca_completion(state, sizeof state, journal, sizeof journal, received, sizeof received, output, sizeof output);
+}
+
+static void i2c_completion(void) {
+    static const uint8_t received[SCA_I2C_MOST];
+    sca_i2c_completion(state, sizeof state, journal, sizeof journal, 0x0F, 1, 0, received, sizeof received, output, sizeof output);
+}
+
+static void transacted(void) {
+    transacting();
+    i2c_completion();
 }
 
 static void sample(void) { sca_sample(state, sizeof state, journal, sizeof journal, 1, 0, output, sizeof output); }
@@ -140,10 +172,14 @@ int main(void) {
     flat(enabled, write_crb, "sca_frame with a write of CRB");
     flat(enabled, write_data, "sca_frame with a write of DATA");
     flat(enabled, reset, "sca_frame with a RESET");
+    flat(transacting, write_crc, "sca_frame with a write of CRC");
+    flat(transacting, start_i2c, "sca_frame with an I2C start");
     flat(busy, completion, "sca_completion");
+    flat(transacting, i2c_completion, "sca_i2c_completion");
     flat(waiting, sample, "sca_sample with an interrupt");
     flat(fresh, upset, "sca_upset");
     flat(enabled, step_back, "sca_step_back");
+    flat(transacted, step_back, "sca_step_back over an I2C completion");
     flat(damaged, step_back, "sca_step_back over a damaged record");
     flat(fresh, transmit, "sca_transmit");
     flat(hunting, receive, "sca_receive");

@@ -2,6 +2,7 @@
 
 use crate::harness::hex::{bytes_in, Hex};
 use reference::adapter::State;
+use sca::{I2C_FIRST, I2C_MOST};
 use std::fmt;
 
 /// Where a frame arrives.
@@ -41,6 +42,23 @@ pub enum Call {
     },
     Completion {
         received: Vec<u8>,
+        room: usize,
+    },
+    I2cCompletion {
+        channel: u32,
+        acknowledge: u32,
+        line_low: u32,
+        received: Vec<u8>,
+        room: usize,
+    },
+    /// The end of an I2C start that the state which it finds has open: of the `nth` one, from 0 and round again; where none is,
+    /// of the `nth` master. `more` is added to NBYTE for the number of bytes received, as far as `bytes` has them.
+    Ending {
+        nth: usize,
+        acknowledge: u32,
+        line_low: u32,
+        more: isize,
+        bytes: [u8; I2C_MOST],
         room: usize,
     },
     Sample {
@@ -91,7 +109,7 @@ pub enum Call {
 }
 
 impl Call {
-    /// The call as it is for the state that it finds: a request is the frame that it makes.
+    /// The call as it is for the state that it finds: a request is the frame that it makes, an ending the completion.
     pub fn found_by(&self, state: &State) -> Call {
         let inner = |call: &Call| Box::new(call.found_by(state));
         match self {
@@ -108,6 +126,24 @@ impl Call {
                 Call::Frame {
                     port: u32::from(state.active) ^ u32::from(*way == Way::Other),
                     body,
+                    room: *room,
+                }
+            }
+            Call::Ending {
+                nth,
+                acknowledge,
+                line_low,
+                more,
+                bytes,
+                room,
+            } => {
+                let place = ended(state, *nth);
+                let count = isize::from(state.masters[place].control >> 2 & 0x1F) + more;
+                Call::I2cCompletion {
+                    channel: u32::from(I2C_FIRST) + place as u32,
+                    acknowledge: *acknowledge,
+                    line_low: *line_low,
+                    received: bytes[..count.clamp(0, I2C_MOST as isize) as usize].to_vec(),
                     room: *room,
                 }
             }
@@ -142,6 +178,19 @@ impl Call {
     }
 }
 
+/// The place of the nth master with a start open, round again; where none is open, of the nth master.
+fn ended(state: &State, nth: usize) -> usize {
+    let masters = state.masters.iter().enumerate();
+    let open: Vec<usize> = masters
+        .filter(|(_, master)| master.command != 0)
+        .map(|(place, _)| place)
+        .collect();
+    match open.len() {
+        0 => nth % state.masters.len(),
+        count => open[nth % count],
+    }
+}
+
 /// As in a bench listing, with the output's room behind; the other calls by their names.
 impl fmt::Display for Call {
     fn fmt(&self, out: &mut fmt::Formatter) -> fmt::Result {
@@ -152,6 +201,17 @@ impl fmt::Display for Call {
             Call::Frame { port, body, room } => write!(out, "F {} {} {}", port, Hex(body), room),
             Call::Request { information, .. } => write!(out, "request {}", Hex(information)),
             Call::Completion { received, room } => write!(out, "S {} {}", Hex(received), room),
+            Call::I2cCompletion {
+                channel,
+                acknowledge,
+                line_low,
+                received,
+                room,
+            } => {
+                let bytes = Hex(received);
+                write!(out, "I {:02x} {} {} {} {}", channel, acknowledge, line_low, bytes, room)
+            }
+            Call::Ending { nth, bytes, .. } => write!(out, "ending {} {}", nth, Hex(bytes)),
             Call::Sample { levels, kind, room } => write!(out, "P {:08x} {} {}", levels, kind, room),
             Call::Upset { room } => write!(out, "U {}", room),
             Call::StepBack => write!(out, "B"),
@@ -190,6 +250,13 @@ fn call_of(words: &[&str]) -> Option<Call> {
             room: number(room)?,
         }),
         ["S", received, room] => Some(Call::Completion {
+            received: bytes_in(received)?,
+            room: number(room)?,
+        }),
+        ["I", channel, acknowledge, line_low, received, room] => Some(Call::I2cCompletion {
+            channel: u32::from_str_radix(channel, 16).ok()?,
+            acknowledge: word(acknowledge)?,
+            line_low: word(line_low)?,
             received: bytes_in(received)?,
             room: number(room)?,
         }),

@@ -1,7 +1,13 @@
-//! A state's 75 bytes, field by field, as docs/JOURNAL.md lists them.
+//! A state's 411 bytes, field by field, as docs/JOURNAL.md lists them.
 
-use reference::adapter::{Gpio, Spi, State};
+use reference::adapter::{Gpio, Master, Spi, State};
 use sca::STATE_BYTES;
+
+/// Where the I2C masters stand, and the bytes of each.
+pub const MASTERS_AT: usize = 75;
+pub const MASTER_BYTES: usize = 21;
+/// Where a master's DATA stands in its own bytes.
+pub const DATA_AT: usize = 5;
 
 fn word(bytes: &[u8], at: usize) -> u32 {
     u32::from_le_bytes([bytes[at], bytes[at + 1], bytes[at + 2], bytes[at + 3]])
@@ -16,7 +22,51 @@ fn spelled(bytes: &[u8]) -> bool {
     [3, 4, 74].iter().all(|at| bytes[*at] < 2)
 }
 
-/// The state that bytes spell; none where they are not 75, or a bit is set that no field has.
+/// Where byte k of a master's DATA stands in its own bytes: a word's first byte is its highest, and stands last.
+fn data_at(k: usize) -> usize {
+    DATA_AT + 4 * (k / 4) + 3 - k % 4
+}
+
+fn master_in(bytes: &[u8]) -> Master {
+    let mut data = [0; 16];
+    for (k, byte) in data.iter_mut().enumerate() {
+        *byte = bytes[data_at(k)];
+    }
+    Master {
+        mask: bytes[0],
+        control: bytes[1],
+        status: bytes[2],
+        transaction: bytes[3],
+        command: bytes[4],
+        data,
+    }
+}
+
+fn masters_in(bytes: &[u8]) -> [Master; 16] {
+    let mut masters = [Master::default(); 16];
+    for (master, own) in masters.iter_mut().zip(bytes.chunks(MASTER_BYTES)) {
+        *master = master_in(own);
+    }
+    masters
+}
+
+fn bytes_of_master(master: &Master) -> [u8; MASTER_BYTES] {
+    let mut bytes = [0; MASTER_BYTES];
+    let front = [
+        master.mask,
+        master.control,
+        master.status,
+        master.transaction,
+        master.command,
+    ];
+    bytes[..DATA_AT].copy_from_slice(&front);
+    for (k, byte) in master.data.iter().enumerate() {
+        bytes[data_at(k)] = *byte;
+    }
+    bytes
+}
+
+/// The state that bytes spell; none where they are not 411, or a bit is set that no field has.
 pub fn state_in(bytes: &[u8]) -> Option<State> {
     if bytes.len() != STATE_BYTES || !spelled(bytes) {
         return None;
@@ -51,12 +101,14 @@ pub fn state_in(bytes: &[u8]) -> Option<State> {
             edgesel: words(70),
             intenable: u32::from(bytes[74]),
         },
+        masters: masters_in(&bytes[MASTERS_AT..]),
     })
 }
 
 pub fn bytes_of(state: &State) -> Vec<u8> {
     let (spi, gpio) = (&state.spi, &state.gpio);
-    let mut bytes = vec![state.send, state.receive, state.active];
+    let mut bytes = Vec::with_capacity(STATE_BYTES);
+    bytes.extend([state.send, state.receive, state.active]);
     bytes.extend(state.loopback.map(u8::from));
     bytes.extend([state.crb, state.crc, state.crd]);
     bytes.extend(state.seu.to_le_bytes());
@@ -79,5 +131,6 @@ pub fn bytes_of(state: &State) -> Vec<u8> {
     ];
     bytes.extend(gpios.iter().flat_map(|word| word.to_le_bytes()));
     bytes.push(gpio.intenable as u8);
+    bytes.extend(state.masters.iter().flat_map(bytes_of_master));
     bytes
 }

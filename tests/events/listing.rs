@@ -54,6 +54,21 @@ impl Player {
                 adapter::completion(state, journal, &received, &mut output);
                 Some(format!("S {}", hex(&received)))
             }
+            Call::I2cCompletion {
+                channel,
+                acknowledge,
+                line_low,
+                received,
+                ..
+            } if channel <= 0xFF && acknowledge <= 1 && line_low <= 1 => {
+                adapter::i2c_completion(state, journal, channel, acknowledge, line_low, &received, &mut output);
+                let line = format!("I {:02x} {} {}", channel, acknowledge, line_low);
+                Some(if received.is_empty() {
+                    line
+                } else {
+                    format!("{} {}", line, hex(&received))
+                })
+            }
             Call::Sample { levels, kind, .. } if kind <= 9 => {
                 adapter::sample(state, journal, levels, kind, &mut output);
                 Some(format!("P {:08x} {}", levels, kind))
@@ -90,7 +105,7 @@ fn in_either_case(chance: &mut Chance, line: String) -> Vec<u8> {
 
 /// A line that is none: nearly one, or of any bytes.
 fn unreadable(chance: &mut Chance) -> Vec<u8> {
-    const LINES: [&str; 30] = [
+    const LINES: [&str; 55] = [
         "",
         " ",
         "F",
@@ -114,6 +129,31 @@ fn unreadable(chance: &mut Chance) -> Vec<u8> {
         "S 00",
         "S 0000000000000000000000000000000",
         "S 000000000000000000000000000000000",
+        "I",
+        "I 03",
+        "I 03 1",
+        "I 03 1 ",
+        "I 03 1 0 ",
+        "I 3 1 0",
+        "I 003 1 0",
+        "I 0x03 1 0",
+        "I 0g 1 0",
+        "I 03 2 0",
+        "I 03 1 2",
+        "I 03 a 0",
+        "I 03 -1 0",
+        "I 03 01 0",
+        "I 03 1 00",
+        "I  03 1 0",
+        "I 03  1 0",
+        "I 03 1  0",
+        "I 03 1 0  11",
+        "I 03 1 0 1",
+        "I 03 1 0 111",
+        "I 03 1 0 11 22",
+        "I 03 1 0 1g",
+        "I03 1 0",
+        "i 03 1 0",
         "P 0000000 0",
         "P 000000000 0",
         "P 00000000",

@@ -11,11 +11,13 @@
 #![forbid(unsafe_code)]
 
 mod calls;
+mod exchanges;
 mod fault;
 #[path = "../harness/mod.rs"]
 mod harness;
 mod image;
 mod listing;
+mod masters;
 mod record;
 mod ring;
 mod run;
@@ -96,16 +98,17 @@ fn all_seen(tally: &Tally) -> bool {
         )
     };
     let some = |what: &str, count: u64| say(count > 0, &format!("{}: {}", what, count));
-    let commands = streams::COMMANDS
+    let commands = streams::commands()
         .iter()
         .all(|(channel, command, _)| tally.commands.contains(&(*channel, *command)));
-    let results = [
+    let mut results = vec![
         say(tally.events >= EVENTS, &format!("at least {} events", EVENTS)),
         numbers("a creation", &tally.create, &[17, 6, 7]),
         numbers("an emptying", &tally.empty, &[17, 4]),
         numbers("a counting", &tally.kept, &[17, 4]),
         numbers("a frame", &tally.frame, &[0, 1, 2, 3, 4, 6, 11, 12, 13, 14, 17]),
         numbers("a completion", &tally.completion, &[0, 1, 3, 4, 6, 15]),
+        numbers("an I2C completion", &tally.i2c_completion, &[0, 1, 3, 4, 6, 15]),
         numbers("a pin sample", &tally.sample, &[0, 1, 3, 4, 6, 16, 17]),
         some("ports refused for what stands above their low byte", tally.wide_ports),
         some("edge kinds refused so", tally.wide_kinds),
@@ -146,6 +149,7 @@ fn all_seen(tally: &Tally) -> bool {
         some("the SEU counter from its end to 0", tally.counter_wrapped),
         some("64 steps back in a row and one more", tally.whole_journals_back),
     ];
+    results.extend(tally.masters.all_seen());
     results.iter().all(|holds| *holds)
 }
 

@@ -17,12 +17,16 @@ pub const TAGS: [u8; 4] = [CORE, CRB, CRC, CRD];
 const CORE_BYTES: usize = 16;
 /// Where the group's bytes stand in a record.
 const GROUP_AT: usize = 1 + CORE_BYTES;
+/// Where the groups of CRB, CRC and CRD begin in a state; the last ends with it.
+const GROUPS: [usize; 3] = [20, 180, 348];
 
-/// The state's bytes of a tag's group; none where it is no tag. CRC and CRD switch no registers yet.
+/// The state's bytes of a tag's group; none where it is no tag.
 fn group(tag: u8) -> Option<Range<usize>> {
     match tag {
-        CRB => Some(20..STATE_BYTES),
-        CORE | CRC | CRD => Some(STATE_BYTES..STATE_BYTES),
+        CORE => Some(STATE_BYTES..STATE_BYTES),
+        CRB => Some(GROUPS[0]..GROUPS[1]),
+        CRC => Some(GROUPS[1]..GROUPS[2]),
+        CRD => Some(GROUPS[2]..STATE_BYTES),
         _ => None,
     }
 }
@@ -35,15 +39,26 @@ pub fn tag_of(event: &Call) -> u8 {
             _ => CORE,
         },
         Call::Completion { .. } | Call::Sample { .. } => CRB,
+        Call::I2cCompletion { channel, .. } => tag_of_channel(*channel),
         _ => CORE,
     }
 }
 
 fn tag_of_request(channel: u8, command: u8) -> u8 {
     match (channel, command) {
-        (0x00, 0x02) | (0x01, _) | (0x02, _) => CRB,
+        (0x00, 0x02) => CRB,
         (0x00, 0x04) => CRC,
         (0x00, 0x06) => CRD,
+        _ => tag_of_channel(u32::from(channel)),
+    }
+}
+
+/// The tag of the register that enables a channel with registers of its own.
+pub fn tag_of_channel(channel: u32) -> u8 {
+    match channel {
+        0x01..=0x07 => CRB,
+        0x08..=0x0F => CRC,
+        0x10..=0x12 => CRD,
         _ => CORE,
     }
 }

@@ -3,15 +3,16 @@
 
 use crate::calls::Call;
 use crate::fault::Fault;
+use crate::harness::hex::Hex;
 use crate::harness::output::Output;
 use crate::image::{bytes_of, state_in};
-use crate::record::{tag_of, CRB};
+use crate::record::{tag_of, tag_of_channel, CORE, CRB};
 use crate::ring::Ring;
 use crate::tally::{Back, Tally};
 use reference::adapter::{self, Condition, Journal, State};
 use reference::numbers::{BAD_ID, BAD_JOURNAL, DONE, FRAME, NOTHING_KEPT, OUT_OF_RANGE, UNREADABLE};
 use sca::boundary::{self, RawAnswer};
-use sca::{JOURNAL_BYTES, STATE_BYTES};
+use sca::{I2C_FIRST, JOURNAL_BYTES, STATE_BYTES};
 
 type Checked = Result<(), String>;
 
@@ -24,6 +25,17 @@ fn same<T: PartialEq + std::fmt::Debug>(what: &str, ours: T, expected: T) -> Che
     } else {
         Err(format!("{}: the library has {:?}, expected {:?}", what, ours, expected))
     }
+}
+
+/// The same for many bytes, of which the first that differ are shown.
+fn same_bytes(what: &str, ours: &[u8], expected: &[u8]) -> Checked {
+    if ours == expected {
+        return Ok(());
+    }
+    let at = ours.iter().zip(expected).take_while(|(ours, due)| ours == due).count();
+    let some = |bytes: &[u8]| Hex(&bytes[at..bytes.len().min(at + 8)]).to_string();
+    let place = format!("{} differs from byte {} on", what, at);
+    same(&place, some(ours), some(expected))
 }
 
 pub fn refused(number: u8) -> bool {
@@ -113,20 +125,30 @@ impl Pair {
     /// What the independent implementation makes of a step back. It keeps whole states: over a state that the journal did not
     /// go with, what the record lacks stays as handed in, and what then is no state is refused.
     fn by_reference_back(&mut self, state: State) -> (u8, State) {
-        let (mut after, mut earlier) = (state, None);
-        if self.back() == Back::Apart && self.ring.newest_tag() != Some(CRB) {
-            earlier = Some(self.earlier.clone());
-        }
+        let (mut after, tag) = (state, self.ring.newest_tag());
+        let earlier = (self.back() == Back::Apart).then(|| self.earlier.clone());
         let number = adapter::step_back(&mut after, &mut self.earlier);
         if let (DONE, Some(earlier)) = (number, earlier) {
-            after.spi = state.spi;
-            after.gpio = state.gpio;
+            stay(&state, tag, &mut after);
             if !adapter::in_range(&after) {
                 self.earlier = earlier;
                 return (BAD_JOURNAL, state);
             }
         }
         (number, after)
+    }
+}
+
+/// What a record of this tag lacks stays as it was handed in.
+fn stay(handed_in: &State, tag: Option<u8>, after: &mut State) {
+    if tag != Some(CRB) {
+        after.spi = handed_in.spi;
+        after.gpio = handed_in.gpio;
+    }
+    for (place, master) in after.masters.iter_mut().enumerate() {
+        if tag != Some(tag_of_channel(u32::from(I2C_FIRST) + place as u32)) {
+            *master = handed_in.masters[place];
+        }
     }
 }
 
@@ -180,6 +202,10 @@ impl<'a> Run<'a> {
                 let mut bytes = copy.state.clone();
                 bytes[bit / 8] ^= 1 << (bit % 8);
                 copy.set_state(bytes);
+                if let (Some(state), false) = (self.own.expected, **call == Call::Kept) {
+                    let taken = copy.expected.as_ref().map_or(false, adapter::in_range);
+                    self.tally.masters.flipped(*bit, &state, taken);
+                }
                 self.on(&mut copy, call)
             }
             Call::StateOfLength { length, call } => {
@@ -282,6 +308,7 @@ impl<'a> Run<'a> {
         let room = match call {
             Call::Frame { room, .. } => *room,
             Call::Completion { room, .. } => *room,
+            Call::I2cCompletion { room, .. } => *room,
             Call::Sample { room, .. } => *room,
             Call::Upset { room } => *room,
             _ => unreachable!("no event: {}", call),
@@ -308,7 +335,8 @@ impl<'a> Run<'a> {
             }
         }
         self.break_event(pair, &mut answer, &mut ours, kept);
-        self.tally.event(call, &before, &expected, expected_output.lent());
+        self.tally
+            .event(call, &before, &pair.expected, &expected, expected_output.lent());
         same("the answer", answer, expected)?;
         same("the output", ours, expected_output)?;
         self.left(pair)
@@ -338,6 +366,9 @@ impl<'a> Run<'a> {
         if self.lay(Fault::State, kept) {
             pair.state[12] ^= 1;
         }
+        if self.lay(Fault::Master, kept) {
+            *pair.state.last_mut().unwrap() ^= 1;
+        }
         if self.lay(Fault::RefusedState, !kept && !pair.state.is_empty()) {
             pair.state[0] ^= 1;
         }
@@ -363,7 +394,7 @@ impl<'a> Run<'a> {
         if self.lay(Fault::Record, true) {
             pair.journal[at + 1] ^= 1;
         }
-        if self.lay(Fault::Group, tag == CRB) {
+        if self.lay(Fault::Group(tag), tag != CORE) {
             pair.journal[end - 1] ^= 1;
         }
         if self.lay(Fault::BehindRecord, true) {
@@ -390,6 +421,9 @@ impl<'a> Run<'a> {
             same("docs/JOURNAL.md's state", after, Some(left))?;
         }
         self.tally.step_back(number, pair.back(), pair.ring.newest_tag());
+        if let (DONE, Back::Together, Some(before), Some(after)) = (number, pair.back(), &before, &after) {
+            self.tally.masters.stepped_back(before, after);
+        }
         if number == DONE {
             pair.lower();
         }
@@ -406,20 +440,12 @@ impl<'a> Run<'a> {
         self.left(pair)
     }
 
-    /// The state field by field, then all bytes of state and journal.
+    /// All bytes of state and journal, and the state field by field.
     fn left(&self, pair: &Pair) -> Checked {
-        same("the state", state_in(&pair.state), pair.expected)?;
         let bytes = pair.expected.as_ref().map(bytes_of);
-        same(
-            "the state's bytes",
-            &pair.state,
-            bytes.as_ref().unwrap_or(&pair.handed_in),
-        )?;
-        if pair.journal != pair.ring.0 {
-            let at = (0..pair.ring.0.len()).find(|at| pair.journal[*at] != pair.ring.0[*at]);
-            return Err(format!("the journal differs from byte {:?} on", at));
-        }
-        Ok(())
+        same_bytes("the state", &pair.state, bytes.as_ref().unwrap_or(&pair.handed_in))?;
+        same_bytes("the journal", &pair.journal, &pair.ring.0)?;
+        same("the state's fields", state_in(&pair.state), pair.expected)
     }
 
     fn kept(&mut self, pair: &Pair) -> Checked {
@@ -458,6 +484,13 @@ fn by_library(pair: &mut Pair, call: &Call, output: &mut [u8]) -> RawAnswer {
     match call {
         Call::Frame { port, body, .. } => boundary::sca_frame(state, journal, *port, body, output),
         Call::Completion { received, .. } => boundary::sca_completion(state, journal, received, output),
+        Call::I2cCompletion {
+            channel,
+            acknowledge,
+            line_low,
+            received,
+            ..
+        } => boundary::sca_i2c_completion(state, journal, *channel, *acknowledge, *line_low, received, output),
         Call::Sample { levels, kind, .. } => boundary::sca_sample(state, journal, *levels, *kind, output),
         _ => boundary::sca_upset(state, journal, output),
     }
@@ -467,6 +500,13 @@ fn by_reference(state: &mut State, journal: &mut Journal, call: &Call, output: &
     let answer = match call {
         Call::Frame { port, body, .. } => adapter::frame(state, journal, *port, body, output),
         Call::Completion { received, .. } => adapter::completion(state, journal, received, output),
+        Call::I2cCompletion {
+            channel,
+            acknowledge,
+            line_low,
+            received,
+            ..
+        } => adapter::i2c_completion(state, journal, *channel, *acknowledge, *line_low, received, output),
         Call::Sample { levels, kind, .. } => adapter::sample(state, journal, *levels, *kind, output),
         _ => adapter::upset(state, journal, output),
     };

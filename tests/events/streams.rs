@@ -1,10 +1,13 @@
 //! Random runs that reach deep states: phases, each about one thing.
 
 use crate::calls::{Call, Way};
+use crate::exchanges::{any_channel, at_once, bit, ending, exchange, i2c_commands, i2c_request};
+use crate::exchanges::{is_start, master, some_master, unknown_code, whole_start};
 use crate::harness::chance::Chance;
-use crate::image::bytes_of;
+use crate::image::{bytes_of, DATA_AT, MASTERS_AT, MASTER_BYTES};
+use crate::masters::is_on;
 use reference::adapter::{Gpio, Spi, State};
-use sca::{JOURNAL_BYTES, STATE_BYTES};
+use sca::{I2C_FIRST, I2C_LAST, JOURNAL_BYTES, STATE_BYTES};
 
 const CONTROLLER: u8 = 0x00;
 const SPI: u8 = 0x01;
@@ -13,8 +16,8 @@ const SEU: u8 = 0x13;
 const ID: u8 = 0x14;
 const DAC: u8 = 0x15;
 
-/// Channel, command and request LEN of every command, after document 01's table.
-pub const COMMANDS: [(u8, u8, u8); 49] = [
+/// Channel, command and request LEN of every command but the I2C masters', after document 01's table.
+const COMMANDS: [(u8, u8, u8); 49] = [
     (CONTROLLER, 0x02, 4),
     (CONTROLLER, 0x03, 2),
     (CONTROLLER, 0x04, 4),
@@ -66,8 +69,23 @@ pub const COMMANDS: [(u8, u8, u8); 49] = [
     (DAC, 0x41, 1),
 ];
 
+const WRITE_CRB: u8 = 0x02;
+const WRITE_CRC: u8 = 0x04;
+const WRITE_CRD: u8 = 0x06;
+/// The bytes of the longest record: a tag, the core, and the group of CRC.
+const RECORD_MOST: usize = 1 + 16 + 168;
+
 /// CONNECT, RESET and TEST, with bit 4 clear and set.
 pub const LINK_COMMANDS: [u8; 6] = [0x2F, 0x3F, 0x8F, 0x9F, 0xE3, 0xF3];
+
+/// Channel, command and request LEN of every command there is.
+pub fn commands() -> Vec<(u8, u8, u8)> {
+    let own = |channel: u8| i2c_commands().map(move |(command, length)| (channel, command, length));
+    COMMANDS
+        .into_iter()
+        .chain((I2C_FIRST..=I2C_LAST).flat_map(own))
+        .collect()
+}
 
 pub fn stream(chance: &mut Chance) -> Vec<Call> {
     let mut calls = vec![create(chance)];
@@ -90,8 +108,8 @@ fn create(chance: &mut Chance) -> Call {
 }
 
 fn phase(chance: &mut Chance) -> Vec<Call> {
-    match chance.below(20) {
-        0..=3 => many(chance, 1, 20, any_request),
+    match chance.below(27) {
+        0..=3 => many(chance, 1, 20, request_or_ending),
         4..=6 => transfer(chance),
         7..=9 => pins(chance),
         10 => many(chance, 1, 8, link_command),
@@ -106,6 +124,9 @@ fn phase(chance: &mut Chance) -> Vec<Call> {
         16 => many(chance, 1, 6, damaged),
         17 => enable(chance),
         18 => one_of_all(chance),
+        19..=22 => exchange(chance),
+        23 | 24 => at_once(chance),
+        25 => many(chance, 1, 12, unknown_code),
         _ => vec![match chance.below(3) {
             0 => Call::Empty { length: JOURNAL_BYTES },
             1 => create(chance),
@@ -114,12 +135,12 @@ fn phase(chance: &mut Chance) -> Vec<Call> {
     }
 }
 
-fn many(chance: &mut Chance, least: usize, most: usize, one: impl Fn(&mut Chance) -> Call) -> Vec<Call> {
+pub fn many(chance: &mut Chance, least: usize, most: usize, one: impl Fn(&mut Chance) -> Call) -> Vec<Call> {
     (0..chance.between(least, most)).map(|_| one(chance)).collect()
 }
 
 /// Enough room, most often just enough.
-fn room(chance: &mut Chance) -> usize {
+pub fn room(chance: &mut Chance) -> usize {
     if chance.once_in(3) {
         chance.between(16, 30)
     } else {
@@ -128,7 +149,7 @@ fn room(chance: &mut Chance) -> usize {
 }
 
 /// A word of one kind: any, few ones, many, one, none, all.
-fn word(chance: &mut Chance) -> u32 {
+pub fn word(chance: &mut Chance) -> u32 {
     let any = |chance: &mut Chance| u32::from_le_bytes([chance.byte(), chance.byte(), chance.byte(), chance.byte()]);
     match chance.below(8) {
         0 => 0,
@@ -146,7 +167,7 @@ fn information(transaction: u8, channel: u8, length: u8, command: u8, data: u32)
 }
 
 /// A request in sequence on the active port, with a valid TRN.
-fn request(chance: &mut Chance, channel: u8, command: u8, length: u8, data: u32) -> Call {
+pub fn request(chance: &mut Chance, channel: u8, command: u8, length: u8, data: u32) -> Call {
     let transaction = chance.between(0x01, 0xFE) as u8;
     Call::Request {
         way: Way::Active,
@@ -158,19 +179,30 @@ fn request(chance: &mut Chance, channel: u8, command: u8, length: u8, data: u32)
 }
 
 fn valid_request(chance: &mut Chance) -> Call {
+    if chance.once_in(3) {
+        let channel = master(chance);
+        return i2c_request(chance, channel);
+    }
     let (channel, command, length) = COMMANDS[chance.below(COMMANDS.len())];
     let mut data = word(chance);
-    if (channel, command) == (CONTROLLER, 0x02) && !chance.once_in(4) {
-        data |= 0x0600_0000;
-    }
-    if (channel, command) == (CONTROLLER, 0x06) && !chance.once_in(4) {
-        data |= 0x1800_0000;
+    if channel == CONTROLLER && !chance.once_in(4) {
+        data |= enabling(command);
     }
     request(chance, channel, command, length, data)
 }
 
+/// The bits of the controller's registers that a run mostly leaves on: all that enable a channel.
+fn enabling(command: u8) -> u32 {
+    match command {
+        WRITE_CRB => 0xFE00_0000,
+        WRITE_CRC => 0xFF00_0000,
+        WRITE_CRD => 0x1F00_0000,
+        _ => 0,
+    }
+}
+
 /// Mostly valid; else one or more fields of the information, the number or the port are not.
-fn any_request(chance: &mut Chance) -> Call {
+pub fn any_request(chance: &mut Chance) -> Call {
     let mut call = valid_request(chance);
     if let Call::Request {
         way, skew, information, ..
@@ -195,21 +227,23 @@ fn any_request(chance: &mut Chance) -> Call {
     call
 }
 
-/// One request for each command, in any order.
+/// One request for each command, those of one master among them, in any order.
 fn one_of_all(chance: &mut Chance) -> Vec<Call> {
-    let mut order: Vec<usize> = (0..COMMANDS.len()).collect();
-    for at in (1..order.len()).rev() {
-        order.swap(at, chance.below(at + 1));
-    }
+    let chosen = master(chance);
+    let mut order = COMMANDS.to_vec();
+    order.extend(i2c_commands().map(|(command, length)| (chosen, command, length)));
+    shuffle(chance, &mut order);
     let mut calls = enable(chance);
-    for at in order {
-        let (channel, command, length) = COMMANDS[at];
-        let data = word(chance)
-            | if (channel, command) == (CONTROLLER, 0x02) {
-                0x0600_0000
-            } else {
-                0
-            };
+    calls.extend(all_on(chance));
+    for (channel, command, length) in order {
+        if channel == chosen && is_start(command) {
+            calls.extend(whole_start(chance, channel, command));
+            continue;
+        }
+        let mut data = word(chance);
+        if channel == CONTROLLER {
+            data |= enabling(command);
+        }
         calls.push(request(chance, channel, command, length, data));
         if (channel, command) == (SPI, 0x72) {
             calls.push(completion(chance));
@@ -218,16 +252,40 @@ fn one_of_all(chance: &mut Chance) -> Vec<Call> {
     calls
 }
 
-/// SPI, GPIO, SEU and ID on.
+pub fn shuffle<T>(chance: &mut Chance, order: &mut [T]) {
+    for at in (1..order.len()).rev() {
+        order.swap(at, chance.below(at + 1));
+    }
+}
+
+/// SPI, GPIO, SEU and ID on, and the I2C masters, all or any of them.
 fn enable(chance: &mut Chance) -> Vec<Call> {
-    let (crb, crd) = (word(chance) | 0x0600_0000, word(chance) | 0x1800_0000);
     let mut calls = Vec::new();
     if chance.once_in(2) {
         calls.push(link_frame(chance, 0x2F));
     }
-    calls.push(request(chance, CONTROLLER, 0x02, 4, crb));
-    calls.push(request(chance, CONTROLLER, 0x06, 4, crd));
+    if !chance.once_in(3) {
+        calls.extend(all_on(chance));
+        return calls;
+    }
+    for (command, least) in [(WRITE_CRB, 0x0600_0000), (WRITE_CRC, 0), (WRITE_CRD, 0x1800_0000)] {
+        let data = word(chance) | least;
+        calls.push(request(chance, CONTROLLER, command, 4, data));
+    }
     calls
+}
+
+/// All that can be enabled is.
+pub fn all_on(chance: &mut Chance) -> Vec<Call> {
+    let on = |command: u8| request(chance, CONTROLLER, command, 4, enabling(command));
+    [WRITE_CRB, WRITE_CRC, WRITE_CRD].map(on).to_vec()
+}
+
+/// A write of CRB, CRC or CRD that disables some channels.
+pub fn switching(chance: &mut Chance) -> Call {
+    let command = [WRITE_CRB, WRITE_CRC, WRITE_CRD][chance.below(3)];
+    let data = word(chance);
+    request(chance, CONTROLLER, command, 4, data)
 }
 
 fn completion(chance: &mut Chance) -> Call {
@@ -274,6 +332,14 @@ fn transfer(chance: &mut Chance) -> Vec<Call> {
     calls
 }
 
+fn request_or_ending(chance: &mut Chance) -> Call {
+    if chance.once_in(6) {
+        ending(chance)
+    } else {
+        any_request(chance)
+    }
+}
+
 fn sample(chance: &mut Chance) -> Call {
     Call::Sample {
         levels: word(chance),
@@ -302,7 +368,7 @@ fn pins(chance: &mut Chance) -> Vec<Call> {
     calls
 }
 
-fn link_frame(chance: &mut Chance, control: u8) -> Call {
+pub fn link_frame(chance: &mut Chance, control: u8) -> Call {
     Call::Frame {
         port: chance.below(2) as u32,
         body: vec![0x00, control | if chance.once_in(2) { 0x10 } else { 0 }],
@@ -355,10 +421,11 @@ fn any_frame(chance: &mut Chance) -> Call {
 }
 
 fn event(chance: &mut Chance) -> Call {
-    match chance.below(6) {
+    match chance.below(7) {
         0 => sample(chance),
         1 => completion(chance),
         2 => Call::Upset { room: room(chance) },
+        3 => ending(chance),
         _ => any_request(chance),
     }
 }
@@ -373,7 +440,7 @@ fn filled_then_back(chance: &mut Chance) -> Vec<Call> {
 }
 
 /// Over 255: a number of this many bits whose low byte, or low half, is most often a port or an edge kind.
-fn wide(chance: &mut Chance) -> u32 {
+pub fn wide(chance: &mut Chance) -> u32 {
     const WIDE: [u32; 8] = [256, 257, 258, 0xFF00, 0x1_0000, 0x1_0001, 0x8000_0002, u32::MAX];
     WIDE[chance.below(WIDE.len())]
 }
@@ -387,7 +454,7 @@ fn refused(chance: &mut Chance) -> Call {
             16
         }
     };
-    match chance.below(7) {
+    match chance.below(9) {
         0 | 1 => {
             let length = match chance.below(3) {
                 0 => chance.below(2),
@@ -413,8 +480,19 @@ fn refused(chance: &mut Chance) -> Call {
             room: short(chance),
         },
         4 => Call::Upset { room: chance.below(20) },
-        5 => Call::Create {
-            length: [STATE_BYTES, STATE_BYTES - 1, STATE_BYTES + 1, chance.below(100)][chance.below(4)],
+        5 | 6 => {
+            let length = [chance.below(17), 16, 17, 17, chance.between(18, 40)][chance.below(5)];
+            Call::I2cCompletion {
+                channel: any_channel(chance),
+                acknowledge: bit(chance),
+                line_low: bit(chance),
+                received: chance.bytes(length),
+                room: short(chance),
+            }
+        }
+        7 => Call::Create {
+            // 75 bytes are a state of before the masters
+            length: [STATE_BYTES, STATE_BYTES - 1, STATE_BYTES + 1, 75, chance.below(500)][chance.below(5)],
             id: [0x0100_0000, u32::MAX, 0x00FF_FFFF, word(chance)][chance.below(4)],
         },
         _ => Call::Empty {
@@ -433,7 +511,7 @@ fn other_length(chance: &mut Chance, length: usize) -> usize {
     }
 }
 
-fn event_or_step_back(chance: &mut Chance) -> Call {
+pub fn event_or_step_back(chance: &mut Chance) -> Call {
     match chance.below(6) {
         0 | 1 => Call::StepBack,
         2 => refused_event(chance),
@@ -450,15 +528,19 @@ fn refused_event(chance: &mut Chance) -> Call {
     }
 }
 
-/// An event or a step back on a damaged copy of the state or of the journal, or on both.
-fn damaged(chance: &mut Chance) -> Call {
-    let call = Box::new(match chance.below(8) {
+fn kept_event_or_step_back(chance: &mut Chance) -> Call {
+    match chance.below(8) {
         0 => Call::Kept,
         _ => event_or_step_back(chance),
-    });
+    }
+}
+
+/// An event or a step back on a damaged copy of the state or of the journal, or on both.
+pub fn damaged(chance: &mut Chance) -> Call {
+    let call = Box::new(kept_event_or_step_back(chance));
     match chance.below(11) {
         0..=2 => Call::FlippedState {
-            bit: chance.below(8 * STATE_BYTES),
+            bit: some_bit(chance),
             call,
         },
         3 => Call::StateOfLength {
@@ -472,7 +554,7 @@ fn damaged(chance: &mut Chance) -> Call {
         5..=7 => {
             let at = match chance.below(3) {
                 0 => chance.below(8),
-                1 => 1_024 + 256 * chance.below(64) + chance.below(80),
+                1 => 1_024 + 256 * chance.below(64) + chance.below(RECORD_MOST + 8),
                 _ => chance.below(JOURNAL_BYTES),
             };
             let byte = [chance.byte(), chance.below(66) as u8][chance.below(2)];
@@ -484,7 +566,7 @@ fn damaged(chance: &mut Chance) -> Call {
             Call::AlteredJournal { at, byte, call }
         }
         8 | 9 => Call::AlteredRecord {
-            at: [0, chance.below(17), chance.below(80)][chance.below(3)],
+            at: [0, chance.below(17), chance.below(RECORD_MOST + 8)][chance.below(3)],
             byte: [chance.byte(), chance.below(8) as u8][chance.below(2)],
             call: Box::new(Call::StepBack),
         },
@@ -493,6 +575,20 @@ fn damaged(chance: &mut Chance) -> Call {
             call: Box::new(Call::StepBack),
         },
     }
+}
+
+/// A bit of a state: any, one in front of the masters, of CRB, CRC or CRD, or of a master.
+fn some_bit(chance: &mut Chance) -> usize {
+    let byte = match chance.below(5) {
+        0 => chance.below(STATE_BYTES),
+        1 => chance.below(MASTERS_AT),
+        2 => chance.between(5, 7),
+        _ => {
+            let own = [chance.below(DATA_AT), chance.below(MASTER_BYTES)][chance.below(2)];
+            MASTERS_AT + MASTER_BYTES * chance.below(16) + own
+        }
+    };
+    8 * byte + chance.below(8)
 }
 
 /// The run goes on with another state.
@@ -535,6 +631,13 @@ fn other_state(chance: &mut Chance) -> Vec<u8> {
             edgesel: word(chance),
             intenable: chance.below(2) as u32,
         };
+    }
+    // none of the masters, a few or all that are enabled have something in them
+    let rarely = [0, 8, 1][chance.below(3)];
+    for place in 0..state.masters.len() {
+        if rarely > 0 && chance.once_in(rarely) && is_on(&state, place) {
+            state.masters[place] = some_master(chance);
+        }
     }
     bytes_of(&state)
 }

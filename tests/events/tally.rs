@@ -1,6 +1,7 @@
 //! How often each thing was seen, over all runs.
 
 use crate::calls::Call;
+use crate::masters::{End, Masters};
 use crate::record::CRD;
 use crate::run::refused;
 use reference::adapter::State;
@@ -19,8 +20,9 @@ pub enum Back {
     Altered,
 }
 
-const SPI: u8 = 0x01;
-const GO: u8 = 0x72;
+/// With bit 4 clear.
+const CONNECT: u8 = 0x2F;
+const RESET: u8 = 0x8F;
 
 pub struct Tally {
     pub calls: u64,
@@ -30,6 +32,7 @@ pub struct Tally {
     pub kept: [u64; 256],
     pub frame: [u64; 256],
     pub completion: [u64; 256],
+    pub i2c_completion: [u64; 256],
     pub sample: [u64; 256],
     pub upset: [u64; 256],
     pub step_back: [u64; 256],
@@ -62,6 +65,7 @@ pub struct Tally {
     pub go_dropped: u64,
     pub go_connected: u64,
     pub counter_wrapped: u64,
+    pub masters: Masters,
     /// A full journal taken back to its end: 64 steps in a row, and one more.
     pub whole_journals_back: u64,
     steps_in_a_row: usize,
@@ -77,6 +81,7 @@ impl Tally {
             kept: [0; 256],
             frame: [0; 256],
             completion: [0; 256],
+            i2c_completion: [0; 256],
             sample: [0; 256],
             upset: [0; 256],
             step_back: [0; 256],
@@ -99,29 +104,57 @@ impl Tally {
             go_dropped: 0,
             go_connected: 0,
             counter_wrapped: 0,
+            masters: Masters::new(),
             whole_journals_back: 0,
             steps_in_a_row: 0,
         }
     }
 
-    /// An event's call, the state before it, and what it gave.
-    pub fn event(&mut self, call: &Call, before: &Option<State>, answer: &RawAnswer, output: &[u8]) {
+    /// An event's call, the state before and after it, and what it gave.
+    pub fn event(
+        &mut self,
+        call: &Call,
+        before: &Option<State>,
+        after: &Option<State>,
+        answer: &RawAnswer,
+        output: &[u8],
+    ) {
         self.events += 1;
         self.steps_in_a_row = 0;
         let number = usize::from(answer.number);
-        let state = before.unwrap_or_default();
+        let (state, after) = (before.unwrap_or_default(), after.unwrap_or_default());
         let frame = answer.number == FRAME;
+        let sent = &output[..answer.length];
+        if !refused(answer.number) {
+            self.masters.left(&after);
+        }
         match call {
             Call::Frame { port, body, .. } => {
                 self.frame[number] += 1;
                 self.wide_ports += u64::from(answer.number == BAD_ARGUMENT && port & 0xFF <= 1);
                 if !refused(answer.number) {
-                    self.exchanged(&state, body, answer, output);
+                    self.exchanged(&state, &after, body, answer.number, sent);
                 }
             }
             Call::Completion { .. } => {
                 self.completion[number] += 1;
                 self.transfers[usize::from(state.spi.control & 0x7F)] += u64::from(frame);
+            }
+            Call::I2cCompletion {
+                channel,
+                acknowledge,
+                line_low,
+                received,
+                ..
+            } => {
+                self.i2c_completion[number] += 1;
+                let end = End {
+                    channel: *channel,
+                    acknowledge: *acknowledge != 0,
+                    line_low: *line_low != 0,
+                    received,
+                };
+                self.masters.completed(&end, &state, &after, answer.number, sent);
             }
             Call::Sample { kind, .. } => {
                 self.sample[number] += 1;
@@ -138,11 +171,11 @@ impl Tally {
     }
 
     /// A frame that was not refused, and what went out.
-    fn exchanged(&mut self, state: &State, body: &[u8], answer: &RawAnswer, output: &[u8]) {
-        let sent = &output[..answer.length];
+    fn exchanged(&mut self, state: &State, after: &State, body: &[u8], number: u8, sent: &[u8]) {
         let go = state.spi.open_go.is_some();
         match (body, sent) {
             ([_, _, _, channel, _, command, ..], [_, _, _, _, error, ..]) if sent != body => {
+                self.masters.requested(body, sent, state, after);
                 self.errors[usize::from(*error)] += 1;
                 if *error == 0 {
                     self.commands.insert((*channel, *command));
@@ -150,12 +183,21 @@ impl Tally {
                     self.go_dropped += u64::from(go && disabled);
                 }
             }
-            ([_, _, _, SPI, _, GO, ..], []) if answer.number == DONE => {
-                self.commands.insert((SPI, GO));
+            // GO, or an I2C start
+            ([_, _, _, channel, _, command, ..], []) if number == DONE => {
+                self.masters.requested(body, sent, state, after);
+                self.commands.insert((*channel, *command));
             }
             ([_, control], [_, acknowledgement]) if sent != body => {
                 self.acknowledged[usize::from(*control)] += u64::from(acknowledgement & 0x63 == 0x63);
-                self.go_connected += u64::from(go && control & 0xEF == 0x2F);
+                match control & 0xEF {
+                    CONNECT => {
+                        self.go_connected += u64::from(go);
+                        self.masters.was_connected(after);
+                    }
+                    RESET => self.masters.was_reset(state, after),
+                    _ => {}
+                }
             }
             (_, [_, control]) if control & 0x1F == 0x0D && sent != body => self.rejects += 1,
             _ => self.loops += u64::from(sent == body),

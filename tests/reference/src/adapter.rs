@@ -1,17 +1,21 @@
-//! The adapter's calls: creation, the four events, and stepping back through
+//! The adapter's calls: creation, the five events, and stepping back through
 //! a journal of earlier states.
-//! An independent implementation, written from document 01.
+//! An independent implementation, written from document 01 and change
+//! request 2026-01.
 
 use std::collections::VecDeque;
 
 use crate::numbers::*;
 use crate::request::{self, Reply};
-pub use crate::state::{in_range, Gpio, Spi, State};
+pub use crate::state::{in_range, Gpio, Master, Spi, State};
+use crate::state::{master_place, FIRST_MASTER, INVCOM, LAST_MASTER, LEVERR, NOACK, SUCC};
 
 /// The most steps that can be taken back.
 const MOST_KEPT: usize = 64;
 /// The bytes that an event's output must have.
 const EVENT_OUTPUT: usize = 16;
+/// The most bytes that an I2C transaction receives.
+const MOST_RECEIVED: usize = 16;
 
 /// What an outsider may have done to a journal.
 #[derive(Clone, Copy, PartialEq, Eq, Debug)]
@@ -169,6 +173,34 @@ pub fn completion(
     }
     let before = *state;
     let outcome = completion_outcome(state, received);
+    conclude(before, journal, outcome, output)
+}
+
+/// The transaction of the I2C master on a channel is complete: whether it was
+/// acknowledged, whether the line was low before it (anything but 0 is yes),
+/// and the bytes received.
+pub fn i2c_completion(
+    state: &mut State,
+    journal: &mut Journal,
+    channel: u32,
+    acknowledge: u32,
+    line_low: u32,
+    received: &[u8],
+    output: &mut [u8],
+) -> Answer {
+    if let Some(number) = event_refusal(state, journal, output) {
+        return Answer::without_frame(number);
+    }
+    let channel = match u8::try_from(channel) {
+        Ok(channel @ FIRST_MASTER..=LAST_MASTER) => channel,
+        _ => return Answer::without_frame(BAD_ARGUMENT),
+    };
+    if received.len() > MOST_RECEIVED {
+        return Answer::without_frame(BAD_ARGUMENT);
+    }
+    let before = *state;
+    let found = bus_flags(acknowledge != 0, line_low != 0);
+    let outcome = i2c_outcome(state, channel, found, received);
     conclude(before, journal, outcome, output)
 }
 
@@ -357,6 +389,52 @@ fn shift_in(spi: &mut Spi, received: &[u8]) {
         let bit = u32::from(received[place / 8] >> (place % 8) & 1);
         let word = &mut spi.data[place / 32];
         *word = *word & !(1 << (place % 32)) | bit << (place % 32);
+    }
+}
+
+/// The bits of STATUS that a transaction decides.
+fn bus_flags(acknowledged: bool, line_low: bool) -> u8 {
+    match (acknowledged, line_low) {
+        (true, false) => SUCC,
+        (true, true) => LEVERR,
+        (false, false) => NOACK,
+        (false, true) => NOACK | LEVERR,
+    }
+}
+
+/// Ends the open start with the bits found on the bus; a disabled master has
+/// none open.
+fn i2c_outcome(state: &mut State, channel: u8, found: u8, received: &[u8]) -> Outcome {
+    let master = &mut state.masters[master_place(channel)];
+    if !master.busy() {
+        return Outcome::Nothing(NOT_BUSY);
+    }
+    let (transaction, command) = (master.transaction, master.command);
+    master.transaction = 0;
+    master.command = 0;
+    master.status = master.status & INVCOM | found;
+    let byte = if found == SUCC {
+        take_received(master, command, received)
+    } else {
+        0
+    };
+    let reply = Reply::to_start(transaction, channel, command, master.status, byte);
+    send_reply(state, &reply)
+}
+
+/// A multi-byte read fills DATA up to NBYTE; a single read's byte is given
+/// for the reply and kept nowhere. Lacking bytes are 0.
+fn take_received(master: &mut Master, command: u8, received: &[u8]) -> u8 {
+    let mut bytes = [0; MOST_RECEIVED];
+    bytes[..received.len()].copy_from_slice(received);
+    match command {
+        0x86 | 0x8E => bytes[0],
+        0xDE | 0xE6 => {
+            let count = master.byte_count();
+            master.data[..count].copy_from_slice(&bytes[..count]);
+            0
+        }
+        _ => 0,
     }
 }
 

@@ -1,5 +1,6 @@
 //! The bench listing: a text of events is played, one line of answer each.
-//! An independent implementation, written from document 01.
+//! An independent implementation, written from document 01 and change
+//! request 2026-01.
 
 use crate::adapter::{self, Answer, Journal, State};
 use crate::numbers::{FRAME, UNREADABLE};
@@ -14,9 +15,19 @@ const MOST_CHARACTERS: usize = 80;
 enum Line {
     Frame { port: u32, body: Vec<u8> },
     Completion { received: Vec<u8> },
+    I2cCompletion(Transaction),
     Sample { levels: u32, kind: u32 },
     Upset,
     StepBack,
+}
+
+/// What a line says of an I2C transaction that is complete.
+#[derive(Clone, PartialEq, Eq, Debug)]
+struct Transaction {
+    channel: u32,
+    acknowledge: u32,
+    line_low: u32,
+    received: Vec<u8>,
 }
 
 /// The output of the program for an input.
@@ -64,10 +75,28 @@ fn call(state: &mut State, journal: &mut Journal, line: &Line, output: &mut [u8]
     match line {
         Line::Frame { port, body } => adapter::frame(state, journal, *port, body, output),
         Line::Completion { received } => adapter::completion(state, journal, received, output),
+        Line::I2cCompletion(transaction) => call_i2c(state, journal, transaction, output),
         Line::Sample { levels, kind } => adapter::sample(state, journal, *levels, *kind, output),
         Line::Upset => adapter::upset(state, journal, output),
         Line::StepBack => plain(adapter::step_back(state, journal)),
     }
+}
+
+fn call_i2c(
+    state: &mut State,
+    journal: &mut Journal,
+    transaction: &Transaction,
+    output: &mut [u8],
+) -> Answer {
+    adapter::i2c_completion(
+        state,
+        journal,
+        transaction.channel,
+        transaction.acknowledge,
+        transaction.line_low,
+        &transaction.received,
+        output,
+    )
 }
 
 /// What a line says; none if it is not readable.
@@ -79,6 +108,12 @@ fn read_line(line: &[u8]) -> Option<Line> {
     match fields[..] {
         [b"F", port, body] => read_frame(port, body),
         [b"S", received] => read_completion(received),
+        [b"I", channel, acknowledge, line_low] => {
+            read_i2c(channel, acknowledge, line_low, Vec::new())
+        }
+        [b"I", channel, acknowledge, line_low, received] => {
+            read_i2c(channel, acknowledge, line_low, some_bytes(received)?)
+        }
         [b"P", levels, kind] => read_sample(levels, kind),
         [b"U"] => Some(Line::Upset),
         [b"B"] => Some(Line::StepBack),
@@ -88,10 +123,7 @@ fn read_line(line: &[u8]) -> Option<Line> {
 
 fn read_frame(port: &[u8], body: &[u8]) -> Option<Line> {
     let port = digit(port)?;
-    let body = bytes(body)?;
-    if body.is_empty() {
-        return None;
-    }
+    let body = some_bytes(body)?;
     Some(Line::Frame { port, body })
 }
 
@@ -101,6 +133,16 @@ fn read_completion(received: &[u8]) -> Option<Line> {
         return None;
     }
     Some(Line::Completion { received })
+}
+
+/// A channel that is not I2C, or too many bytes, is for the call to refuse.
+fn read_i2c(channel: &[u8], acknowledge: &[u8], low: &[u8], received: Vec<u8>) -> Option<Line> {
+    Some(Line::I2cCompletion(Transaction {
+        channel: u32::from(pair(channel)?),
+        acknowledge: bit(acknowledge)?,
+        line_low: bit(low)?,
+        received,
+    }))
 }
 
 /// The top digit of the levels comes first.
@@ -118,6 +160,16 @@ fn digit(field: &[u8]) -> Option<u32> {
         [sign @ b'0'..=b'9'] => Some(u32::from(sign - b'0')),
         _ => None,
     }
+}
+
+/// A field of one bit.
+fn bit(field: &[u8]) -> Option<u32> {
+    digit(field).filter(|digit| *digit <= 1)
+}
+
+/// A field of hex digits, at least one pair.
+fn some_bytes(field: &[u8]) -> Option<Vec<u8>> {
+    bytes(field).filter(|bytes| !bytes.is_empty())
 }
 
 /// A field of hex digits in pairs.

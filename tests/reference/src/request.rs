@@ -1,8 +1,10 @@
 //! Requests and replies: their fields, the error bits and the commands of
 //! every channel.
-//! An independent implementation, written from document 01.
+//! An independent implementation, written from document 01 and change
+//! request 2026-01.
 
-use crate::state::{Gpio, Spi, State, CRB_BITS, CRD_BITS};
+use crate::state::{is_start, master_place, Gpio, Master, Spi, State};
+use crate::state::{CRB_BITS, CRD_BITS, FIRST_MASTER, INVCOM, LAST_MASTER};
 
 const CONTROLLER: u8 = 0x00;
 const SPI: u8 = 0x01;
@@ -82,6 +84,20 @@ impl Reply {
         }
     }
 
+    /// The reply that ends an I2C start. What went wrong on the bus stands in
+    /// STATUS, so ERR is 0 whatever it says.
+    pub fn to_start(transaction: u8, channel: u8, command: u8, status: u8, byte: u8) -> Reply {
+        // A start is in the table, so the other length is never taken.
+        let length = i2c_lengths(command).map_or(0, |(_, given)| given);
+        Reply {
+            transaction,
+            channel,
+            error: 0,
+            length,
+            data: u32::from_be_bytes([status, byte, 0, 0]),
+        }
+    }
+
     /// The interrupt that tells the firing lines.
     pub fn interrupt(lines: u32) -> Reply {
         Reply {
@@ -94,33 +110,55 @@ impl Reply {
     }
 }
 
-/// Carries a request out. An accepted GO has no reply yet.
+/// Carries a request out. An accepted GO or I2C start has no reply yet.
 pub fn answer(state: &mut State, information: &[u8; 8]) -> Option<Reply> {
     let request = Request::of(information);
-    let (error, reply_length) = match check(state, &request) {
-        Ok(reply_length) => (0, reply_length),
-        Err(error) => (error, 2),
-    };
-    if error == 0 && is_go(&request) {
-        state.spi.open_go = Some(request.transaction);
-        return None;
-    }
-    let data = if error == 0 {
-        execute(state, &request)
-    } else {
-        0
+    let (error, length, data) = match check(state, &request) {
+        Ok(_) if opens(&request) => {
+            open(state, &request);
+            return None;
+        }
+        Ok(reply_length) => (0, reply_length, execute(state, &request)),
+        Err(error) => {
+            note_error(state, request.channel, error);
+            (error, 2, 0)
+        }
     };
     Some(Reply {
         transaction: request.transaction,
         channel: request.channel,
         error,
-        length: reply_length,
+        length,
         data,
     })
 }
 
-fn is_go(request: &Request) -> bool {
-    request.channel == SPI && request.command == SPI_GO
+/// Whether the reply to a request waits for a completion.
+fn opens(request: &Request) -> bool {
+    match request.channel {
+        SPI => request.command == SPI_GO,
+        FIRST_MASTER..=LAST_MASTER => is_start(request.command),
+        _ => false,
+    }
+}
+
+/// Keeps what the reply will need: a GO's TRN, or a start's TRN and code.
+fn open(state: &mut State, request: &Request) {
+    if request.channel == SPI {
+        state.spi.open_go = Some(request.transaction);
+        return;
+    }
+    let master = &mut state.masters[master_place(request.channel)];
+    master.transaction = request.transaction;
+    master.command = request.command;
+}
+
+/// The one change that an error makes: a master tells in STATUS that an
+/// unknown command came.
+fn note_error(state: &mut State, channel: u8, error: u8) {
+    if let (FIRST_MASTER..=LAST_MASTER, INVALID_COMMAND) = (channel, error) {
+        state.masters[master_place(channel)].status |= INVCOM;
+    }
 }
 
 /// The reply's LEN, or the first error bit that applies.
@@ -132,11 +170,11 @@ fn check(state: &State, request: &Request) -> Result<u8, u8> {
     if !enabled {
         return Err(NOT_ENABLED);
     }
-    if request.channel == SPI && state.spi.open_go.is_some() {
+    if busy(state, request.channel) {
         return Err(BUSY);
     }
     let (wanted, given) = lengths(request.channel, request.command).ok_or(INVALID_COMMAND)?;
-    if request.length != wanted {
+    if request.length != wanted || !countable(state, request) {
         return Err(INVALID_LENGTH);
     }
     Ok(given)
@@ -148,9 +186,29 @@ fn enabled(state: &State, channel: u8) -> Option<bool> {
         CONTROLLER | DAC => Some(true),
         SPI => Some(state.spi_enabled()),
         GPIO => Some(state.gpio_enabled()),
+        FIRST_MASTER..=LAST_MASTER => Some(state.master_enabled(channel)),
         SEU => Some(state.seu_enabled()),
         ID => Some(state.id_enabled()),
         _ => None,
+    }
+}
+
+/// Whether a channel has a transfer open, so that it takes no command.
+fn busy(state: &State, channel: u8) -> bool {
+    match channel {
+        SPI => state.spi.open_go.is_some(),
+        FIRST_MASTER..=LAST_MASTER => state.masters[master_place(channel)].busy(),
+        _ => false,
+    }
+}
+
+/// A multi-byte start must find an NBYTE of 1 to 16.
+fn countable(state: &State, request: &Request) -> bool {
+    match request.channel {
+        channel @ FIRST_MASTER..=LAST_MASTER => {
+            state.masters[master_place(channel)].can_count(request.command)
+        }
+        _ => true,
     }
 }
 
@@ -164,11 +222,28 @@ fn lengths(channel: u8, command: u8) -> Option<(u8, u8)> {
         (SPI, SPI_GO) => Some((2, GO_REPLY_LENGTH)),
         (GPIO, 0x10 | 0x20 | 0x30 | 0x40 | 0x60 | 0x70 | 0x80 | 0x90) => Some((4, 2)),
         (GPIO, 0x01 | 0x11 | 0x21 | 0x31 | 0x41 | 0x61 | 0x71 | 0x81 | 0x91) => Some((1, 4)),
+        (FIRST_MASTER..=LAST_MASTER, command) => i2c_lengths(command),
         (SEU, 0xF1) => Some((4, 4)),
         (SEU, 0xF0) => Some((4, 2)),
         (ID, 0xD1) => Some((4, 4)),
         (DAC, 0x10 | 0x20 | 0x30 | 0x40) => Some((4, 1)),
         (DAC, 0x11 | 0x21 | 0x31 | 0x41) => Some((1, 4)),
+        _ => None,
+    }
+}
+
+/// The LEN of an I2C request and its reply: as printed for the starts, the
+/// data bytes shown for the register commands.
+fn i2c_lengths(command: u8) -> Option<(u8, u8)> {
+    match command {
+        0x20 | 0x30 => Some((1, 0)),
+        0x11 | 0x21 | 0x31 => Some((0, 1)),
+        0x40 | 0x50 | 0x60 | 0x70 => Some((4, 0)),
+        0x41 | 0x51 | 0x61 | 0x71 => Some((0, 4)),
+        0x82 | 0x86 | 0x8E | 0xDE => Some((4, 4)),
+        0x8A => Some((6, 4)),
+        0xDA => Some((4, 6)),
+        0xE2 | 0xE6 | 0xC2 | 0xC6 | 0xCA => Some((2, 2)),
         _ => None,
     }
 }
@@ -180,6 +255,9 @@ fn execute(state: &mut State, request: &Request) -> u32 {
         CONTROLLER => on_controller(state, command, data),
         SPI => on_spi(&mut state.spi, command, data),
         GPIO => on_gpio(&mut state.gpio, command, data),
+        channel @ FIRST_MASTER..=LAST_MASTER => {
+            on_master(&mut state.masters[master_place(channel)], command, data)
+        }
         SEU => on_seu(&mut state.seu, command),
         ID => state.id,
         _ => on_dac(&mut state.dac, command, data),
@@ -189,25 +267,15 @@ fn execute(state: &mut State, request: &Request) -> u32 {
 fn on_controller(state: &mut State, command: u8, data: u32) -> u32 {
     let value = (data >> 24) as u8;
     match command {
-        0x02 => write_crb(state, value),
+        0x02 => state.crb = value & CRB_BITS,
         0x04 => state.crc = value,
         0x06 => state.crd = value & CRD_BITS,
         0x03 => return u32::from(state.crb) << 24,
         0x05 => return u32::from(state.crc) << 24,
         _ => return u32::from(state.crd) << 24,
     }
+    state.clear_disabled();
     0
-}
-
-/// A disabled channel holds its registers at 0 and has no open GO.
-fn write_crb(state: &mut State, value: u8) {
-    state.crb = value & CRB_BITS;
-    if !state.spi_enabled() {
-        state.spi = Spi::default();
-    }
-    if !state.gpio_enabled() {
-        state.gpio = Gpio::default();
-    }
 }
 
 fn on_spi(spi: &mut Spi, command: u8, data: u32) -> u32 {
@@ -252,6 +320,31 @@ fn read_gpio(gpio: &Gpio, command: u8) -> u32 {
         0x81 => gpio.clksel,
         _ => gpio.edgesel,
     }
+}
+
+/// A register's value stands in D[31:24]; of four DATA bytes the lowest does.
+fn on_master(master: &mut Master, command: u8, data: u32) -> u32 {
+    let value = (data >> 24) as u8;
+    let word = 4 * usize::from(command >> 4 & 0x03);
+    match command {
+        0x20 => master.mask = value,
+        0x30 => master.control = value,
+        0x40 | 0x50 | 0x60 | 0x70 => {
+            master.data[word..word + 4].copy_from_slice(&data.to_be_bytes())
+        }
+        0x11 => return u32::from(master.status) << 24,
+        0x21 => return u32::from(master.mask) << 24,
+        0x31 => return u32::from(master.control) << 24,
+        _ => return joined(&master.data[word..word + 4]),
+    }
+    0
+}
+
+/// Four bytes as one word, the first on top.
+fn joined(bytes: &[u8]) -> u32 {
+    bytes
+        .iter()
+        .fold(0, |word, byte| word << 8 | u32::from(*byte))
 }
 
 fn on_seu(counter: &mut u32, command: u8) -> u32 {

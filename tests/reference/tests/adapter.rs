@@ -1,5 +1,6 @@
 //! Tests of the adapter's events, refusals and steps back.
-//! An independent implementation, written from document 01.
+//! An independent implementation, written from document 01 and change
+//! request 2026-01.
 
 use reference::adapter::*;
 
@@ -35,6 +36,20 @@ impl Bench {
     fn completion(&mut self, received: &[u8]) -> Given {
         let mut output = [0xA5; 16];
         let answer = completion(&mut self.state, &mut self.journal, received, &mut output);
+        Bench::given(answer, output)
+    }
+
+    fn i2c(&mut self, channel: u8, acknowledge: u32, line_low: u32, received: &[u8]) -> Given {
+        let mut output = [0xA5; 16];
+        let answer = i2c_completion(
+            &mut self.state,
+            &mut self.journal,
+            u32::from(channel),
+            acknowledge,
+            line_low,
+            received,
+            &mut output,
+        );
         Bench::given(answer, output)
     }
 
@@ -112,7 +127,82 @@ impl Bench {
         assert_eq!(self.ask(0x00, 4, 0x02, u32::from(crb) << 24), (0, 2, 0));
         assert_eq!(self.ask(0x00, 4, 0x06, u32::from(crd) << 24), (0, 2, 0));
     }
+
+    /// A bench on which every channel is enabled.
+    fn ready() -> Bench {
+        let mut bench = Bench::new();
+        bench.enable(0xFE, 0x1F);
+        assert_eq!(bench.ask(0x00, 4, 0x04, 0xFF00_0000), (0, 2, 0));
+        bench
+    }
+
+    fn master(&mut self, channel: u8) -> &mut Master {
+        &mut self.state.masters[usize::from(channel) - 3]
+    }
+
+    /// Sends a start with its own TRN; it must be accepted and change nothing
+    /// of its master but what is open.
+    fn start(&mut self, transaction: u8, channel: u8, length: u8, command: u8) {
+        let open = Master {
+            transaction,
+            command,
+            ..*self.master(channel)
+        };
+        let send = self.state.send;
+        let given = self.request(transaction, channel, length, command, 0xF0DE_BC9A);
+        assert_eq!(given, (17, 0, vec![]));
+        assert_eq!((*self.master(channel), self.state.send), (open, send));
+    }
 }
+
+/// The I2C channels with the command that writes their enable bit, and it.
+const ENABLES: [(u8, u8, u8); 16] = [
+    (0x03, 0x02, 0x08),
+    (0x04, 0x02, 0x10),
+    (0x05, 0x02, 0x20),
+    (0x06, 0x02, 0x40),
+    (0x07, 0x02, 0x80),
+    (0x08, 0x04, 0x01),
+    (0x09, 0x04, 0x02),
+    (0x0A, 0x04, 0x04),
+    (0x0B, 0x04, 0x08),
+    (0x0C, 0x04, 0x10),
+    (0x0D, 0x04, 0x20),
+    (0x0E, 0x04, 0x40),
+    (0x0F, 0x04, 0x80),
+    (0x10, 0x06, 0x01),
+    (0x11, 0x06, 0x02),
+    (0x12, 0x06, 0x04),
+];
+
+/// What a start takes when it succeeds.
+#[derive(Clone, Copy, PartialEq, Eq, Debug)]
+enum Takes {
+    Nothing,
+    OneByte,
+    Bytes,
+}
+
+/// The starts: command, LEN of request and reply, what they take.
+const STARTS: [(u8, u8, u8, Takes); 11] = [
+    (0x82, 4, 4, Takes::Nothing),
+    (0x86, 4, 4, Takes::OneByte),
+    (0x8A, 6, 4, Takes::Nothing),
+    (0x8E, 4, 4, Takes::OneByte),
+    (0xDA, 4, 6, Takes::Nothing),
+    (0xDE, 4, 4, Takes::Bytes),
+    (0xE2, 2, 2, Takes::Nothing),
+    (0xE6, 2, 2, Takes::Bytes),
+    (0xC2, 2, 2, Takes::Nothing),
+    (0xC6, 2, 2, Takes::Nothing),
+    (0xCA, 2, 2, Takes::Nothing),
+];
+
+/// The starts that look at NBYTE.
+const MULTI: [u8; 4] = [0xDA, 0xDE, 0xE2, 0xE6];
+
+/// Acknowledge, line low, and the STATUS that they give.
+const PAIRS: [(u32, u32, u8); 4] = [(1, 0, 0x04), (1, 1, 0x08), (0, 0, 0x40), (0, 1, 0x48)];
 
 const CONNECT: [u8; 2] = [0x00, 0x2F];
 const RESET: [u8; 2] = [0x00, 0x8F];
@@ -248,14 +338,15 @@ fn error_bits_in_order() {
         let (_, _, body) = bench.request(transaction, 0x00, 2, 0x03, 1);
         assert_eq!(body[2..], [transaction, 0x00, 0, 4, 0, 0, 0, 0]);
     }
-    for channel in (0x03..=0x12).chain(0x16..=0xFF) {
+    for channel in 0x16..=0xFF {
         assert_eq!(bench.ask(channel, 9, 0x99, 1), (0x02, 2, 0));
     }
-    for channel in [0x01, 0x02, 0x13, 0x14] {
+    for channel in 0x01..=0x14 {
         assert_eq!(bench.ask(channel, 9, 0x99, 1), (0x20, 2, 0));
     }
-    bench.enable(0x06, 0x18);
-    for channel in [0x00, 0x01, 0x02, 0x13, 0x14, 0x15] {
+    bench.enable(0xFE, 0x1F);
+    bench.ask(0, 4, 0x04, 0xFF00_0000);
+    for channel in 0x00..=0x15 {
         assert_eq!(bench.ask(channel, 9, 0x99, 1), (0x04, 2, 0));
     }
     for (channel, command) in [
@@ -263,6 +354,8 @@ fn error_bits_in_order() {
         (1, 0),
         (1, 0x72),
         (2, 1),
+        (3, 0x30),
+        (0x12, 0x82),
         (0x13, 0xF1),
         (0x14, 0xD1),
         (0x15, 0x10),
@@ -274,6 +367,23 @@ fn error_bits_in_order() {
     assert_eq!(bench.ask(0x01, 2, 0x72, 1), (0x40, 2, 0));
     assert_eq!(bench.ask(0x02, 1, 0x01, 1), (0, 4, 0));
 }
+
+/// The register commands of a master: command, LEN of request and reply.
+const MASTER_REGISTERS: [(u8, u8, u8); 13] = [
+    (0x30, 1, 0),
+    (0x31, 0, 1),
+    (0x11, 0, 1),
+    (0x20, 1, 0),
+    (0x21, 0, 1),
+    (0x40, 4, 0),
+    (0x41, 0, 4),
+    (0x50, 4, 0),
+    (0x51, 0, 4),
+    (0x60, 4, 0),
+    (0x61, 0, 4),
+    (0x70, 4, 0),
+    (0x71, 0, 4),
+];
 
 /// Every command: channel, command, LEN of request and reply.
 fn command_table() -> Vec<(u8, u8, u8, u8)> {
@@ -291,15 +401,29 @@ fn command_table() -> Vec<(u8, u8, u8, u8)> {
     for write in [0x10, 0x20, 0x30, 0x40] {
         table.extend([(0x15, write, 4, 1), (0x15, write + 1, 1, 4)]);
     }
+    for channel in 0x03..=0x12 {
+        table.extend(
+            MASTER_REGISTERS.map(|(command, wanted, given)| (channel, command, wanted, given)),
+        );
+        table.extend(STARTS.map(|(command, wanted, given, _)| (channel, command, wanted, given)));
+    }
     table
+}
+
+/// Whether a command has its reply only with a completion.
+fn waits(channel: u8, command: u8) -> bool {
+    let start = STARTS.iter().any(|row| row.0 == command);
+    (channel, command) == (0x01, 0x72) || (0x03..=0x12).contains(&channel) && start
 }
 
 #[test]
 fn every_channel_command_and_length() {
     let table = command_table();
-    let mut ready = Bench::new();
-    ready.enable(0x06, 0x18);
-    for channel in [0x00, 0x01, 0x02, 0x13, 0x14, 0x15] {
+    let mut ready = Bench::ready();
+    for channel in 0x03..=0x12 {
+        ready.ask(channel, 1, 0x30, 0x0400_0000);
+    }
+    for channel in 0x00..=0x15 {
         for command in 0..=255 {
             let row = table
                 .iter()
@@ -307,7 +431,7 @@ fn every_channel_command_and_length() {
             for length in 0..=7 {
                 let mut bench = ready.clone();
                 let (number, _, body) = bench.request(1, channel, length, command, 0xFFFF_FFFF);
-                let go = (channel, command, length) == (1, 0x72, 2);
+                let go = waits(channel, command) && row.map_or(false, |row| row.2 == length);
                 assert_eq!(number, if go { 17 } else { 0 });
                 if go {
                     continue;
@@ -320,12 +444,18 @@ fn every_channel_command_and_length() {
                 assert_eq!((body[4], body[5]), wanted);
                 if wanted.0 != 0 {
                     let numbers = (bench.state.send, bench.state.receive);
-                    let before = State {
-                        send: numbers.0,
-                        receive: numbers.1,
-                        ..ready.state
+                    let mut before = Bench {
+                        state: State {
+                            send: numbers.0,
+                            receive: numbers.1,
+                            ..ready.state
+                        },
+                        journal: Journal::new(),
                     };
-                    assert_eq!(bench.state, before);
+                    if wanted.0 == 0x04 && (0x03..=0x12).contains(&channel) {
+                        before.master(channel).status = 0x20;
+                    }
+                    assert_eq!(bench.state, before.state);
                     assert_eq!(body[6..], [0; 4]);
                 }
             }
@@ -518,6 +648,8 @@ fn refusals_in_order_change_nothing() {
         let mut s = bad;
         assert_eq!(frame(&mut s, &mut journal, 2, &[0], &mut out).number, 6);
         assert_eq!(completion(&mut s, &mut journal, &[0], &mut out).number, 6);
+        let answer = i2c_completion(&mut s, &mut journal, 2, 2, 2, &[0; 17], &mut out);
+        assert_eq!((answer.number, answer.port, answer.length), (6, 0, 0));
         assert_eq!(sample(&mut s, &mut journal, 0, 3, &mut out).number, 6);
         assert_eq!(upset(&mut s, &mut journal, &mut out).number, 6);
         assert_eq!(step_back(&mut s, &mut journal), 6);
@@ -525,6 +657,8 @@ fn refusals_in_order_change_nothing() {
         let mut s = state;
         assert_eq!(frame(&mut s, &mut journal, 2, &[0], &mut out).number, 4);
         assert_eq!(completion(&mut s, &mut journal, &[0], &mut out).number, 4);
+        let answer = i2c_completion(&mut s, &mut journal, 2, 2, 2, &[0; 17], &mut out);
+        assert_eq!((answer.number, answer.port, answer.length), (4, 0, 0));
         assert_eq!(sample(&mut s, &mut journal, 0, 3, &mut out).number, 4);
         assert_eq!(upset(&mut s, &mut journal, &mut out).number, 4);
         assert_eq!(step_back(&mut s, &mut journal), 4);
@@ -541,12 +675,20 @@ fn refusals_in_order_change_nothing() {
     let mut out = [7; 15];
     assert_eq!(frame(s, j, 2, &[0], &mut out).number, 1);
     assert_eq!(completion(s, j, &[0], &mut out).number, 1);
+    assert_eq!(i2c_completion(s, j, 2, 2, 2, &[0; 17], &mut out).number, 1);
+    assert_eq!(i2c_completion(s, j, 3, 1, 0, &[], &mut []).number, 1);
     assert_eq!(sample(s, j, 0, 3, &mut out).number, 1);
     assert_eq!(upset(s, j, &mut out).number, 1);
     let mut out = [7; 16];
     assert_eq!(frame(s, j, 2, &[0], &mut out).number, 3);
     assert_eq!(completion(s, j, &[0; 15], &mut out).number, 3);
     assert_eq!(completion(s, j, &[0; 17], &mut out).number, 3);
+    for channel in [0, 1, 2, 0x13, 0x14, 0xFF, 0x103, 0x112, 0x1_0003, u32::MAX] {
+        let answer = i2c_completion(s, j, channel, 1, 0, &[], &mut out);
+        assert_eq!((answer.number, answer.port, answer.length), (3, 0, 0));
+    }
+    assert_eq!(i2c_completion(s, j, 3, 1, 0, &[0; 17], &mut out).number, 3);
+    assert_eq!(i2c_completion(s, j, 3, 1, 0, &[0; 300], &mut out).number, 3);
     assert_eq!(sample(s, j, 0, 3, &mut out).number, 3);
     for wide in [256, 257, 258, 0x1_0001, u32::MAX] {
         assert_eq!(frame(s, j, wide, &[0, 0x2F], &mut out).number, 3);
@@ -668,6 +810,572 @@ fn ranges() {
 }
 
 #[test]
+fn each_master_has_its_own_enable_bit() {
+    for (channel, write, bit) in ENABLES {
+        let mut bench = Bench::new();
+        let value = u32::from(bit) << 24;
+        assert_eq!(bench.ask(0, 4, write, value | 0xFF_FFFF), (0, 2, 0));
+        assert_eq!(bench.ask(0, 2, write + 1, 0), (0, 4, value));
+        for other in 0x03..=0x12 {
+            let wanted = if other == channel {
+                (0, 1, 0)
+            } else {
+                (0x20, 2, 0)
+            };
+            assert_eq!(bench.ask(other, 0, 0x11, 0), wanted);
+        }
+        let mut bench = Bench::ready();
+        assert_eq!(bench.ask(0, 4, write, !value), (0, 2, 0));
+        for other in 0x03..=0x12 {
+            let wanted = if other == channel {
+                (0x20, 2, 0)
+            } else {
+                (0, 1, 0)
+            };
+            assert_eq!(bench.ask(other, 0, 0x11, 0), wanted);
+        }
+    }
+}
+
+#[test]
+fn a_masters_registers_in_their_places() {
+    let mut bench = Bench::ready();
+    assert_eq!(bench.ask(0x0F, 1, 0x20, 0xA1FF_FFFF), (0, 0, 0));
+    assert_eq!(bench.ask(0x0F, 1, 0x30, 0xFEFF_FFFF), (0, 0, 0));
+    assert_eq!(bench.ask(0x0F, 4, 0x40, 0x0001_0203), (0, 0, 0));
+    assert_eq!(bench.ask(0x0F, 4, 0x50, 0x0405_0607), (0, 0, 0));
+    assert_eq!(bench.ask(0x0F, 4, 0x60, 0x0809_0A0B), (0, 0, 0));
+    assert_eq!(bench.ask(0x0F, 4, 0x70, 0x0C0D_0E0F), (0, 0, 0));
+    let written = Master {
+        mask: 0xA1,
+        control: 0xFE,
+        data: [0, 1, 2, 3, 4, 5, 6, 7, 8, 9, 10, 11, 12, 13, 14, 15],
+        ..Master::default()
+    };
+    assert_eq!(*bench.master(0x0F), written);
+    assert_eq!(bench.ask(0x0F, 0, 0x21, u32::MAX), (0, 1, 0xA100_0000));
+    assert_eq!(bench.ask(0x0F, 0, 0x31, u32::MAX), (0, 1, 0xFE00_0000));
+    assert_eq!(bench.ask(0x0F, 0, 0x41, u32::MAX), (0, 4, 0x0001_0203));
+    assert_eq!(bench.ask(0x0F, 0, 0x51, u32::MAX), (0, 4, 0x0405_0607));
+    assert_eq!(bench.ask(0x0F, 0, 0x61, u32::MAX), (0, 4, 0x0809_0A0B));
+    assert_eq!(bench.ask(0x0F, 0, 0x71, u32::MAX), (0, 4, 0x0C0D_0E0F));
+    bench.master(0x0F).status = 0x6C;
+    assert_eq!(bench.ask(0x0F, 0, 0x11, u32::MAX), (0, 1, 0x6C00_0000));
+    *bench.master(0x0F) = Master::default();
+    assert_eq!(bench.state.masters, [Master::default(); 16]);
+}
+
+#[test]
+fn the_bytes_of_a_word_go_out_in_the_order_of_figure_4_4() {
+    let mut bench = Bench::ready();
+    let numbers = (bench.state.receive, bench.state.send);
+    assert_eq!(numbers, (3, 3));
+    // BYTE0 11, BYTE1 22, BYTE2 33, BYTE3 44.
+    let write = [0, 6, 0x31, 0x10, 4, 0x40, 0x22, 0x11, 0x44, 0x33];
+    let wrote = vec![0, 0x86, 0x31, 0x10, 0, 0, 0, 0, 0, 0];
+    assert_eq!(bench.frame(0, &write), (0, 0, wrote));
+    assert_eq!(bench.master(0x10).data[..5], [0x11, 0x22, 0x33, 0x44, 0]);
+    let read = [0, 8, 0x32, 0x10, 0, 0x41, 9, 9, 9, 9];
+    let given = vec![0, 0xA8, 0x32, 0x10, 0, 4, 0x22, 0x11, 0x44, 0x33];
+    assert_eq!(bench.frame(0, &read), (0, 0, given));
+    let write = [0, 10, 0x33, 0x10, 1, 0x20, 0x22, 0x5A, 0x44, 0x33];
+    let wrote = vec![0, 0xCA, 0x33, 0x10, 0, 0, 0, 0, 0, 0];
+    assert_eq!(bench.frame(0, &write), (0, 0, wrote));
+    let read = [0, 12, 0x34, 0x10, 0, 0x21, 0, 0, 0, 0];
+    let given = vec![0, 0xEC, 0x34, 0x10, 0, 1, 0, 0x5A, 0, 0];
+    assert_eq!(bench.frame(0, &read), (0, 0, given));
+}
+
+#[test]
+fn masters_do_not_share_registers() {
+    let mut bench = Bench::ready();
+    for channel in 0x03..=0x12u8 {
+        let value = u32::from(channel) * 0x0101_0101;
+        for (command, length) in [(0x20, 1), (0x30, 1), (0x40, 4), (0x50, 4), (0x60, 4)] {
+            bench.ask(channel, length, command, value + u32::from(command));
+        }
+        bench.ask(channel, 4, 0x70, !value);
+    }
+    for channel in 0x03..=0x12u8 {
+        let mut data = [channel; 16];
+        data[3] = channel + 0x40;
+        data[7] = channel + 0x50;
+        data[11] = channel + 0x60;
+        data[12..].fill(!channel);
+        let wanted = Master {
+            mask: channel,
+            control: channel,
+            data,
+            ..Master::default()
+        };
+        assert_eq!(*bench.master(channel), wanted);
+    }
+}
+
+/// A master with NBYTE 5 and something in every register.
+fn full_master(invcom: u8) -> Master {
+    Master {
+        mask: 0x3C,
+        control: 0x97,
+        status: 0x48 | invcom,
+        data: *b"ABCDEFGHIJKLMNOP",
+        ..Master::default()
+    }
+}
+
+#[test]
+fn every_start_with_every_acknowledge_and_line() {
+    let received = b"abcdefghijklmnop";
+    let mut channel = 0x02;
+    for (command, wanted, given, takes) in STARTS {
+        for (acknowledge, line_low, status) in PAIRS {
+            for (count, invcom) in [(0, 0), (1, 0x20), (3, 0), (5, 0x20), (6, 0), (16, 0x20)] {
+                channel = if channel == 0x12 { 0x03 } else { channel + 1 };
+                let mut bench = Bench::ready();
+                *bench.master(channel) = full_master(invcom);
+                bench.start(0xC3, channel, wanted, command);
+                // Three requests were answered, the start had no reply.
+                assert_eq!((bench.state.send, bench.state.receive), (3, 4));
+                let answer = bench.i2c(channel, acknowledge, line_low, &received[..count]);
+                let success = status == 0x04;
+                let byte = match takes {
+                    Takes::OneByte if success && count > 0 => b'a',
+                    _ => 0,
+                };
+                let status = status | invcom;
+                let body = vec![0, 0x86, 0xC3, channel, 0, given, byte, status, 0, 0];
+                assert_eq!(answer, (0, 0, body));
+                let mut after = Bench::ready().state;
+                after.send = 4;
+                after.receive = 4;
+                let data = match (takes, success, count) {
+                    (Takes::Bytes, true, 0) => *b"\0\0\0\0\0FGHIJKLMNOP",
+                    (Takes::Bytes, true, 1) => *b"a\0\0\0\0FGHIJKLMNOP",
+                    (Takes::Bytes, true, 3) => *b"abc\0\0FGHIJKLMNOP",
+                    (Takes::Bytes, true, _) => *b"abcdeFGHIJKLMNOP",
+                    _ => *b"ABCDEFGHIJKLMNOP",
+                };
+                after.masters[usize::from(channel) - 3] = Master {
+                    status,
+                    data,
+                    ..full_master(0)
+                };
+                assert_eq!(bench.state, after);
+                // No start is open any more.
+                assert_eq!(bench.i2c(channel, 1, 0, b"x"), (15, 0, vec![]));
+                assert_eq!(bench.state, after);
+                let read = u32::from(status) << 24;
+                assert_eq!(bench.ask(channel, 0, 0x11, 0), (0, 1, read));
+            }
+        }
+    }
+}
+
+#[test]
+fn any_bit_of_acknowledge_and_line_counts() {
+    for wide in [1, 2, 0x100, 0x1_0000, 0x8000_0000, u32::MAX] {
+        for (acknowledge, line_low, status) in PAIRS {
+            let mut bench = Bench::ready();
+            bench.start(1, 0x09, 4, 0x82);
+            let (number, _, body) = bench.i2c(0x09, acknowledge * wide, line_low * wide, &[]);
+            assert_eq!((number, body[7]), (0, status));
+        }
+    }
+}
+
+#[test]
+fn a_completion_replaces_the_status_before_it() {
+    let mut bench = Bench::ready();
+    for (acknowledge, line_low, status) in PAIRS.iter().chain(PAIRS.iter().rev()) {
+        bench.start(7, 0x12, 2, 0xC6);
+        bench.i2c(0x12, *acknowledge, *line_low, &[]);
+        assert_eq!(bench.master(0x12).status, *status);
+    }
+}
+
+#[test]
+fn byte_counts_at_a_start() {
+    for count in [0u8, 1, 2, 15, 16, 17, 24, 31] {
+        // FREQ and SCLMODE play no part in it.
+        for others in [0x00, 0x83] {
+            let control = count << 2 | others;
+            let mut ready = Bench::ready();
+            let value = u32::from(control) << 24;
+            assert_eq!(ready.ask(0x08, 1, 0x30, value), (0, 0, 0));
+            assert_eq!(ready.ask(0x08, 0, 0x31, 0), (0, 1, value));
+            for (command, length, _, takes) in STARTS {
+                let mut bench = ready.clone();
+                if MULTI.contains(&command) && (count == 0 || count > 16) {
+                    let master = *bench.master(0x08);
+                    assert_eq!(bench.ask(0x08, length, command, 0), (0x10, 2, 0));
+                    assert_eq!(bench.ask(0x08, length + 1, command, 0), (0x10, 2, 0));
+                    assert_eq!(*bench.master(0x08), master);
+                    assert_eq!(bench.i2c(0x08, 1, 0, &[1; 16]), (15, 0, vec![]));
+                    continue;
+                }
+                bench.start(1, 0x08, length, command);
+                assert_eq!(bench.i2c(0x08, 1, 0, &[9; 16]).0, 0);
+                let mut data = [0; 16];
+                if takes == Takes::Bytes {
+                    data[..usize::from(count)].fill(9);
+                }
+                assert_eq!(bench.master(0x08).data, data);
+            }
+        }
+    }
+}
+
+#[test]
+fn an_unknown_command_stays_in_status() {
+    let mut bench = Bench::new();
+    // Not enabled, wrong TRN, wrong LEN, busy: another error goes out.
+    assert_eq!(bench.ask(0x05, 0, 0x99, 0), (0x20, 2, 0));
+    bench.enable(0x30, 0);
+    assert_eq!(bench.request(0xFF, 0x05, 0, 0x99, 0).2[4], 0x08);
+    assert_eq!(bench.ask(0x05, 1, 0x11, 0), (0x10, 2, 0));
+    assert_eq!(bench.ask(0x05, 4, 0xDA, 0), (0x10, 2, 0));
+    bench.start(1, 0x05, 4, 0x86);
+    assert_eq!(bench.ask(0x05, 0, 0x99, 0), (0x40, 2, 0));
+    assert_eq!(bench.i2c(0x05, 1, 0, &[]).0, 0);
+    assert_eq!(bench.ask(0x05, 0, 0x11, 0), (0, 1, 0x0400_0000));
+    // Every other command is unknown to a master.
+    for command in 0..=255 {
+        let known = STARTS.iter().any(|row| row.0 == command)
+            || MASTER_REGISTERS.iter().any(|row| row.0 == command);
+        if !known {
+            let mut other = bench.clone();
+            assert_eq!(other.ask(0x05, 0, command, u32::MAX), (0x04, 2, 0));
+            let noted = Master {
+                status: 0x24,
+                ..Master::default()
+            };
+            assert_eq!(*other.master(0x05), noted);
+            assert_eq!(other.state.masters[..2], bench.state.masters[..2]);
+            assert_eq!(other.state.masters[3..], bench.state.masters[3..]);
+        }
+    }
+    assert_eq!(bench.ask(0x05, 0, 0x99, 0), (0x04, 2, 0));
+    assert_eq!(bench.ask(0x05, 0, 0x11, 0), (0, 1, 0x2400_0000));
+    // It hinders no success and stands in every later STATUS.
+    for (acknowledge, line_low, status) in PAIRS {
+        bench.start(2, 0x05, 2, 0xCA);
+        let (_, _, body) = bench.i2c(0x05, acknowledge, line_low, &[]);
+        assert_eq!(body[2..], [2, 0x05, 0, 2, 0, status | 0x20, 0, 0]);
+    }
+    bench.frame(0, &CONNECT);
+    assert_eq!(bench.ask(0x05, 0, 0x11, 0), (0, 1, 0x6800_0000));
+    // Another master has none of it; disabling clears it.
+    assert_eq!(bench.ask(0x04, 0, 0x11, 0), (0, 1, 0));
+    bench.enable(0x10, 0);
+    bench.enable(0x30, 0);
+    assert_eq!(bench.ask(0x05, 0, 0x11, 0), (0, 1, 0));
+    bench.ask(0x05, 0, 0x99, 0);
+    bench.frame(0, &RESET);
+    assert_eq!(*bench.master(0x05), Master::default());
+}
+
+#[test]
+fn a_busy_master_takes_no_command() {
+    for (start, length, _, _) in STARTS {
+        let mut ready = Bench::ready();
+        *ready.master(0x0A) = full_master(0);
+        ready.start(0x77, 0x0A, length, start);
+        for command in 0..=255 {
+            for length in [0, 1, 2, 4, 6] {
+                let mut bench = ready.clone();
+                assert_eq!(bench.ask(0x0A, length, command, u32::MAX), (0x40, 2, 0));
+                assert_eq!(bench.state.masters, ready.state.masters);
+            }
+        }
+        // The errors before busy, and the other channels.
+        assert_eq!(ready.request(0, 0x0A, length, start, 0).2[4], 0x08);
+        assert_eq!(ready.ask(0x09, 0, 0x11, 0), (0, 1, 0));
+        assert_eq!(ready.ask(0x0B, 0, 0x11, 0), (0, 1, 0));
+        assert_eq!(ready.ask(0x01, 2, 0x41, 0), (0, 6, 0));
+        assert_eq!(ready.i2c(0x09, 1, 0, &[]), (15, 0, vec![]));
+        assert_eq!(ready.i2c(0x0B, 1, 0, &[]), (15, 0, vec![]));
+        // An SPI completion is none of the master's.
+        assert_eq!(ready.completion(&[0; 16]), (15, 0, vec![]));
+        assert_eq!(ready.master(0x0A).transaction, 0x77);
+        assert_eq!(ready.i2c(0x0A, 1, 0, &[]).2[2], 0x77);
+    }
+}
+
+#[test]
+fn sixteen_starts_at_once() {
+    let mut bench = Bench::ready();
+    for channel in 0x03..=0x12u8 {
+        let (command, length, _, _) = STARTS[usize::from(channel) % 4];
+        bench.start(0xA0 + channel, channel, length, command);
+    }
+    bench.request(0x99, 0x01, 2, 0x72, 0);
+    for step in 0..16 {
+        let channel = 0x03 + step * 5 % 16;
+        let (_, _, given, takes) = STARTS[usize::from(channel) % 4];
+        let byte = if takes == Takes::OneByte { channel } else { 0 };
+        let (number, _, body) = bench.i2c(channel, 1, 0, &[channel]);
+        assert_eq!(number, 0);
+        assert_eq!(body[1], 2 * ((3 + step) % 8) + 32 * 4);
+        assert_eq!(
+            body[2..],
+            [0xA0 + channel, channel, 0, given, byte, 4, 0, 0]
+        );
+    }
+    assert_eq!(bench.completion(&[0; 16]).2[2], 0x99);
+}
+
+#[test]
+fn disabling_a_busy_master_drops_its_start() {
+    for (channel, write, bit) in ENABLES {
+        for (command, length, _, _) in STARTS {
+            let mut bench = Bench::ready();
+            for other in 0x03..=0x12 {
+                *bench.master(other) = full_master(0x20);
+                bench.start(other, other, length, command);
+            }
+            let busy = bench.state.masters;
+            let all = match write {
+                0x02 => 0xFE,
+                0x04 => 0xFF,
+                _ => 0x1F,
+            };
+            // The same value again drops nothing.
+            bench.ask(0, 4, write, u32::from(all) << 24);
+            assert_eq!(bench.state.masters, busy);
+            bench.ask(0, 4, write, u32::from(all & !bit) << 24);
+            let mut masters = busy;
+            masters[usize::from(channel) - 3] = Master::default();
+            assert_eq!(bench.state.masters, masters);
+            assert!(in_range(&bench.state));
+            assert_eq!(bench.i2c(channel, 1, 0, &[1]), (15, 0, vec![]));
+            assert_eq!(bench.ask(channel, 0, 0x11, 0), (0x20, 2, 0));
+            // For good: enabling does not bring it back.
+            bench.ask(0, 4, write, u32::from(all) << 24);
+            assert_eq!(bench.i2c(channel, 1, 0, &[1]), (15, 0, vec![]));
+            assert_eq!(bench.state.masters, masters);
+            // The steps back do: 15, enabling, error reply, 15, disabling.
+            (0..5).for_each(|_| assert_eq!(bench.back(), 17));
+            assert_eq!(bench.state.masters, busy);
+            let (number, _, body) = bench.i2c(channel, 1, 0, &[1]);
+            assert_eq!((number, body[2], body[3]), (0, channel, channel));
+        }
+    }
+}
+
+#[test]
+fn one_write_disables_all_masters_of_a_register() {
+    for (write, places) in [(0x02, 0..5), (0x04, 5..13), (0x06, 13..16)] {
+        let mut bench = Bench::ready();
+        bench.state.masters = [full_master(0); 16];
+        bench.ask(0, 4, write, 0);
+        for place in 0..16 {
+            let wanted = if places.contains(&place) {
+                Master::default()
+            } else {
+                full_master(0)
+            };
+            assert_eq!(bench.state.masters[place], wanted);
+        }
+    }
+}
+
+#[test]
+fn connect_keeps_a_start_and_reset_drops_it() {
+    for (command, length, given, _) in STARTS {
+        let mut bench = Bench::ready();
+        *bench.master(0x0D) = full_master(0);
+        bench.start(0x42, 0x0D, length, command);
+        let open = bench.state.masters;
+        assert_eq!(bench.frame(1, &CONNECT), (0, 1, vec![0, 0x63]));
+        assert_eq!(bench.frame(1, &TEST), (0, 1, vec![0, 0x63]));
+        assert_eq!(bench.state.masters, open);
+        let mut reset = bench.clone();
+        // The reply leaves on the active port, in loopback too, with the
+        // numbers that CONNECT zeroed.
+        let body = vec![0, 0, 0x42, 0x0D, 0, given, 0, 0x40, 0, 0];
+        assert_eq!(bench.i2c(0x0D, 0, 0, &[5]), (0, 1, body));
+        assert_eq!((bench.state.send, bench.state.receive), (1, 0));
+        assert_eq!(reset.frame(0, &RESET), (0, 0, vec![0, 0x63]));
+        assert_eq!(reset.state, Bench::new().state);
+        assert_eq!((reset.kept(), reset.back()), (0, 5));
+        assert_eq!(reset.i2c(0x0D, 1, 0, &[5]), (15, 0, vec![]));
+        assert_eq!(reset.kept(), 1);
+        assert_eq!(reset.state, Bench::new().state);
+    }
+}
+
+#[test]
+fn steps_back_restore_the_masters() {
+    let mut bench = Bench::ready();
+    let mut before = Vec::new();
+    let channel = 0x11;
+    // CTRL with NBYTE 16, DATA, an unknown command, a read, its completion.
+    for (length, command, data) in [
+        (1, 0x30, 0x4000_0000),
+        (4, 0x70, 0x0102_0304),
+        (0, 0x00, 0),
+        (4, 0xDE, 0),
+    ] {
+        before.push(bench.state);
+        bench.request(9, channel, length, command, data);
+    }
+    before.push(bench.state);
+    assert_eq!(bench.i2c(channel, 1, 0, &[8; 15]).0, 0);
+    let mut data = [8; 16];
+    data[15] = 0;
+    let read = Master {
+        control: 0x40,
+        status: 0x24,
+        data,
+        ..Master::default()
+    };
+    assert_eq!(*bench.master(channel), read);
+    before.push(bench.state);
+    assert_eq!(bench.i2c(channel, 1, 0, &[7; 16]), (15, 0, vec![]));
+    assert_eq!(bench.kept(), 9);
+    for state in before.iter().rev() {
+        assert_eq!(bench.back(), 17);
+        assert_eq!(bench.state, *state);
+    }
+    assert_eq!(bench.kept(), 3);
+    // Another branch from the state with the open start.
+    let mut branch = Bench {
+        state: before[4],
+        journal: Journal::new(),
+    };
+    let (_, _, body) = branch.i2c(channel, 0, 1, &[8; 16]);
+    assert_eq!(body[2..], [9, channel, 0, 4, 0, 0x68, 0, 0]);
+    assert_eq!(branch.master(channel).data[12..], [1, 2, 3, 4]);
+    assert_eq!((branch.back(), branch.state), (17, before[4]));
+}
+
+#[test]
+fn idle_and_disabled_masters_give_15_and_keep_the_event() {
+    for bench in [Bench::new(), Bench::ready()] {
+        for channel in 0x03..=0x12 {
+            let mut bench = bench.clone();
+            let (state, kept) = (bench.state, bench.kept());
+            assert_eq!(bench.i2c(channel, 1, 0, &[1; 16]), (15, 0, vec![]));
+            assert_eq!((bench.state, bench.kept()), (state, kept + 1));
+        }
+    }
+}
+
+#[test]
+fn ranges_of_a_master() {
+    let ready = Bench::ready().state;
+    for place in 0..16 {
+        let with = |master: Master| {
+            let mut state = ready;
+            state.masters[place] = master;
+            in_range(&state)
+        };
+        let idle = Master::default();
+        for status in 0..=255u8 {
+            // Only bits 2, 3, 5 and 6 can be set, in any mixture.
+            let good = status & 0b1001_0011 == 0;
+            assert_eq!(with(Master { status, ..idle }), good);
+        }
+        for control in 0..=255u8 {
+            // An idle master may have any CTRL, a multi-byte start not.
+            assert!(with(Master { control, ..idle }));
+            let count = control / 4 % 32;
+            for (command, _, _, _) in STARTS {
+                let good = !MULTI.contains(&command) || (1..=16).contains(&count);
+                let open = Master {
+                    control,
+                    transaction: 1,
+                    command,
+                    ..idle
+                };
+                assert_eq!(with(open), good);
+            }
+        }
+        for command in 0..=255u8 {
+            let good = command == 0 || STARTS.iter().any(|row| row.0 == command);
+            for transaction in [0, 1, 0x80, 0xFE, 0xFF] {
+                let open = Master {
+                    control: 0x04,
+                    transaction,
+                    command,
+                    ..idle
+                };
+                let both = (transaction == 0) == (command == 0);
+                assert_eq!(with(open), good && both);
+            }
+        }
+        assert!(with(full_master(0x20)));
+        assert!(with(Master {
+            mask: 0xFF,
+            data: [0xFF; 16],
+            ..idle
+        }));
+    }
+}
+
+#[test]
+fn a_disabled_master_is_all_zero() {
+    let mut wrong = vec![
+        Master {
+            mask: 1,
+            ..Master::default()
+        },
+        Master {
+            control: 0x80,
+            ..Master::default()
+        },
+        Master {
+            status: 0x20,
+            ..Master::default()
+        },
+        Master {
+            transaction: 1,
+            command: 0x82,
+            ..Master::default()
+        },
+    ];
+    for place in 0..16 {
+        let mut master = Master::default();
+        master.data[place] = 0x10;
+        wrong.push(master);
+    }
+    for (channel, write, bit) in ENABLES {
+        let place = usize::from(channel) - 3;
+        let mut enabled = State::default();
+        match write {
+            0x02 => enabled.crb = bit,
+            0x04 => enabled.crc = bit,
+            _ => enabled.crd = bit,
+        }
+        let disabled = State {
+            crb: 0xFE & !enabled.crb,
+            crc: !enabled.crc,
+            crd: 0x1F & !enabled.crd,
+            ..State::default()
+        };
+        assert!(in_range(&enabled) && in_range(&disabled));
+        for master in &wrong {
+            let mut state = enabled;
+            state.masters[place] = *master;
+            assert!(in_range(&state));
+            let mut state = disabled;
+            state.masters[place] = *master;
+            assert!(!in_range(&state));
+            // Every call gives 6 and leaves it.
+            let mut bench = Bench::new();
+            bench.state = state;
+            assert_eq!(bench.frame(0, &RESET), (6, 0, vec![]));
+            assert_eq!(bench.completion(&[0; 16]), (6, 0, vec![]));
+            assert_eq!(bench.i2c(channel, 1, 0, &[]), (6, 0, vec![]));
+            assert_eq!(bench.sample(0, 0), (6, 0, vec![]));
+            assert_eq!(bench.upset(), (6, 0, vec![]));
+            assert_eq!((bench.back(), bench.kept()), (6, 0));
+            assert_eq!(bench.state, state);
+        }
+    }
+}
+
+#[test]
 fn sixty_four_and_sixty_five_events() {
     for events in [63, 64, 65, 200] {
         let mut bench = Bench::new();
@@ -703,6 +1411,7 @@ impl Chance {
 enum Event {
     Frame(u32, Vec<u8>),
     Completion(Vec<u8>),
+    I2c(u8, u32, u32, Vec<u8>),
     Sample(u32, u32),
     Upset,
 }
@@ -712,6 +1421,9 @@ impl Bench {
         match event {
             Event::Frame(port, body) => self.frame(*port, body),
             Event::Completion(received) => self.completion(received),
+            Event::I2c(channel, acknowledge, line_low, received) => {
+                self.i2c(*channel, *acknowledge, *line_low, received)
+            }
             Event::Sample(levels, kind) => self.sample(*levels, *kind),
             Event::Upset => self.upset(),
         }
@@ -733,7 +1445,10 @@ fn random_frame(chance: &mut Chance, state: &State) -> Event {
             .map(|_| (chance.next() as u8) << 1)
             .collect(),
         _ => {
-            let table = command_table();
+            // The masters' rows are many; half of the requests go elsewhere.
+            let i2c = chance.below(2) == 0;
+            let mut table = command_table();
+            table.retain(|row| (0x03..=0x12).contains(&row.0) == i2c);
             let row = table[chance.below(table.len() as u64) as usize];
             let wrong = u8::from(chance.below(20) == 0);
             let mut body = vec![
@@ -752,11 +1467,31 @@ fn random_frame(chance: &mut Chance, state: &State) -> Event {
     Event::Frame(port, body)
 }
 
+/// Mostly the completion of a busy master, if there is one.
+fn random_i2c(chance: &mut Chance, state: &State) -> Event {
+    let busy: Vec<u8> = (0x03..=0x12)
+        .filter(|channel| state.masters[usize::from(channel - 3)].command != 0)
+        .collect();
+    let channel = if busy.is_empty() || chance.below(4) == 0 {
+        chance.below(0x16) as u8
+    } else {
+        busy[chance.below(busy.len() as u64) as usize]
+    };
+    let received = (0..chance.below(18)).map(|_| chance.next() as u8).collect();
+    Event::I2c(
+        channel,
+        u32::from(chance.below(4) != 0),
+        u32::from(chance.below(4) == 0),
+        received,
+    )
+}
+
 fn random_event(chance: &mut Chance, state: &State) -> Event {
-    match chance.below(10) {
+    match chance.below(12) {
         0 => Event::Completion((0..16).map(|_| chance.next() as u8).collect()),
         1 | 2 => Event::Sample(chance.next() as u32, chance.below(4) as u32),
         3 => Event::Upset,
+        4 | 5 => random_i2c(chance, state),
         _ => random_frame(chance, state),
     }
 }
@@ -765,8 +1500,14 @@ fn random_event(chance: &mut Chance, state: &State) -> Event {
 fn runs_with_steps_back_equal_runs_of_the_standing_events() {
     let mut chance = Chance(21);
     let mut seen = [0; 25];
-    for _ in 0..300 {
-        let mut bench = Bench::new();
+    let mut i2c_replies = 0;
+    for run in 0..300 {
+        // Every second run finds all channels enabled already.
+        let mut plain = Bench::new();
+        if run % 2 == 1 {
+            plain.state = Bench::ready().state;
+        }
+        let mut bench = plain.clone();
         let mut standing: Vec<(Event, Given)> = Vec::new();
         let mut number = 0;
         for _ in 0..200 {
@@ -780,6 +1521,7 @@ fn runs_with_steps_back_equal_runs_of_the_standing_events() {
                 let event = random_event(&mut chance, &bench.state);
                 let given = bench.play(&event);
                 seen[given.0 as usize] += 1;
+                i2c_replies += i32::from(matches!(event, Event::I2c(..)) && given.0 == 0);
                 assert!(given.0 != 4 && given.0 != 6);
                 if given.0 == 0 || given.0 >= 11 {
                     let reset = matches!(&event, Event::Frame(_, body) if body.len() == 2
@@ -791,7 +1533,6 @@ fn runs_with_steps_back_equal_runs_of_the_standing_events() {
             assert_eq!(bench.kept(), number);
             assert!(in_range(&bench.state));
         }
-        let mut plain = Bench::new();
         for (event, given) in &standing {
             assert_eq!(&plain.play(event), given);
         }
@@ -800,4 +1541,5 @@ fn runs_with_steps_back_equal_runs_of_the_standing_events() {
     for number in [0, 2, 3, 11, 12, 14, 15, 16, 17] {
         assert!(seen[number] > 0, "{} never came", number);
     }
+    assert!(i2c_replies > 500, "only {} I2C replies", i2c_replies);
 }

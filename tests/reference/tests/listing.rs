@@ -1,5 +1,6 @@
 //! Tests of the bench listing, by document 01's eight lines and its edges.
-//! An independent implementation, written from document 01.
+//! An independent implementation, written from document 01 and change
+//! request 2026-01.
 
 use reference::listing::played;
 
@@ -81,6 +82,40 @@ fn unreadable_lines() {
         "X",
         "\r",
         "F 0 +100",
+        "I",
+        "I ",
+        "I 03",
+        "I 03 1",
+        "I 03 1 ",
+        "I 03 1 0 ",
+        "I 03 1 0 0",
+        "I 03 1 0 000",
+        "I 03 1 0 0g",
+        "I 03 1 0 00 ",
+        "I 03 1 0 00 00",
+        "I 03 1 0  00",
+        "I  03 1 0",
+        "I 03  1 0",
+        "I 03 1  0",
+        " I 03 1 0",
+        "i 03 1 0",
+        "I 3 1 0",
+        "I 003 1 0",
+        "I 0003 1 0",
+        "I 0x03 1 0",
+        "I +3 1 0",
+        "I 0g 1 0",
+        "I  1 0",
+        "I 03 2 0",
+        "I 03 0 2",
+        "I 03 9 9",
+        "I 03 a 0",
+        "I 03 01 0",
+        "I 03 1 00",
+        "I 03 10",
+        "I 03 -1 0",
+        "I 03 1 0\r",
+        "I\t03 1 0",
     ] {
         assert_eq!(shown(line), "10 0\n", "{:?}", line);
     }
@@ -100,6 +135,15 @@ fn readable_lines_that_the_call_refuses() {
     assert_eq!(shown(&format!("F 0 {}", "00".repeat(39))), "10 0\n");
     assert_eq!(shown("P 00000000 3"), "3 0\n");
     assert_eq!(shown("B"), "5 0\n");
+    for channel in ["00", "01", "02", "13", "14", "15", "fF", "83"] {
+        assert_eq!(shown(&format!("I {} 1 0", channel)), "3 0\n");
+        assert_eq!(shown(&format!("I {} 0 1 00", channel)), "3 0\n");
+    }
+    assert_eq!(shown(&format!("I 03 1 0 {}", "00".repeat(16))), "15 1\n");
+    assert_eq!(shown(&format!("I 03 1 0 {}", "00".repeat(17))), "3 0\n");
+    // 9 characters and 35 pairs are 79, one pair more is too long a line.
+    assert_eq!(shown(&format!("I 03 1 0 {}", "00".repeat(35))), "3 0\n");
+    assert_eq!(shown(&format!("I 03 1 0 {}", "00".repeat(36))), "10 0\n");
 }
 
 #[test]
@@ -111,6 +155,69 @@ fn each_kind_of_line() {
         shown("U\nU\nF 0 008f\nB\n"),
         "17 1\n17 2\n0 0 0 0063\n5 0\n"
     );
+}
+
+#[test]
+fn an_i2c_line_names_every_master() {
+    for channel in 0x03..=0x12 {
+        for tail in ["0 0", "0 1", "1 0", "1 1", "1 0 aB", "1 1 0123456789ABCDEF"] {
+            assert_eq!(shown(&format!("I {:02x} {}", channel, tail)), "15 1\n");
+            assert_eq!(shown(&format!("I {:02X} {}", channel, tail)), "15 1\n");
+        }
+    }
+}
+
+#[test]
+fn a_masters_work() {
+    // Master 0 on: CRB bit 3. CTRL 0c is NBYTE 3. DATA 11 22 33 44. A
+    // multi-byte read; STATUS while it is open is refused as busy.
+    let input = "\
+F 0 00000100040200080000
+F 0 000202030130000c0000
+F 0 00040303044022114433
+F 0 0006040304de00500000
+F 0 00080503001100000000
+I 04 1 0 a1a2
+I 03 1 0 a1a2
+F 0 000a0603004100000000
+F 0 000c0703048600500000
+I 03 1 0 7f80
+F 0 000e0803009900000000
+F 0 00000903001100000000
+F 0 00020a0302e200000000
+I 03 0 1
+I 03 1 0
+B
+B
+I 03 1 0
+F 0 00040b00040200000000
+F 0 00060c03001100000000
+I 03 1 0
+";
+    let output = "\
+0 1 0 00200100000200000000
+0 2 0 00420203000000000000
+0 3 0 00640303000000000000
+17 4
+0 5 0 00a60503400200000000
+15 6
+0 7 0 00a80403000400040000
+0 8 0 00ca06030004a2a14400
+17 9
+0 10 0 00ec070300047f040000
+0 11 0 000e0803040200000000
+0 12 0 00200903000100240000
+17 13
+0 14 0 00420a03000200680000
+15 15
+17 14
+17 13
+0 14 0 00420a03000200240000
+0 15 0 00640b00000200000000
+0 16 0 00860c03200200000000
+15 17
+";
+    assert_eq!(shown(input), output);
 }
 
 #[test]
@@ -176,6 +283,7 @@ fn any_input_gives_one_line_for_each_of_its_lines() {
     let seeds = [
         INPUT,
         "P 80000001 0\nU\nB\nS 0123456789abcdef0011223344556677\n",
+        "F 0 00000100040200080000\nF 0 00020203048600500000\nI 03 1 0 7f\nI 12 0 1\n",
     ];
     for _ in 0..5_000 {
         let mut text = seeds.concat().repeat(1 + chance.below(3)).into_bytes();
@@ -183,7 +291,7 @@ fn any_input_gives_one_line_for_each_of_its_lines() {
             let place = chance.below(text.len());
             match chance.below(4) {
                 0 => text[place] = chance.below(256) as u8,
-                1 => text.insert(place, b"0 F\nBU"[chance.below(6)]),
+                1 => text.insert(place, b"0 F\nBUI"[chance.below(7)]),
                 2 => drop(text.remove(place)),
                 _ => text[place] = b"0123456789abcdefABCDEF"[chance.below(22)],
             }
