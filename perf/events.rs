@@ -264,6 +264,8 @@ fn main() {
     compare_frames("frame, a register read", 0x02, 1, 0x11);
     compare_frames("frame, an unknown channel", 0x16, 1, 0x11);
     let register = [0x05, MASTER, 4, 0x40, 0x12, 0x34, 0x56, 0x78];
+    let line = [0x05, 0x02, 4, 0x10, 0x12, 0x34, 0x56, 0x78];
+    compare_frames_on("frame, a register written, 8 masters on", (ready_masters(), ready_masters()), line);
     compare_frames_on("frame, an I2C register written", (ready_masters(), ready_masters()), register);
     let (mut ours, mut theirs) = (ready::<Ours>(), ready::<Theirs>());
     compare(
