@@ -50,8 +50,8 @@ extern "C" {
 
 /* ------------------------------------------------------------------ version */
 
-/* The version that this header is of, 1.2.0: major << 16 | minor << 8 | patch. */
-#define SCA_VERSION 0x010200
+/* The version that this header is of, 1.2.1: major << 16 | minor << 8 | patch. */
+#define SCA_VERSION 0x010201
 
 /* ------------------------------------------------------------------ numbers */
 
@@ -386,7 +386,8 @@ uint64_t sca_transmit(const uint8_t *body, size_t body_length, uint8_t *output, 
  *
  *     A journal that a version before 1.2.0 of the library left has the same
  *     length, mark and version of its own, 1, but other records, and no call can
- *     tell. Make it empty with sca_empty first.
+ *     tell. Make it empty with sca_empty first. What 1.2.0 left, state and journal,
+ *     is good as it is.
  *
  * THE CHIP
  *     A body is address, control, information. Address 0x00 is the chip's. The
@@ -578,7 +579,8 @@ uint64_t sca_i2c_completion(uint8_t *state, size_t state_length, uint8_t *journa
  * clock, the strobe rising, or the strobe falling. A line with DIRECTION 0 takes
  * its level if CLKSEL is 0 and kind is 0, or CLKSEL is 1 and kind is 1 with
  * EDGESEL 0 or 2 with EDGESEL 1. A line that so changed, with INTSEL 1, fires on
- * rising where INTTRIG is 0 and on falling where it is 1.
+ * rising where INTTRIG is 1 and on falling where it is 0. (Before version 1.2.1 it
+ * was the other way round.)
  *
  * Number: of the events, with
  *     0   an interrupt: INTENABLE is 1 and lines fired, which INTS now holds

@@ -1,8 +1,8 @@
 //! The version, the sizes of what calls take and the channels of the I2C masters, under the names of `include/sca.h`, there
 //! with `SCA_` in front.
 
-/// The version that this crate is made for, 1.2.0: major << 16 | minor << 8 | patch. [`crate::version`] gives the archive's.
-pub const VERSION: u64 = 0x01_0200;
+/// The version that this crate is made for, 1.2.1: major << 16 | minor << 8 | patch. [`crate::version`] gives the archive's.
+pub const VERSION: u64 = 0x01_0201;
 
 /// The bytes of the shortest body.
 pub const BODY_LEAST: usize = 2;

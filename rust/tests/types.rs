@@ -16,7 +16,7 @@ fn sent(port: Port, bytes: &[u8]) -> impl Fn(Answer) -> bool + '_ {
     move |answer| matches!(answer, Answer::HasFrame { port: on, body } if on == port && body[..] == *bytes)
 }
 
-/// GPIO and SPI on, all lines with interrupts.
+/// GPIO and SPI on, all lines with interrupts, on falling.
 fn enabled() -> Adapter {
     let mut adapter = adapter();
     for request in [
@@ -101,8 +101,9 @@ fn later_answers() {
     assert_eq!(adapter.sample(1, Edge::StrobeRising), Ok(Answer::NoFrame));
     assert_eq!(adapter.sample(1, Edge::StrobeFalling), Ok(Answer::NoFrame));
     let interrupt = [0x00, 0x88, 0xFF, 0x02, 0x00, 0x04, 0x00, 0x00, 0x01, 0x00];
+    assert_eq!(adapter.sample(1, Edge::SystemClock), Ok(Answer::NoFrame));
     assert!(sent(Port::Primary, &interrupt)(
-        adapter.sample(1, Edge::SystemClock).unwrap()
+        adapter.sample(0, Edge::SystemClock).unwrap()
     ));
 }
 
@@ -286,10 +287,10 @@ fn wide_bits() {
 
 #[test]
 fn the_version() {
-    assert_eq!(VERSION, 0x01_0200);
+    assert_eq!(VERSION, 0x01_0201);
     assert_eq!(sca::version(), VERSION);
     let manifest = include_str!("../Cargo.toml");
-    assert!(manifest.lines().any(|line| line == "version = \"1.2.0\""));
+    assert!(manifest.lines().any(|line| line == "version = \"1.2.1\""));
 }
 
 #[test]

@@ -141,7 +141,7 @@ static void order_of_refusals(void) {
 }
 
 static void version(void) {
-    check(SCA_VERSION == (1 << 16 | 2 << 8 | 0) && sca_version() == SCA_VERSION, "the library is of the header's version, 1.2.0");
+    check(SCA_VERSION == (1 << 16 | 2 << 8 | 1) && sca_version() == SCA_VERSION, "the library is of the header's version, 1.2.1");
 }
 
 static void readers(void) {
@@ -362,12 +362,56 @@ static void later_answers(void) {
     check(sca_number(result) == SCA_HAS_FRAME && sca_length(result) == 10 && memcmp(output, "\x00\x86\x04\x01\x00\x06\x34\x12\x78\x56", 10) == 0,
           "its completion gives the reply");
     check(sample(0, SCA_STROBE_RISING) == SCA_NO_FRAME, "a sample that changes no line gives SCA_NO_FRAME");
-    result = sample(0x80000001, SCA_SYSTEM_CLOCK);
+    check(sample(0x80000001, SCA_SYSTEM_CLOCK) == SCA_NO_FRAME, "so does one that fires no line");
+    result = sample(0, SCA_SYSTEM_CLOCK);
     check(sca_number(result) == SCA_HAS_FRAME && memcmp(output, "\x00\x88\xFF\x02\x00\x04\x00\x80\x01\x00", 10) == 0,
           "a sample that fires gives the interrupt");
     result = frame(SCA_AUXILIARY, "\x00\x3F", 2);
     check(sca_number(result) == SCA_HAS_FRAME && sca_port(result) == SCA_AUXILIARY && memcmp(output, "\x00\x73", 2) == 0,
           "CONNECT is acknowledged on its own port");
+}
+
+/* A new adapter with the lines enabled, and these interrupts. */
+static void armed(uint32_t intsel, uint32_t inttrig) {
+    begin();
+    request(1, 0x00, 4, 0x02, 0x04000000);
+    request(2, 0x02, 4, 0x30, intsel);
+    request(3, 0x02, 4, 0x40, inttrig);
+    request(4, 0x02, 4, 0x60, 1);
+}
+
+/* Whether a sample gives this number and, with a frame, an interrupt of these lines. */
+static int fires(uint32_t levels, uint32_t number, uint32_t lines) {
+    uint8_t sent[] = {0xFF, 0x02, 0x00, 0x04, (uint8_t)(lines >> 16), (uint8_t)(lines >> 24), (uint8_t)lines, (uint8_t)(lines >> 8)};
+    uint64_t result = sample(levels, SCA_SYSTEM_CLOCK);
+    if (sca_number(result) != number) return 0;
+    return number != SCA_HAS_FRAME || (sca_length(result) == 10 && memcmp(output + 2, sent, sizeof sent) == 0);
+}
+
+/* Which edge of a line interrupts: Table 9.7 of the manual, for each line alone, with INTENABLE 1. */
+static void edges(void) {
+    static const struct {
+        uint32_t intsel, inttrig, rising, falling;
+        const char *what;
+    } rows[] = {
+        {1, 0, SCA_NO_FRAME, SCA_HAS_FRAME, "with INTTRIG 0 a line interrupts on falling"},
+        {1, 1, SCA_HAS_FRAME, SCA_NO_FRAME, "with INTTRIG 1 on rising"},
+        {0, 0, SCA_NO_FRAME, SCA_NO_FRAME, "with INTSEL 0 on neither, INTTRIG being 0"},
+        {0, 1, SCA_NO_FRAME, SCA_NO_FRAME, "or 1"},
+    };
+    for (size_t row = 0; row < sizeof rows / sizeof rows[0]; row++) {
+        int good = 1;
+        for (unsigned line = 0; line < 32; line++) {
+            armed(rows[row].intsel << line, rows[row].inttrig << line);
+            good &= fires((uint32_t)1 << line, rows[row].rising, (uint32_t)1 << line);
+            good &= fires(0, rows[row].falling, (uint32_t)1 << line);
+        }
+        check(good, rows[row].what);
+    }
+    /* Lines 0 and 2 have INTTRIG 1, line 1 has 0, line 3 is not selected. */
+    armed(0x7, 0x5);
+    check(fires(0xC, SCA_HAS_FRAME, 0x4) && fires(0xB, SCA_HAS_FRAME, 0x1) && fires(0x8, SCA_HAS_FRAME, 0x2), "lines go each by its own INTTRIG");
+    check(fires(0xA, SCA_NO_FRAME, 0) && state[62] == 0x2, "INTS stays where no line fires");
 }
 
 /* Reads and writes on two masters at once, and a step back over each end. */
@@ -409,6 +453,7 @@ int main(void) {
     record_bytes();
     listing();
     later_answers();
+    edges();
     i2c_exchange();
     return failures != 0;
 }

@@ -173,8 +173,8 @@ static unsigned number_of(enum call which, int *good) {
 static uint8_t some_state[SCA_STATE_BYTES], some_journal[SCA_JOURNAL_BYTES];
 
 /* Plays requests on a new adapter: none, or enough to have something in the registers of every group, loopback, an open GO, and I2C starts open:
- * of a read of 16 bytes on channel 0x05, and one in each other group. Then the event whose record has this tag: an upset, a pin sample, a write
- * of CRC, one of CRD. Unwritten slots hold what every group may hold, or what none may. */
+ * of a read of 16 bytes on channel 0x05, and one in each other group. Lines interrupt on rising. Then the event whose record has this tag: an
+ * upset, a pin sample, a write of CRC, one of CRD. Unwritten slots hold what every group may hold, or what none may. */
 static void reach(int deep, uint8_t tag) {
     static const char *const requests[] = {
         "\x00\x00\x01\x00\x04\x02\x00\xFF\x00\x00", "\x00\x02\x02\x00\x04\x06\x00\xFF\x00\x00",
@@ -185,7 +185,7 @@ static void reach(int deep, uint8_t tag) {
         "\x00\x04\x0B\x05\x01\x30\x00\x40\x00\x00", "\x00\x06\x0C\x05\x04\x50\x12\x34\x56\x78",
         "\x00\x08\x0D\x05\x04\xDE\x00\x50\x00\x00", "\x00\x0A\x0E\x0B\x01\x20\x00\x77\x00\x00",
         "\x00\x0C\x0F\x0B\x04\x82\x00\x50\x00\x00", "\x00\x0E\x10\x11\x00\xFF\x00\x00\x00\x00",
-        "\x00\x00\x11\x12\x02\xC2\x00\x50\x00\x00",
+        "\x00\x00\x11\x12\x02\xC2\x00\x50\x00\x00", "\x00\x02\x12\x02\x04\x40\xFF\xFF\xFF\xFF",
     };
     uint8_t sent[SCA_OUTPUT_LEAST];
     sca_create(some_state, sizeof some_state, deep ? SCA_ID_MOST : 0x00000A);
@@ -434,10 +434,11 @@ static void records_of_frames(void) {
     for (unsigned to = 0; to <= 0xFF; to++)
         for (unsigned at = 0; at < (to ? sizeof commands : 0x100); at++) {
             lend_all();
-            lend_bytes(&body, "\x00\x02\x0A\x00\x04\x00\x00\xFE\x00\x00", 10);
+            lend_bytes(&body, "\x00\x00\x0A\x00\x04\x00\x00\xFE\x00\x00", 10);
+            body.at[1] = (uint8_t)(2 * some_state[1]); /* in sequence, so that the request is heard */
             body.at[3] = (uint8_t)to, body.at[5] = to ? commands[at] : (uint8_t)at;
             unsigned number = number_of(FRAME, &good);
-            good &= !sca_refused(number);
+            good &= !sca_refused(number) && state.at[1] == (some_state[1] + 1) % 8;
         }
     check(good, "the records of requests to every channel");
     good = 1;

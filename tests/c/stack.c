@@ -40,9 +40,11 @@ static void busy(void) {
 
 static void waiting(void) {
     static const uint8_t intsel[] = {0x00, 0x02, 0x02, 0x02, 0x04, 0x30, 0xFF, 0xFF, 0xFF, 0xFF};
-    static const uint8_t intenable[] = {0x00, 0x04, 0x03, 0x02, 0x04, 0x60, 0x00, 0x00, 0x01, 0x00};
+    static const uint8_t inttrig[] = {0x00, 0x04, 0x03, 0x02, 0x04, 0x40, 0xFF, 0xFF, 0xFF, 0xFF};
+    static const uint8_t intenable[] = {0x00, 0x06, 0x04, 0x02, 0x04, 0x60, 0x00, 0x00, 0x01, 0x00};
     enabled();
     frame(intsel, sizeof intsel);
+    frame(inttrig, sizeof inttrig);
     frame(intenable, sizeof intenable);
 }
 
@@ -177,6 +179,7 @@ int main(void) {
     flat(busy, completion, "sca_completion");
     flat(transacting, i2c_completion, "sca_i2c_completion");
     flat(waiting, sample, "sca_sample with an interrupt");
+    check(output[2] == 0xFF, "it was sent");
     flat(fresh, upset, "sca_upset");
     flat(enabled, step_back, "sca_step_back");
     flat(transacted, step_back, "sca_step_back over an I2C completion");

@@ -139,6 +139,13 @@ fn all_seen(tally: &Tally) -> bool {
             &format!("interrupts by every edge kind ({})", list(&tally.interrupts)),
         ),
         say(
+            tally.edges.iter().all(|count| *count > 0),
+            &format!(
+                "lines falling and rising with INTTRIG and INTSEL 0 and 1 ({})",
+                list(&tally.edges)
+            ),
+        ),
+        say(
             all(&tally.acknowledged, &streams::LINK_COMMANDS.map(usize::from)),
             "CONNECT, RESET and TEST, both forms",
         ),

@@ -4,7 +4,7 @@ use crate::calls::Call;
 use crate::masters::{End, Masters};
 use crate::record::CRD;
 use crate::run::refused;
-use reference::adapter::State;
+use reference::adapter::{Gpio, State};
 use reference::numbers::{BAD_ARGUMENT, BAD_JOURNAL, DONE, FRAME, NOTHING_KEPT, OTHER_ADDRESS, WRONG_INFORMATION};
 use sca::boundary::RawAnswer;
 use std::collections::BTreeSet;
@@ -59,6 +59,8 @@ pub struct Tally {
     pub transfers: [u64; 128],
     /// Interrupts, by edge kind.
     pub interrupts: [u64; 3],
+    /// Samples with INTENABLE 1 in which a line rose (4 of the place) or fell, with INTTRIG (2) and INTSEL (1) of that line.
+    pub edges: [u64; 8],
     pub rejects: u64,
     pub loops: u64,
     pub acknowledged: [u64; 256],
@@ -98,6 +100,7 @@ impl Tally {
             commands: BTreeSet::new(),
             transfers: [0; 128],
             interrupts: [0; 3],
+            edges: [0; 8],
             rejects: 0,
             loops: 0,
             acknowledged: [0; 256],
@@ -162,11 +165,23 @@ impl Tally {
                 if frame {
                     self.interrupts[*kind as usize] += 1;
                 }
+                if !refused(answer.number) && state.gpio.intenable == 1 {
+                    self.moved(&state.gpio, after.gpio.datain);
+                }
             }
             _ => {
                 self.upset[number] += 1;
                 self.counter_wrapped += u64::from(answer.number == DONE && state.seu == u32::MAX);
             }
+        }
+    }
+
+    /// Lines that a sample moved to these levels.
+    fn moved(&mut self, gpio: &Gpio, levels: u32) {
+        for place in 0..self.edges.len() {
+            let lines = |bit: usize, set: u32| if place & bit == 0 { !set } else { set };
+            let seen = (gpio.datain ^ levels) & lines(4, levels) & lines(2, gpio.inttrig) & lines(1, gpio.intsel);
+            self.edges[place] += u64::from(seen != 0);
         }
     }
 

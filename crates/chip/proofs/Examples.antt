@@ -1,5 +1,6 @@
--- Worked examples, computed: document 01's listing, its table of commands row by row, its errors, frame checks, pins and transfers. The
--- lengths of channels 0x00, 0x13 and 0x14 are document 01's house lengths: the manual's Table 5.7 prints none.
+-- Worked examples, computed: document 01's listing, its table of commands row by row, its errors, frame checks, transfers and pins, whose
+-- interrupts are by request 2026-02. The lengths of channels 0x00, 0x13 and 0x14 are document 01's house lengths: the manual's Table 5.7
+-- prints none.
 use Prim.Native.Nat.{ℕ, _*_}
 use mathlib.Core.List.{List, [], _∷_, _++_, map}
 use mathlib.Core.Path.{_≡_, refl}
@@ -146,15 +147,20 @@ abbrev received : Event
 received =
     completion (spi (0xAA ∷ 0xBB ∷ 0xCC ∷ 0xDD ∷ 0x11 ∷ 0x22 ∷ 0x33 ∷ 0x44 ∷ 0x55 ∷ 0x66 ∷ 0x77 ∷ 0x88 ∷ 0x01 ∷ 0x02 ∷ 0x03 ∷ 0x04 ∷ []))
 
--- line 0 with an interrupt on rising; on falling; and with interrupts off
-abbrev armed : Adapter
-armed = left enabled (ask 0x02 4 0x30 0x00000001 ∷ ask 0x02 4 0x60 0x00000001 ∷ [])
+-- INTSEL, INTTRIG and INTENABLE written
+abbrev armed : ℕ → ℕ → ℕ → Adapter
+armed intsel inttrig intenable = left enabled (ask 0x02 4 0x30 intsel ∷ ask 0x02 4 0x40 inttrig ∷ ask 0x02 4 0x60 intenable ∷ [])
 
-abbrev falling : Adapter
-falling = left armed (ask 0x02 4 0x40 0x00000001 ∷ [])
+-- line 0 rises, and falls
+abbrev pulse : List Event
+pulse = sample 0x00000001 0 ∷ sample 0x00000000 0 ∷ []
 
-abbrev silent : Adapter
-silent = left enabled (ask 0x02 4 0x30 0x00000001 ∷ [])
+-- the answer that sends nothing, and the first interrupt after `armed`, of line 0: Table 9.10, TRN 0xFF, CH 0x02, ERR 0, LEN 4, INTS
+abbrev none : List ℕ
+none = 17 ∷ 0 ∷ []
+
+abbrev fires : List ℕ
+fires = 0 ∷ 0 ∷ 0x00 ∷ 0xAA ∷ 0xFF ∷ 0x02 ∷ 0x00 ∷ 0x04 ∷ 0x00 ∷ 0x00 ∷ 0x01 ∷ 0x00 ∷ []
 
 -- line 0 with the system clock, line 1 with the strobe rising, line 2 with it falling, line 3 an output
 abbrev clocked : Adapter
@@ -223,14 +229,15 @@ pub record Tables : Type 0 where
   pub all-bits : told (reaction whole received) ≡ 0 ∷ 0 ∷ 6 ∷ 0xDDCCBBAA ∷ []
   pub four-words : Rows (after whole (received ∷ [])) 0x01
       (read 0x01 2 6 0xDDCCBBAA ∷ read 0x11 2 6 0x44332211 ∷ read 0x21 2 6 0x88776655 ∷ read 0x31 2 6 0x04030201 ∷ [])
-  -- Table 9.10: TRN 0xFF, CH 0x02, ERR 0, LEN 4, INTS
-  pub interrupt : run armed (sample 0x00000003 0 ∷ []) ≡ (0 ∷ 0 ∷ 0x00 ∷ 0x88 ∷ 0xFF ∷ 0x02 ∷ 0x00 ∷ 0x04 ∷ 0x00 ∷ 0x00 ∷ 0x01 ∷ 0x00 ∷ []) ∷ []
-  -- INTTRIG 1: no interrupt on rising (17), one on falling
-  pub on-falling : run falling (sample 0x00000001 0 ∷ sample 0x00000000 0 ∷ [])
-      ≡ (17 ∷ 0 ∷ []) ∷ (0 ∷ 0 ∷ 0x00 ∷ 0xAA ∷ 0xFF ∷ 0x02 ∷ 0x00 ∷ 0x04 ∷ 0x00 ∷ 0x00 ∷ 0x01 ∷ 0x00 ∷ []) ∷ []
+  -- Table 9.7, rising and falling: with INTTRIG 1 the interrupt goes out on rising, with 0 on falling; a line beside it goes by its own bit
+  pub on-rising : run (armed 0x00000001 0x00000001 1) pulse ≡ fires ∷ none ∷ []
+  pub on-falling : run (armed 0x00000001 0x00000000 1) pulse ≡ none ∷ fires ∷ []
+  pub line-by-line : run (armed 0x00000003 0x00000001 1) (sample 0x00000003 0 ∷ []) ≡ fires ∷ []
+  -- with INTSEL 0 on neither
+  pub unselected : map (λ inttrig. run (armed 0x00000000 inttrig 1) pulse) (0x00000000 ∷ 0x00000001 ∷ []) ≡ (none ∷ none ∷ []) ∷ (none ∷ none ∷ []) ∷ []
   -- INTENABLE 0: a line fires, no interrupt goes out and INTS stays; DATAIN has it
-  pub no-interrupt : run silent (sample 0x00000001 0 ∷ []) ≡ (17 ∷ 0 ∷ []) ∷ []
-  pub ints-stays : Rows (after silent (sample 0x00000001 0 ∷ [])) 0x02 (read 0x71 1 4 0 ∷ read 0x01 1 4 1 ∷ [])
+  pub no-interrupt : run (armed 0x00000001 0x00000001 0) (sample 0x00000001 0 ∷ []) ≡ none ∷ []
+  pub ints-stays : Rows (after (armed 0x00000001 0x00000001 0) (sample 0x00000001 0 ∷ [])) 0x02 (read 0x71 1 4 0 ∷ read 0x01 1 4 1 ∷ [])
   -- CLKSEL, EDGESEL and DIRECTION: which of the lines 0 to 3, all high, a sample of kind 0, 1 and 2 takes
   pub kinds : map (λ kind. registers.read (after clocked (sample 0x0000000F kind ∷ []) .registers) Datain) (0 ∷ 1 ∷ 2 ∷ []) ≡ 0x01 ∷ 0x02 ∷ 0x04 ∷ []
   -- the frame checks: another address, a command with information, another odd control, the other port, a wrong length; the acknowledgements
@@ -275,8 +282,10 @@ tables =
       idle-again = refl;
       all-bits = refl;
       four-words = refl;
-      interrupt = refl;
+      on-rising = refl;
       on-falling = refl;
+      line-by-line = refl;
+      unselected = refl;
       no-interrupt = refl;
       ints-stays = refl;
       kinds = refl;

@@ -1,8 +1,8 @@
 // Every command once, and every other event: one line for each, document 01's number and the body that is sent.
-// `stdout` is worked out by hand from document 01, for the masters from request 2026-01 and chapter 6 of 000. The comment above a call
-// is how its line comes about: s and r are the send and the receive number in its control, 2 s + 32 r; then LEN as asked and as given,
-// and the data. A reply is 00, control, TRN 01, CH, ERR, LEN, D[23:16], D[31:24], D[7:0], D[15:8]; ERR is 0 and data is 0 where nothing
-// else is said.
+// `stdout` is worked out by hand from document 01, for the masters from request 2026-01 and chapter 6 of 000, for the edge of an
+// interrupt from request 2026-02. The comment above a call is how its line comes about: s and r are the send and the receive number in
+// its control, 2 s + 32 r; then LEN as asked and as given, and the data. A reply is 00, control, TRN 01, CH, ERR, LEN, D[23:16],
+// D[31:24], D[7:0], D[15:8]; ERR is 0 and data is 0 where nothing else is said.
 mod print;
 mod requests;
 
@@ -91,7 +91,7 @@ fn lines(l: Link, registers: &mut [u8; SIZE]) -> Link {
     let l = ask(l, registers, 0x02, 4, 0x30, 0x00010003);
     // s 3 r 4: 86. LEN 1/4. INTSEL is 00010003: 01 00 03 00.
     let l = ask(l, registers, 0x02, 1, 0x31, 0);
-    // s 4 r 5: A8. LEN 4/2. Line 1 fires on falling, the others on rising.
+    // s 4 r 5: A8. LEN 4/2. Line 1 fires on rising, the others on falling.
     let l = ask(l, registers, 0x02, 4, 0x40, 0x00000002);
     // s 5 r 6: CA. LEN 1/4. INTTRIG is 00000002: 00 00 02 00.
     let l = ask(l, registers, 0x02, 1, 0x41, 0);
@@ -110,15 +110,15 @@ fn lines(l: Link, registers: &mut [u8; SIZE]) -> Link {
 }
 
 fn samples(l: Link, registers: &mut [u8; SIZE]) -> Link {
-    // 17: lines 0 and 1 take 1, line 8 waits for the strobe, line 16 is an output. Line 0 fires, but INTENABLE is 0.
+    // 17: lines 0 and 1 take 1, line 8 waits for the strobe, line 16 is an output. Line 1 fires, but INTENABLE is 0.
     let l = sample(l, registers, 0x00010103, 0);
     // s 4 r 5: A8. LEN 4/2. D[0] alone is read.
     let l = ask(l, registers, 0x02, 4, 0x60, 0xFFFFFFFF);
     // s 5 r 6: CA. LEN 1/4. INTENABLE is 1: 00 00 01 00.
     let l = ask(l, registers, 0x02, 1, 0x61, 0);
-    // s 6 r 6: CC. Lines 0 and 1 fall, line 1 fires: an interrupt, TRN FF, CH 02, LEN 4. INTS becomes 00000002: 00 00 02 00.
+    // s 6 r 6: CC. Lines 0 and 1 fall, line 0 fires: an interrupt, TRN FF, CH 02, LEN 4. INTS becomes 00000001: 00 00 01 00.
     let l = sample(l, registers, 0x00000000, 0);
-    // s 7 r 7: EE. LEN 1/4. INTS is 00000002: 00 00 02 00.
+    // s 7 r 7: EE. LEN 1/4. INTS is 00000001: 00 00 01 00.
     let l = ask(l, registers, 0x02, 1, 0x71, 0);
     // 17: the strobe falls, line 8 alone takes 1; INTSEL does not have it.
     let l = sample(l, registers, 0x00000103, 2);

@@ -62,18 +62,23 @@ unfolding datainAfter
 datain-mask rs d c e was levels kind mask hd hc he hw m =
     simp (m, hd, hc, he, hw) (chosen-by 32 (read rs Datain) levels (taken (read rs Direction) (read rs Clksel) (read rs Edgesel) kind))
 
+-- the lines that rose with INTTRIG 1, and those that fell with INTTRIG 0
+abbrev rose : ℕ → ℕ → ℕ → ℕ
+rose w after t = bitAnd (bitAnd (inv w) after) t
+
+abbrev fell : ℕ → ℕ → ℕ → ℕ
+fell w after t = bitAnd (bitAnd w (inv after)) (inv t)
+
 pub firing-mask : (w after s t : ℕ) → w < 2 ^ 32 → after < 2 ^ 32 → s < 2 ^ 32 → t < 2 ^ 32
-    → bitAnd s (bitOr (bitAnd (bitAnd (inv w) after) (inv t)) (bitAnd (bitAnd w (inv after)) t))
-    ≡ word 32 (λ i. fires (bitOf w i) (bitOf after i) (bitOf s i) (bitOf t i))
+    → bitAnd s (bitOr (rose w after t) (fell w after t)) ≡ word 32 (λ i. fires (bitOf w i) (bitOf after i) (bitOf s i) (bitOf t i))
 firing-mask w after s t hw hn hs ht =
-    is-word 32 (bitAnd s (bitOr (bitAnd (bitAnd (inv w) after) (inv t)) (bitAnd (bitAnd w (inv after)) t)))
-    (λ i. fires (bitOf w i) (bitOf after i) (bitOf s i) (bitOf t i))
-    (and-lt 32 s (bitOr (bitAnd (bitAnd (inv w) after) (inv t)) (bitAnd (bitAnd w (inv after)) t)) hs
-    (or-lt 32 (bitAnd (bitAnd (inv w) after) (inv t)) (bitAnd (bitAnd w (inv after)) t)
-    (and-lt 32 (bitAnd (inv w) after) (inv t) (and-lt 32 (inv w) after (ones-sub-lt 32 w) hn) (ones-sub-lt 32 t))
-    (and-lt 32 (bitAnd w (inv after)) t (and-lt 32 w (inv after) hw (ones-sub-lt 32 after)) ht)))
+    is-word 32 (bitAnd s (bitOr (rose w after t) (fell w after t))) (λ i. fires (bitOf w i) (bitOf after i) (bitOf s i) (bitOf t i))
+    (and-lt 32 s (bitOr (rose w after t) (fell w after t)) hs
+    (or-lt 32 (rose w after t) (fell w after t)
+    (and-lt 32 (bitAnd (inv w) after) t (and-lt 32 (inv w) after (ones-sub-lt 32 w) hn) ht)
+    (and-lt 32 (bitAnd w (inv after)) (inv t) (and-lt 32 w (inv after) hw (ones-sub-lt 32 after)) (ones-sub-lt 32 t))))
     (λ i h. simp (bit-or, bit-and, bit-not 32 w i hw h, bit-not 32 after i hn h, bit-not 32 t i ht h)
-    (taut4 (λ w n s t. s && (not w && n && not t || w && not n && t)) (λ w n s t. fires w n s t) tt (bitOf w i) (bitOf after i) (bitOf s i) (bitOf t i)))
+    (taut4 (λ w n s t. s && (not w && n && t || w && not n && not t)) (λ w n s t. fires w n s t) tt (bitOf w i) (bitOf after i) (bitOf s i) (bitOf t i)))
 
 pub firing : (rs : List ℕ) (after w s t r : ℕ) → w ≡ read rs Datain → s ≡ read rs Intsel → t ≡ read rs Inttrig
     → r ≡ word 32 (λ i. fires (bitOf w i) (bitOf after i) (bitOf s i) (bitOf t i)) → r ≡ firingLines rs after

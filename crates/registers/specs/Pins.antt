@@ -21,9 +21,9 @@ datainAfter rs levels kind =
     (bitOf levels i)
     (bitOf (read rs Datain) i))
 
--- A line whose bit changed, with INTSEL set, fires on rising when INTTRIG is 0 and on falling when 1.
+-- A line whose bit changed, with INTSEL set, fires on rising when INTTRIG is 1 and on falling when 0 (request 2026-02, after 000, Table 9.7).
 abbrev pub fires : Bool → Bool → Bool → Bool → Bool
-fires was is intsel inttrig = intsel && cond inttrig (was && not is) (not was && is)
+fires was is intsel inttrig = intsel && cond inttrig (not was && is) (was && not is)
 
 unfoldable pub firingLines : List ℕ → ℕ → ℕ
 firingLines rs after =

@@ -34,7 +34,7 @@ fn datain_after(registers: &[u8], levels: u32, kind: u8) -> u32
 fn fired(was: u32, is: u32, intsel: u32, inttrig: u32) -> u32
     ensures { λ r. ⌜ r ≡ word 32 (λ i. fires (bitOf was i) (bitOf is i) (bitOf intsel i) (bitOf inttrig i)) ⌝ }
 {
-    intsel & ((!was & is & !inttrig) | (was & !is & inttrig))
+    intsel & ((!was & is & inttrig) | (was & !is & !inttrig))
 }
 
 // Those that went from DATAIN to `after`.

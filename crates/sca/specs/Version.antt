@@ -3,4 +3,4 @@ use Prim.Native.Nat.{ℕ, _+_, _*_}
 
 -- 1.2.0, as major << 16 | minor << 8 | patch
 abbrev pub version : ℕ
-version = 65536 * 1 + 256 * 2 + 0
+version = 65536 * 1 + 256 * 2 + 1

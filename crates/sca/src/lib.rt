@@ -15,7 +15,7 @@ ghost use Rattle.adapter.specs.Calls as adapters;
 ghost use Rattle.sca.specs.Adapter.{packAnswer, packKept, isSet, left, packed};
 ghost use Rattle.sca.specs.Version.{version};
 
-const VERSION: u64 = 0x010200;
+const VERSION: u64 = 0x010201;
 
 // A number, in a result of 64 bits.
 fn wide(number: u8) -> u64

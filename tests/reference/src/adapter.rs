@@ -1,7 +1,7 @@
 //! The adapter's calls: creation, the five events, and stepping back through
 //! a journal of earlier states.
 //! An independent implementation, written from document 01 and change
-//! request 2026-01.
+//! requests 2026-01 and 2026-02.
 
 use std::collections::VecDeque;
 
@@ -463,9 +463,10 @@ fn sampled_lines(gpio: &Gpio, kind: u32) -> u32 {
     clocked & !gpio.direction
 }
 
-/// The selected lines that rose, or fell where INTTRIG is 1.
+/// The selected lines that rose where INTTRIG is 1, or fell where it is 0:
+/// Table 9.7 decides, section 9.2 of the manual says the reverse.
 fn firing_lines(gpio: &Gpio, before: u32) -> u32 {
     let rose = gpio.datain & !before;
     let fell = before & !gpio.datain;
-    (rose & !gpio.inttrig | fell & gpio.inttrig) & gpio.intsel
+    (rose & gpio.inttrig | fell & !gpio.inttrig) & gpio.intsel
 }

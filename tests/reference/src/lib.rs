@@ -1,6 +1,6 @@
 //! An independent implementation of the slow control adapter, written from
-//! document 01 and change request 2026-01: its link, its events with step
-//! back, and its bench listing.
+//! document 01 and change requests 2026-01 and 2026-02: its link, its events
+//! with step back, and its bench listing.
 
 #![forbid(unsafe_code)]
 

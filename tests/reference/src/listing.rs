@@ -1,6 +1,6 @@
 //! The bench listing: a text of events is played, one line of answer each.
 //! An independent implementation, written from document 01 and change
-//! request 2026-01.
+//! requests 2026-01 and 2026-02.
 
 use crate::adapter::{self, Answer, Journal, State};
 use crate::numbers::{FRAME, UNREADABLE};

@@ -1,6 +1,6 @@
 //! The numbers that calls give back, as document 01's table lists them.
 //! An independent implementation, written from document 01 and change
-//! request 2026-01.
+//! requests 2026-01 and 2026-02.
 
 /// A frame was read or sent.
 pub const FRAME: u8 = 0;

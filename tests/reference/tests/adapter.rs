@@ -1,6 +1,6 @@
 //! Tests of the adapter's events, refusals and steps back.
 //! An independent implementation, written from document 01 and change
-//! request 2026-01.
+//! requests 2026-01 and 2026-02.
 
 use reference::adapter::*;
 
@@ -314,6 +314,7 @@ fn replies_leave_on_the_active_port_in_loopback() {
     assert_eq!(bench.request(7, 0x01, 2, 0x72, 0), (17, 0, vec![]));
     bench.ask(0x02, 4, 0x60, 1);
     bench.ask(0x02, 4, 0x30, 1);
+    bench.ask(0x02, 4, 0x40, 1);
     bench.frame(1, &CONNECT);
     bench.frame(1, &TEST);
     assert_eq!(
@@ -623,15 +624,104 @@ fn interrupts_fire_on_the_chosen_edge() {
         (u32::MAX, 0xDEAD_BEEF)
     );
     bench.ask(2, 4, 0x60, 0xFFFF_FFFF);
+    // All fall: lines 15 to 12 are selected and have INTTRIG 0.
     let (number, _, body) = bench.sample(0, 0);
     assert_eq!(number, 0);
-    assert_eq!(body[2..], [0xFF, 0x02, 0, 4, 0, 0, 0x0F, 0x0F]);
-    assert_eq!(bench.state.gpio.ints, 0x0F0F);
-    assert_eq!(bench.sample(0, 0), (17, 0, vec![]));
-    let (_, _, body) = bench.sample(0xFFFF_FFFF, 0);
-    assert_eq!(body[6..], [0, 0, 0, 0xF0]);
-    assert_eq!(bench.sample(0xFFFF_FFFF, 0), (17, 0, vec![]));
+    assert_eq!(body[2..], [0xFF, 0x02, 0, 4, 0, 0, 0, 0xF0]);
     assert_eq!(bench.state.gpio.ints, 0xF000);
+    assert_eq!(bench.sample(0, 0), (17, 0, vec![]));
+    // All rise: lines 11 to 8 and 3 to 0 are selected and have INTTRIG 1.
+    let (number, _, body) = bench.sample(0xFFFF_FFFF, 0);
+    assert_eq!(number, 0);
+    assert_eq!(body[2..], [0xFF, 0x02, 0, 4, 0, 0, 0x0F, 0x0F]);
+    assert_eq!(bench.sample(0xFFFF_FFFF, 0), (17, 0, vec![]));
+    assert_eq!(bench.state.gpio.ints, 0x0F0F);
+}
+
+/// Line 17, the only one that moves in the two tests below.
+const LINE: u32 = 0x0002_0000;
+
+#[test]
+fn table_of_edges_for_one_line() {
+    // Level before and after, INTTRIG, INTSEL, INTENABLE; the sample's number
+    // and INTS afterwards, which held 0xDEADBEEF.
+    for (before, after, inttrig, intsel, intenable, number, ints) in [
+        // Rising.
+        (0, LINE, 0, 0, 0, 17, 0xDEAD_BEEF),
+        (0, LINE, 0, 0, 1, 17, 0xDEAD_BEEF),
+        (0, LINE, 0, LINE, 0, 17, 0xDEAD_BEEF),
+        (0, LINE, 0, LINE, 1, 17, 0xDEAD_BEEF),
+        (0, LINE, LINE, 0, 0, 17, 0xDEAD_BEEF),
+        (0, LINE, LINE, 0, 1, 17, 0xDEAD_BEEF),
+        (0, LINE, LINE, LINE, 0, 17, 0xDEAD_BEEF),
+        (0, LINE, LINE, LINE, 1, 0, 0x0002_0000),
+        // Falling.
+        (LINE, 0, 0, 0, 0, 17, 0xDEAD_BEEF),
+        (LINE, 0, 0, 0, 1, 17, 0xDEAD_BEEF),
+        (LINE, 0, 0, LINE, 0, 17, 0xDEAD_BEEF),
+        (LINE, 0, 0, LINE, 1, 0, 0x0002_0000),
+        (LINE, 0, LINE, 0, 0, 17, 0xDEAD_BEEF),
+        (LINE, 0, LINE, 0, 1, 17, 0xDEAD_BEEF),
+        (LINE, 0, LINE, LINE, 0, 17, 0xDEAD_BEEF),
+        (LINE, 0, LINE, LINE, 1, 17, 0xDEAD_BEEF),
+    ] {
+        let mut bench = Bench::new();
+        bench.enable(0x04, 0);
+        assert_eq!(bench.sample(before, 0), (17, 0, vec![]));
+        bench.ask(2, 4, 0x40, inttrig);
+        bench.ask(2, 4, 0x30, intsel);
+        bench.ask(2, 4, 0x70, 0xDEAD_BEEF);
+        bench.ask(2, 4, 0x60, intenable);
+        // Six requests were answered: control is 2 * 6 + 32 * 6.
+        let given = match number {
+            0 => (0, 0, vec![0, 0xCC, 0xFF, 2, 0, 4, 2, 0, 0, 0]),
+            _ => (17, 0, vec![]),
+        };
+        assert_eq!(bench.sample(after, 0), given);
+        assert_eq!(bench.ask(2, 1, 0x71, 0), (0, 4, ints));
+        assert_eq!(bench.ask(2, 1, 0x01, 0), (0, 4, after));
+        assert_eq!(bench.ask(2, 1, 0x41, 0), (0, 4, inttrig));
+        // A level that stays is no edge.
+        assert_eq!(bench.sample(after, 0), (17, 0, vec![]));
+        assert_eq!(bench.state.gpio.ints, ints);
+    }
+}
+
+#[test]
+fn the_edge_that_samples_is_not_the_edge_that_fires() {
+    // CLKSEL, EDGESEL, the kind that samples the line and the two that don't.
+    for (clksel, edgesel, kind, others) in [
+        (0, 0, 0, [1, 2]),
+        (0, LINE, 0, [1, 2]),
+        (LINE, 0, 1, [0, 2]),
+        (LINE, LINE, 2, [0, 1]),
+    ] {
+        // Level before and after, INTTRIG; the sample's number and INTS.
+        for (before, after, inttrig, number, ints) in [
+            (0, LINE, 0, 17, 0),
+            (0, LINE, LINE, 0, 0x0002_0000),
+            (LINE, 0, 0, 0, 0x0002_0000),
+            (LINE, 0, LINE, 17, 0),
+        ] {
+            let mut bench = Bench::new();
+            bench.enable(0x04, 0);
+            bench.ask(2, 4, 0x80, clksel);
+            bench.ask(2, 4, 0x90, edgesel);
+            bench.ask(2, 4, 0x40, inttrig);
+            bench.ask(2, 4, 0x30, LINE);
+            // INTENABLE is still 0, so this edge is told to nobody.
+            assert_eq!(bench.sample(before, kind), (17, 0, vec![]));
+            bench.ask(2, 4, 0x60, 1);
+            for other in others {
+                assert_eq!(bench.sample(after, other), (17, 0, vec![]));
+                assert_eq!(bench.ask(2, 1, 0x01, 0), (0, 4, before));
+                assert_eq!(bench.ask(2, 1, 0x71, 0), (0, 4, 0));
+            }
+            assert_eq!(bench.sample(after, kind).0, number);
+            assert_eq!(bench.ask(2, 1, 0x01, 0), (0, 4, after));
+            assert_eq!(bench.ask(2, 1, 0x71, 0), (0, 4, ints));
+        }
+    }
 }
 
 #[test]

@@ -1,6 +1,6 @@
 //! Tests of the bench listing, by document 01's eight lines and its edges.
 //! An independent implementation, written from document 01 and change
-//! request 2026-01.
+//! requests 2026-01 and 2026-02.
 
 use reference::listing::played;
 
@@ -236,6 +236,7 @@ S 0123456789abcdef0011223344556677
 F 0 00040301021100000000
 F 0 00060402046000000100
 F 0 000805020430ffffffff
+F 0 000a06020440ffffffff
 P 80000001 0
 ";
     let output = "\
@@ -245,7 +246,44 @@ P 80000001 0
 0 4 0 006403010006cdef89ab
 0 5 0 00860402000200000000
 0 6 0 00a80502000200000000
-0 7 0 00aaff02000400800100
+0 7 0 00ca0602000200000000
+0 8 0 00ccff02000400800100
+";
+    assert_eq!(shown(input), output);
+}
+
+#[test]
+fn inttrig_set_is_rising_and_clear_is_falling() {
+    // GPIO and INTENABLE on, INTSEL c0000003, INTTRIG 80000001: of the lines
+    // that rise 31 and 0 fire, of those that fall 30 and 1. Then INTS is read.
+    // Two steps back lead to before the fall; line 31 alone falls: no fire.
+    let input = "\
+F 0 00000100040200040000
+F 0 00020202046000000100
+F 0 00040302043000c00300
+F 0 00060402044000800100
+P c0000003 0
+P c0000003 0
+P 00000000 0
+F 0 00080502017100000000
+B
+B
+P 40000003 0
+F 0 00080602017100000000
+";
+    let output = "\
+0 1 0 00200100000200000000
+0 2 0 00420202000200000000
+0 3 0 00640302000200000000
+0 4 0 00860402000200000000
+0 5 0 0088ff02000400800100
+17 6
+0 7 0 008aff02000400400200
+0 8 0 00ac0502000400400200
+17 7
+17 6
+17 7
+0 8 0 00aa0602000400800100
 ";
     assert_eq!(shown(input), output);
 }
