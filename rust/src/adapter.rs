@@ -56,7 +56,8 @@ impl Adapter {
         })
     }
 
-    /// The pins are sampled; bit n of `levels` is the level of line n.
+    /// The pins are sampled; bit n of `levels` is the level of line n. A line that so changed, with INTSEL 1, fires on rising
+    /// where INTTRIG is 1 and on falling where it is 0.
     pub fn sample(&mut self, levels: u32, edge: Edge) -> Result<Answer, Refusal> {
         self.event(|state, journal, output| boundary::sca_sample(state, journal, levels, edge as u32, output))
     }
