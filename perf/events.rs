@@ -269,6 +269,7 @@ fn main() {
     compare_frames_on("frame, a register written, 8 masters on", (ready_masters(), ready_masters()), line);
     compare_frames_on("frame, an I2C register written", (ready_masters(), ready_masters()), register);
     let (mut ours, mut theirs) = (ready::<Ours>(), ready::<Theirs>());
+    assert_ne!(ours.clone().sample(1), 17, "the sum is more than 17 where an interrupt goes out");
     compare(
         "pin sample, an interrupt",
         || samples(&mut ours),

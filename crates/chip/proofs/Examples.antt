@@ -155,12 +155,12 @@ armed intsel inttrig intenable = left enabled (ask 0x02 4 0x30 intsel ∷ ask 0x
 abbrev pulse : List Event
 pulse = sample 0x00000001 0 ∷ sample 0x00000000 0 ∷ []
 
--- the answer that sends nothing, and the first interrupt after `armed`, of line 0: Table 9.10, TRN 0xFF, CH 0x02, ERR 0, LEN 4, INTS
+-- the answer that sends nothing; line 0's interrupt, the first after `armed`: Table 9.10, TRN 0xFF, CH 0x02, ERR 0, LEN 4, INTS
 abbrev none : List ℕ
 none = 17 ∷ 0 ∷ []
 
-abbrev fires : List ℕ
-fires = 0 ∷ 0 ∷ 0x00 ∷ 0xAA ∷ 0xFF ∷ 0x02 ∷ 0x00 ∷ 0x04 ∷ 0x00 ∷ 0x00 ∷ 0x01 ∷ 0x00 ∷ []
+abbrev interrupt : List ℕ
+interrupt = 0 ∷ 0 ∷ 0x00 ∷ 0xAA ∷ 0xFF ∷ 0x02 ∷ 0x00 ∷ 0x04 ∷ 0x00 ∷ 0x00 ∷ 0x01 ∷ 0x00 ∷ []
 
 -- line 0 with the system clock, line 1 with the strobe rising, line 2 with it falling, line 3 an output
 abbrev clocked : Adapter
@@ -230,9 +230,9 @@ pub record Tables : Type 0 where
   pub four-words : Rows (after whole (received ∷ [])) 0x01
       (read 0x01 2 6 0xDDCCBBAA ∷ read 0x11 2 6 0x44332211 ∷ read 0x21 2 6 0x88776655 ∷ read 0x31 2 6 0x04030201 ∷ [])
   -- Table 9.7, rising and falling: with INTTRIG 1 the interrupt goes out on rising, with 0 on falling; a line beside it goes by its own bit
-  pub on-rising : run (armed 0x00000001 0x00000001 1) pulse ≡ fires ∷ none ∷ []
-  pub on-falling : run (armed 0x00000001 0x00000000 1) pulse ≡ none ∷ fires ∷ []
-  pub line-by-line : run (armed 0x00000003 0x00000001 1) (sample 0x00000003 0 ∷ []) ≡ fires ∷ []
+  pub on-rising : run (armed 0x00000001 0x00000001 1) pulse ≡ interrupt ∷ none ∷ []
+  pub on-falling : run (armed 0x00000001 0x00000000 1) pulse ≡ none ∷ interrupt ∷ []
+  pub line-by-line : run (armed 0x00000003 0x00000001 1) (sample 0x00000003 0 ∷ []) ≡ interrupt ∷ []
   -- with INTSEL 0 on neither
   pub unselected : map (λ inttrig. run (armed 0x00000000 inttrig 1) pulse) (0x00000000 ∷ 0x00000001 ∷ []) ≡ (none ∷ none ∷ []) ∷ (none ∷ none ∷ []) ∷ []
   -- INTENABLE 0: a line fires, no interrupt goes out and INTS stays; DATAIN has it
