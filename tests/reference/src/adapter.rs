@@ -1,7 +1,7 @@
-//! The adapter's calls: creation, the five events, and stepping back through
-//! a journal of earlier states.
+//! The adapter's calls: creation, the five events, pin samples by the batch,
+//! and stepping back through a journal of earlier states.
 //! An independent implementation, written from document 01 and change
-//! requests 2026-01 and 2026-02.
+//! requests 2026-01 to 2026-03.
 
 use std::collections::VecDeque;
 
@@ -16,6 +16,13 @@ const MOST_KEPT: usize = 64;
 const EVENT_OUTPUT: usize = 16;
 /// The most bytes that an I2C transaction receives.
 const MOST_RECEIVED: usize = 16;
+/// The greatest edge kind of a pin sample.
+const MOST_KIND: u32 = 2;
+/// The most pin samples of a batch.
+const MOST_SAMPLES: usize = 256;
+/// The bytes that a batch's output must have, however few its samples: room
+/// for as many bodies of ten bytes as a batch can send.
+const BATCH_OUTPUT: usize = 2_560;
 
 /// What an outsider may have done to a journal.
 #[derive(Clone, Copy, PartialEq, Eq, Debug)]
@@ -78,6 +85,38 @@ impl Answer {
             number,
             port: 0,
             length: 0,
+        }
+    }
+}
+
+/// One pin sample of a batch.
+#[derive(Clone, Copy, PartialEq, Eq, Debug)]
+pub struct Sample {
+    /// The levels of the 32 lines.
+    pub levels: u32,
+    /// 0 by the system clock, 1 by a rising strobe, 2 by a falling strobe.
+    pub kind: u32,
+}
+
+/// A batch's number; for 0 also the port, the length of each body sent, how
+/// many were sent, and the ones over their INTS values.
+#[derive(Clone, Copy, PartialEq, Eq, Debug)]
+pub struct BatchAnswer {
+    pub number: u8,
+    pub port: u32,
+    pub length: usize,
+    pub frames: usize,
+    pub sum: u32,
+}
+
+impl BatchAnswer {
+    fn without_frame(number: u8) -> BatchAnswer {
+        BatchAnswer {
+            number,
+            port: 0,
+            length: 0,
+            frames: 0,
+            sum: 0,
         }
     }
 }
@@ -216,12 +255,40 @@ pub fn sample(
     if let Some(number) = event_refusal(state, journal, output) {
         return Answer::without_frame(number);
     }
-    if kind > 2 {
+    if kind > MOST_KIND {
         return Answer::without_frame(BAD_ARGUMENT);
     }
-    let before = *state;
-    let outcome = sample_outcome(state, levels, kind);
-    conclude(before, journal, outcome, output)
+    sample_event(state, journal, levels, kind, output)
+}
+
+/// The pins are sampled again and again, each sample an event of its own. The
+/// bodies sent stand one after the other at the front of the output. Where
+/// none is sent, with GPIO disabled too, the number is 17.
+pub fn sample_batch(
+    state: &mut State,
+    journal: &mut Journal,
+    samples: &[Sample],
+    output: &mut [u8],
+) -> BatchAnswer {
+    if let Some(number) = batch_refusal(state, journal, samples, output) {
+        return BatchAnswer::without_frame(number);
+    }
+    let mut given = BatchAnswer::without_frame(DONE);
+    let mut room = output;
+    for Sample { levels, kind } in samples {
+        let answer = sample_event(state, journal, *levels, *kind, room);
+        if answer.number == FRAME {
+            given = BatchAnswer {
+                number: FRAME,
+                port: answer.port,
+                length: answer.length,
+                frames: given.frames + 1,
+                sum: given.sum + state.gpio.ints.count_ones(),
+            };
+            room = &mut room[answer.length..];
+        }
+    }
+    given
 }
 
 /// A single event upset.
@@ -251,6 +318,25 @@ fn event_refusal(state: &State, journal: &Journal, output: &[u8]) -> Option<u8> 
         None
     };
     pair_refusal(state, journal).or(too_short)
+}
+
+/// Looks through all of a batch before any of its samples is taken.
+fn batch_refusal(
+    state: &State,
+    journal: &Journal,
+    samples: &[Sample],
+    output: &[u8],
+) -> Option<u8> {
+    let refusal = pair_refusal(state, journal);
+    if refusal.is_some() {
+        refusal
+    } else if output.len() < BATCH_OUTPUT {
+        Some(SHORT_OUTPUT)
+    } else if samples.len() > MOST_SAMPLES || samples.iter().any(|one| one.kind > MOST_KIND) {
+        Some(BAD_ARGUMENT)
+    } else {
+        None
+    }
 }
 
 /// Keeps the event, writes what is sent and gives the answer.
@@ -436,6 +522,20 @@ fn take_received(master: &mut Master, command: u8, received: &[u8]) -> u8 {
         }
         _ => 0,
     }
+}
+
+/// One pin sample that is not refused; room for its body is at the front of
+/// the output.
+fn sample_event(
+    state: &mut State,
+    journal: &mut Journal,
+    levels: u32,
+    kind: u32,
+    output: &mut [u8],
+) -> Answer {
+    let before = *state;
+    let outcome = sample_outcome(state, levels, kind);
+    conclude(before, journal, outcome, output)
 }
 
 fn sample_outcome(state: &mut State, levels: u32, kind: u32) -> Outcome {

@@ -1,5 +1,5 @@
 //! An independent implementation of the slow control adapter, written from
-//! document 01 and change requests 2026-01 and 2026-02: its link, its events
+//! document 01 and change requests 2026-01 to 2026-03: its link, its events
 //! with step back, and its bench listing.
 
 #![forbid(unsafe_code)]

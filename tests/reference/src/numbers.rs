@@ -1,6 +1,6 @@
 //! The numbers that calls give back, as document 01's table lists them.
 //! An independent implementation, written from document 01 and change
-//! requests 2026-01 and 2026-02.
+//! requests 2026-01 to 2026-03.
 
 /// A frame was read or sent.
 pub const FRAME: u8 = 0;
@@ -8,7 +8,7 @@ pub const FRAME: u8 = 0;
 pub const SHORT_OUTPUT: u8 = 1;
 /// The body has not 2 to 16 bytes.
 pub const BODY_LENGTH: u8 = 2;
-/// Port, edge kind, I2C channel or completion length is wrong.
+/// Port, edge kind, I2C channel, completion length or sample count is wrong.
 pub const BAD_ARGUMENT: u8 = 3;
 /// The journal is wrong in length, mark, version or layout.
 pub const BAD_JOURNAL: u8 = 4;

@@ -1,6 +1,6 @@
 //! Tests of the adapter's events, refusals and steps back.
 //! An independent implementation, written from document 01 and change
-//! requests 2026-01 and 2026-02.
+//! requests 2026-01 to 2026-03.
 
 use reference::adapter::*;
 
@@ -1632,4 +1632,811 @@ fn runs_with_steps_back_equal_runs_of_the_standing_events() {
         assert!(seen[number] > 0, "{} never came", number);
     }
     assert!(i2c_replies > 500, "only {} I2C replies", i2c_replies);
+}
+
+/// A batch's answer and the bodies that it sent.
+type BatchGiven = (BatchAnswer, Vec<[u8; 10]>);
+
+/// What an output holds before a batch.
+fn pattern(length: usize) -> Vec<u8> {
+    (0..length)
+        .map(|place| 0xA5 ^ (place % 251) as u8)
+        .collect()
+}
+
+impl Bench {
+    /// A batch with an output of some length; bytes after the bodies stay.
+    fn batch_into(&mut self, samples: &[Sample], length: usize) -> BatchGiven {
+        let mut output = pattern(length);
+        let answer = sample_batch(&mut self.state, &mut self.journal, samples, &mut output);
+        let used = 10 * answer.frames;
+        assert_eq!(output[used..], pattern(length)[used..]);
+        let bodies = output[..used].chunks(10);
+        let bodies = bodies.map(|body| body.try_into().unwrap()).collect();
+        (answer, bodies)
+    }
+
+    fn batch(&mut self, samples: &[Sample]) -> BatchGiven {
+        self.batch_into(samples, 2_560)
+    }
+
+    /// Lines 0 and 1 are selected and move together in `toggling`: line 0
+    /// fires on rising, line 1 on falling, so that each sample fires one. Six
+    /// requests were answered: both numbers are 6, and so is the kept one.
+    fn toggled() -> Bench {
+        let mut bench = Bench::new();
+        bench.enable(0x04, 0);
+        bench.ask(2, 4, 0x30, 0x3);
+        bench.ask(2, 4, 0x40, 0x1);
+        bench.ask(2, 4, 0x70, 0xDEAD_BEEF);
+        bench.ask(2, 4, 0x60, 1);
+        assert_eq!((bench.state.send, bench.state.receive), (6, 6));
+        assert_eq!(bench.kept(), 6);
+        bench
+    }
+
+    /// Each line fires on its own edges, as INTTRIG says, by the system clock.
+    fn firing(inttrig: u32, intenable: u32) -> Bench {
+        let mut bench = Bench::new();
+        bench.enable(0x04, 0);
+        bench.ask(2, 4, 0x30, 0xFFFF_FFFF);
+        bench.ask(2, 4, 0x40, inttrig);
+        bench.ask(2, 4, 0x70, 0xDEAD_BEEF);
+        bench.ask(2, 4, 0x60, intenable);
+        assert_eq!((bench.state.send, bench.state.receive), (6, 6));
+        bench
+    }
+}
+
+fn list(samples: &[(u32, u32)]) -> Vec<Sample> {
+    let samples = samples.iter();
+    samples
+        .map(|&(levels, kind)| Sample { levels, kind })
+        .collect()
+}
+
+/// Both lines of `Bench::toggled` rise, fall, rise and so on.
+fn toggling(count: usize) -> Vec<Sample> {
+    let levels = [0xFFFF_FFFF, 0x0000_0000].iter().cycle();
+    levels
+        .take(count)
+        .map(|&levels| Sample { levels, kind: 0 })
+        .collect()
+}
+
+/// The bodies of `toggling` on `Bench::toggled`: the send number starts at 6,
+/// 32 times the receive number is 0xC0, INTS is 1 on rising and 2 on falling.
+fn toggled_bodies(count: usize) -> Vec<[u8; 10]> {
+    let controls = [0xCC, 0xCE, 0xC0, 0xC2, 0xC4, 0xC6, 0xC8, 0xCA];
+    let numbered = controls.iter().cycle().zip([1, 2].iter().cycle());
+    let bodies = numbered.map(|(&control, &ints)| [0, control, 0xFF, 2, 0, 4, 0, 0, ints, 0]);
+    bodies.take(count).collect()
+}
+
+/// The answer of a batch that sent frames.
+fn batch_sent(port: u32, frames: usize, sum: u32) -> BatchAnswer {
+    BatchAnswer {
+        number: 0,
+        port,
+        length: 10,
+        frames,
+        sum,
+    }
+}
+
+/// The answer of a batch that sent none: all but the number is 0.
+fn batch_silent(number: u8) -> BatchAnswer {
+    BatchAnswer {
+        number,
+        port: 0,
+        length: 0,
+        frames: 0,
+        sum: 0,
+    }
+}
+
+/// Fourteen samples for `Bench::mixed`. Beside each: DATAIN and INTS after it
+/// and how many frames were sent by then.
+const MIXED: [(u32, u32, u32, u32, u8); 14] = [
+    // All the lines of the system clock rise; of them 23 to 20 and 7 to 4 fire.
+    (0xFFFF_FFFF, 0, 0x7FFF_00FF, 0x00F0_00F0, 1),
+    // Nothing moves.
+    (0xFFFF_FFFF, 0, 0x7FFF_00FF, 0x00F0_00F0, 1),
+    // Lines 11 to 8 rise and fire.
+    (0xFFFF_FFFF, 1, 0x7FFF_0FFF, 0x0000_0F00, 2),
+    // Lines 15 to 12 rise, which fires none of them, then fall.
+    (0xFFFF_FFFF, 2, 0x7FFF_FFFF, 0x0000_0F00, 2),
+    (0x0000_0000, 2, 0x7FFF_0FFF, 0x0000_F000, 3),
+    // Lines 23 to 16 and 7 to 4 fall; 19 to 16 fire.
+    (0x7F00_0F0F, 0, 0x7F00_0F0F, 0x000F_0000, 4),
+    // Lines 3 to 0 fall but are not selected.
+    (0x7F00_0F00, 0, 0x7F00_0F00, 0x000F_0000, 4),
+    // Lines 30, 28, 27 and 25 fall and fire.
+    (0x2500_0000, 0, 0x2500_0F00, 0x5A00_0000, 5),
+    // Line 23 rises and fires.
+    (0x2580_0000, 0, 0x2580_0F00, 0x0080_0000, 6),
+    // Lines 20 and 4 rise and fire; 29, 26, 24 and 23 fall, all but 23 fire.
+    (0x0010_0010, 0, 0x0010_0F10, 0x2510_0010, 7),
+    // Lines 11 to 8 fall, which fires none of them, then line 8 rises.
+    (0xFFFF_0000, 1, 0x0010_0010, 0x2510_0010, 7),
+    (0x0000_0100, 1, 0x0010_0110, 0x0000_0100, 8),
+    // Lines 20 and 4 fall, which fires neither.
+    (0x0000_0000, 0, 0x0000_0100, 0x0000_0100, 8),
+    // As at first.
+    (0xFFFF_FFFF, 0, 0x7FFF_01FF, 0x00F0_00F0, 9),
+];
+
+/// The bodies of `MIXED`: the send number starts at 1, the receive number is 2.
+const MIXED_BODIES: [[u8; 10]; 9] = [
+    [0x00, 0x42, 0xFF, 0x02, 0x00, 0x04, 0xF0, 0x00, 0xF0, 0x00],
+    [0x00, 0x44, 0xFF, 0x02, 0x00, 0x04, 0x00, 0x00, 0x00, 0x0F],
+    [0x00, 0x46, 0xFF, 0x02, 0x00, 0x04, 0x00, 0x00, 0x00, 0xF0],
+    [0x00, 0x48, 0xFF, 0x02, 0x00, 0x04, 0x0F, 0x00, 0x00, 0x00],
+    [0x00, 0x4A, 0xFF, 0x02, 0x00, 0x04, 0x00, 0x5A, 0x00, 0x00],
+    [0x00, 0x4C, 0xFF, 0x02, 0x00, 0x04, 0x80, 0x00, 0x00, 0x00],
+    [0x00, 0x4E, 0xFF, 0x02, 0x00, 0x04, 0x10, 0x25, 0x10, 0x00],
+    [0x00, 0x40, 0xFF, 0x02, 0x00, 0x04, 0x00, 0x00, 0x00, 0x01],
+    [0x00, 0x42, 0xFF, 0x02, 0x00, 0x04, 0xF0, 0x00, 0xF0, 0x00],
+];
+
+fn mixed_samples() -> Vec<Sample> {
+    list(&MIXED.map(|(levels, kind, _, _, _)| (levels, kind)))
+}
+
+impl Bench {
+    /// On port 1: line 31 is an output; lines 11 to 8 are sampled by a rising
+    /// strobe, 15 to 12 by a falling one, the others by the system clock;
+    /// lines 3 to 0 are not selected; 23 to 20 and 11 to 4 fire on rising, the
+    /// others on falling. A GO is open, so the receive number is one ahead.
+    fn mixed() -> Bench {
+        let mut bench = Bench::new();
+        bench.frame(1, &CONNECT);
+        bench.enable(0x06, 0);
+        assert_eq!(bench.request(0x31, 0x01, 2, 0x72, 0), (17, 0, vec![]));
+        bench.ask(2, 4, 0x20, 0x8000_0000);
+        bench.ask(2, 4, 0x80, 0x0000_FF00);
+        bench.ask(2, 4, 0x90, 0x0000_F000);
+        bench.ask(2, 4, 0x30, 0xFFFF_FFF0);
+        bench.ask(2, 4, 0x40, 0x00F0_0FF0);
+        bench.ask(2, 4, 0x70, 0xDEAD_BEEF);
+        bench.ask(2, 4, 0x60, 1);
+        assert_eq!((bench.state.send, bench.state.receive), (1, 2));
+        assert_eq!(bench.kept(), 11);
+        bench
+    }
+}
+
+#[test]
+fn a_batch_byte_by_byte() {
+    let mut bench = Bench::mixed();
+    let before = bench.state;
+    let (answer, bodies) = bench.batch(&mixed_samples());
+    assert_eq!(bodies, MIXED_BODIES);
+    // 8, 4, 4, 4, 4, 1, 5, 1 and 8 lines fired.
+    assert_eq!(answer, batch_sent(1, 9, 39));
+    let gpio = Gpio {
+        datain: 0x7FFF_01FF,
+        ints: 0x00F0_00F0,
+        ..before.gpio
+    };
+    // Nine frames on, the send number went from 1 over 0 to 2.
+    let after = State {
+        send: 2,
+        gpio,
+        ..before
+    };
+    assert_eq!(bench.state, after);
+    assert_eq!(bench.kept(), 25);
+    assert_eq!(bench.ask(2, 1, 0x71, 0), (0, 4, 0x00F0_00F0));
+    assert_eq!(bench.ask(2, 1, 0x01, 0), (0, 4, 0x7FFF_01FF));
+    // The GO is still open.
+    assert_eq!(bench.completion(&[0; 16]).2[2], 0x31);
+}
+
+#[test]
+fn every_front_part_of_a_batch() {
+    for count in 0..=14 {
+        let mut bench = Bench::mixed();
+        let (answer, bodies) = bench.batch(&mixed_samples()[..count]);
+        let (datain, ints, frames) = match count {
+            0 => (0, 0xDEAD_BEEF, 0),
+            _ => (MIXED[count - 1].2, MIXED[count - 1].3, MIXED[count - 1].4),
+        };
+        let sum = [0, 8, 12, 16, 20, 24, 25, 30, 31, 39][usize::from(frames)];
+        let wanted = match frames {
+            0 => batch_silent(17),
+            _ => batch_sent(1, usize::from(frames), sum),
+        };
+        assert_eq!(answer, wanted);
+        assert_eq!(bodies, MIXED_BODIES[..usize::from(frames)]);
+        let gpio = (bench.state.gpio.datain, bench.state.gpio.ints);
+        assert_eq!(gpio, (datain, ints));
+        assert_eq!(bench.state.send, (1 + frames) % 8);
+        assert_eq!(bench.kept(), 11 + count);
+    }
+}
+
+#[test]
+fn a_batch_leaves_on_the_active_port_in_loopback() {
+    for port in [0, 1] {
+        let mut bench = Bench::firing(0xFFFF_FFFF, 1);
+        bench.frame(port, &CONNECT);
+        bench.frame(port, &TEST);
+        let (answer, bodies) = bench.batch(&list(&[(0x0000_0001, 0), (0x8000_0001, 0)]));
+        assert_eq!(answer, batch_sent(port, 2, 2));
+        // CONNECT zeroed the numbers.
+        let first = [0, 0, 0xFF, 2, 0, 4, 0, 0, 1, 0];
+        let second = [0, 2, 0xFF, 2, 0, 4, 0, 0x80, 0, 0];
+        assert_eq!(bodies, [first, second]);
+        assert_eq!((bench.state.send, bench.state.receive), (2, 0));
+    }
+}
+
+#[test]
+fn lines_that_fire_with_intenable_0_count_nothing() {
+    let samples = list(&[(0xFFFF_FFFF, 0), (0, 0), (1, 0)]);
+    let mut bench = Bench::firing(0xFFFF_FFFF, 0);
+    let before = bench.clone();
+    assert_eq!(bench.batch(&samples), (batch_silent(17), vec![]));
+    let mut after = before.state;
+    after.gpio.datain = 1;
+    assert_eq!((bench.state, bench.kept()), (after, before.kept() + 3));
+    assert_eq!(bench.state.gpio.ints, 0xDEAD_BEEF);
+    // Enabled afterwards, only what moves then is told.
+    bench.ask(2, 4, 0x60, 1);
+    let (answer, bodies) = bench.batch(&list(&[(1, 0), (7, 0)]));
+    assert_eq!(answer, batch_sent(0, 1, 2));
+    // Seven requests were answered: control is 2 * 7 + 32 * 7.
+    assert_eq!(bodies, [[0, 0xEE, 0xFF, 2, 0, 4, 0, 0, 6, 0]]);
+    // The lines of the same list do fire with INTENABLE 1: 32, none and 1.
+    let (answer, bodies) = Bench::firing(0xFFFF_FFFF, 1).batch(&samples);
+    assert_eq!(answer, batch_sent(0, 2, 33));
+    let first = [0, 0xCC, 0xFF, 2, 0, 4, 0xFF, 0xFF, 0xFF, 0xFF];
+    let second = [0, 0xCE, 0xFF, 2, 0, 4, 0, 0, 1, 0];
+    assert_eq!(bodies, [first, second]);
+}
+
+#[test]
+fn lines_that_are_not_selected_or_do_not_fire_count_nothing() {
+    // INTSEL 0: all move and none fires.
+    let mut bench = Bench::firing(0xFFFF_FFFF, 1);
+    bench.ask(2, 4, 0x30, 0);
+    assert_eq!(bench.batch(&toggling(9)), (batch_silent(17), vec![]));
+    assert_eq!(bench.state.gpio.datain, 0xFFFF_FFFF);
+    // Half the lines are selected: 16 of 32 fire, on rising alone.
+    bench.ask(2, 4, 0x30, 0x5555_5555);
+    let (answer, bodies) = bench.batch(&list(&[(0, 0), (0xFFFF_FFFF, 0)]));
+    assert_eq!(answer, batch_sent(0, 1, 16));
+    // Eight requests were answered: both numbers are 0 again.
+    let body = [0, 0x00, 0xFF, 2, 0, 4, 0x55, 0x55, 0x55, 0x55];
+    assert_eq!(bodies, [body]);
+    // All lines are outputs: none is sampled.
+    bench.ask(2, 4, 0x20, 0xFFFF_FFFF);
+    assert_eq!(bench.batch(&toggling(9)), (batch_silent(17), vec![]));
+    assert_eq!(bench.state.gpio.ints, 0x5555_5555);
+}
+
+#[test]
+fn more_than_one_line_in_an_interrupt() {
+    // The lines, their number, and their bytes in Figure 4.4's order.
+    for (lines, ones, data) in [
+        (0x0000_0001, 1, [0x00, 0x00, 0x01, 0x00]),
+        (0x8000_0000, 1, [0x00, 0x80, 0x00, 0x00]),
+        (0x0000_0003, 2, [0x00, 0x00, 0x03, 0x00]),
+        (0x8000_0001, 2, [0x00, 0x80, 0x01, 0x00]),
+        (0x1248_1248, 8, [0x48, 0x12, 0x48, 0x12]),
+        (0x1234_5678, 13, [0x34, 0x12, 0x78, 0x56]),
+        (0x0F0F_0F0F, 16, [0x0F, 0x0F, 0x0F, 0x0F]),
+        (0x7FFF_FFFF, 31, [0xFF, 0x7F, 0xFF, 0xFF]),
+        (0xFFFF_FFFF, 32, [0xFF, 0xFF, 0xFF, 0xFF]),
+    ] {
+        let [d2, d3, d0, d1] = data;
+        let first = [0, 0xCC, 0xFF, 2, 0, 4, d2, d3, d0, d1];
+        let second = [0, 0xCE, 0xFF, 2, 0, 4, d2, d3, d0, d1];
+        let samples = list(&[(lines, 0), (0, 0), (lines, 0)]);
+        // On rising, twice.
+        let (answer, bodies) = Bench::firing(0xFFFF_FFFF, 1).batch(&samples);
+        assert_eq!(answer, batch_sent(0, 2, 2 * ones));
+        assert_eq!(bodies, [first, second]);
+        // On falling, once.
+        let mut bench = Bench::firing(0, 1);
+        let (answer, bodies) = bench.batch(&samples);
+        assert_eq!((answer, bodies), (batch_sent(0, 1, ones), vec![first]));
+        assert_eq!(bench.state.gpio.ints, lines);
+        // The upper lines rise while the lower ones fall.
+        let mut bench = Bench::firing(0xFFFF_0000, 1);
+        assert_eq!(bench.sample(0x0000_FFFF & lines, 0), (17, 0, vec![]));
+        let (answer, bodies) = bench.batch(&list(&[(0xFFFF_0000 & lines, 0)]));
+        assert_eq!((answer, bodies), (batch_sent(0, 1, ones), vec![first]));
+    }
+}
+
+#[test]
+fn the_greatest_sum() {
+    // 256 interrupts of all 32 lines can't follow each other, since a line
+    // fires on one of its edges only: 128 are the most, and 256 of half.
+    let mut bench = Bench::firing(0xFFFF_FFFF, 1);
+    let (answer, bodies) = bench.batch(&toggling(256));
+    assert_eq!((answer, bodies.len()), (batch_sent(0, 128, 4_096), 128));
+    let mut bench = Bench::firing(0x0000_FFFF, 1);
+    let (answer, bodies) = bench.batch(&toggling(256));
+    assert_eq!(answer, batch_sent(0, 256, 4_096));
+    assert_eq!(bodies[0][6..], [0x00, 0x00, 0xFF, 0xFF]);
+    assert_eq!(bodies[255][6..], [0xFF, 0xFF, 0x00, 0x00]);
+}
+
+#[test]
+fn a_batch_with_gpio_disabled_keeps_each_sample() {
+    let samples = list(&[(0xFFFF_FFFF, 0), (0, 1), (1, 2), (1, 2), (2, 0)]);
+    let mut others = Bench::ready();
+    others.ask(0, 4, 0x02, 0xFA00_0000);
+    empty(&mut others.journal);
+    for disabled in [Bench::new(), others] {
+        assert_eq!(disabled.state.crb & 0x04, 0);
+        let (mut bench, mut single) = (disabled.clone(), disabled.clone());
+        assert_eq!(bench.batch(&samples), (batch_silent(17), vec![]));
+        assert_eq!((bench.state, bench.kept()), (disabled.state, 5));
+        for one in &samples {
+            assert_eq!(single.sample(one.levels, one.kind), (16, 0, vec![]));
+        }
+        assert_eq!(bench.journal, single.journal);
+        for left in (0..5).rev() {
+            assert_eq!((bench.back(), bench.kept()), (17, left));
+            assert_eq!(bench.state, disabled.state);
+        }
+        assert_eq!(bench.back(), 5);
+        // A batch of as many as can be, and one of none.
+        assert_eq!(bench.batch(&toggling(256)), (batch_silent(17), vec![]));
+        assert_eq!((bench.state, bench.kept()), (disabled.state, 64));
+        assert_eq!(bench.batch(&[]), (batch_silent(17), vec![]));
+        assert_eq!((bench.state, bench.kept()), (disabled.state, 64));
+    }
+}
+
+#[test]
+fn lists_of_many_lengths() {
+    for count in [0, 1, 2, 63, 64, 65, 255, 256] {
+        let mut bench = Bench::toggled();
+        let before = bench.state;
+        let (answer, bodies) = bench.batch(&toggling(count));
+        let wanted = match count {
+            0 => batch_silent(17),
+            _ => batch_sent(0, count, count as u32),
+        };
+        assert_eq!(answer, wanted);
+        assert_eq!(bodies, toggled_bodies(count));
+        let (datain, ints) = match count {
+            0 => (0, 0xDEAD_BEEF),
+            1 | 63 | 65 | 255 => (0xFFFF_FFFF, 1),
+            _ => (0, 2),
+        };
+        let mut after = before;
+        after.send = ((6 + count) % 8) as u8;
+        after.gpio.datain = datain;
+        after.gpio.ints = ints;
+        assert_eq!(bench.state, after);
+        // Six requests were kept before.
+        let kept_now = match count {
+            0 => 6,
+            1 => 7,
+            2 => 8,
+            _ => 64,
+        };
+        assert_eq!(bench.kept(), kept_now);
+        // From an empty journal.
+        let mut bench = Bench::toggled();
+        assert_eq!(empty(&mut bench.journal), 17);
+        bench.batch(&toggling(count));
+        let kept_now = match count {
+            0 | 1 | 2 | 63 | 64 => count,
+            _ => 64,
+        };
+        assert_eq!(bench.kept(), kept_now);
+    }
+    for count in [257, 258, 512, 513, 65_536, 65_537] {
+        let mut bench = Bench::toggled();
+        let before = bench.clone();
+        assert_eq!(bench.batch(&toggling(count)), (batch_silent(3), vec![]));
+        assert_eq!(
+            bench.batch_into(&toggling(count), 10 * count),
+            (batch_silent(3), vec![])
+        );
+        assert_eq!(
+            (bench.state, &bench.journal),
+            (before.state, &before.journal)
+        );
+    }
+}
+
+#[test]
+fn an_empty_list_changes_nothing() {
+    let mut full = Bench::toggled();
+    full.batch(&toggling(100));
+    assert_eq!(full.kept(), 64);
+    for ready in [Bench::new(), Bench::ready(), Bench::toggled(), full] {
+        let mut bench = ready.clone();
+        assert_eq!(bench.batch(&[]), (batch_silent(17), vec![]));
+        assert_eq!((bench.state, &bench.journal), (ready.state, &ready.journal));
+    }
+}
+
+#[test]
+fn steps_back_through_a_batch() {
+    let mut bench = Bench::mixed();
+    let before = bench.state;
+    bench.batch(&mixed_samples());
+    assert_eq!((bench.state.send, bench.kept()), (2, 25));
+    for count in (0..14).rev() {
+        assert_eq!(bench.back(), 17);
+        let (datain, ints, frames) = match count {
+            0 => (0, 0xDEAD_BEEF, 0),
+            _ => (MIXED[count - 1].2, MIXED[count - 1].3, MIXED[count - 1].4),
+        };
+        let mut after = before;
+        after.send = (1 + frames) % 8;
+        after.gpio.datain = datain;
+        after.gpio.ints = ints;
+        assert_eq!((bench.state, bench.kept()), (after, 11 + count));
+        // Another branch from there: the rest of the list once more.
+        let mut branch = bench.clone();
+        let (answer, bodies) = branch.batch(&mixed_samples()[count..]);
+        assert_eq!(answer.number, 0);
+        assert_eq!(bodies, MIXED_BODIES[usize::from(frames)..]);
+        assert_eq!((branch.state.send, branch.kept()), (2, 25));
+    }
+    assert_eq!(bench.state, before);
+    // The request before the batch is taken back next.
+    assert_eq!((bench.back(), bench.kept()), (17, 10));
+    assert_eq!(bench.state.gpio.intenable, 0);
+}
+
+#[test]
+fn no_more_than_64_steps_back_through_a_batch() {
+    // The samples, and how many of them stand for good.
+    for (count, fixed) in [(64, 0), (65, 1), (255, 191), (256, 192)] {
+        let mut bench = Bench::toggled();
+        bench.batch(&toggling(count));
+        for step in 1..=64 {
+            assert_eq!((bench.back(), bench.kept()), (17, 64 - step));
+            let standing = count - step;
+            let (datain, ints) = match standing {
+                0 => (0, 0xDEAD_BEEF),
+                some if some % 2 == 1 => (0xFFFF_FFFF, 1),
+                _ => (0, 2),
+            };
+            let gpio = (bench.state.gpio.datain, bench.state.gpio.ints);
+            assert_eq!(gpio, (datain, ints));
+            assert_eq!(usize::from(bench.state.send), (6 + standing) % 8);
+        }
+        let stood = bench.state;
+        assert_eq!((bench.back(), bench.kept()), (5, 0));
+        assert_eq!(bench.state, stood);
+        let mut plain = Bench::toggled();
+        let (answer, _) = plain.batch(&toggling(fixed));
+        assert_eq!((answer.frames, plain.state), (fixed, stood));
+    }
+    // After 60 samples, four of the six requests before them are kept too.
+    let mut bench = Bench::toggled();
+    let before = bench.state;
+    bench.batch(&toggling(60));
+    assert_eq!(bench.kept(), 64);
+    (0..60).for_each(|_| assert_eq!(bench.back(), 17));
+    assert_eq!((bench.state, bench.kept()), (before, 4));
+    (0..4).for_each(|_| assert_eq!(bench.back(), 17));
+    assert_eq!((bench.state.gpio, bench.kept()), (Gpio::default(), 0));
+    assert_eq!((bench.state.receive, bench.back()), (2, 5));
+}
+
+#[test]
+fn refusals_of_a_batch_in_order_change_nothing() {
+    let good = Bench::toggled();
+    let mut wrong_gpio = good.clone();
+    wrong_gpio.state.crb = 0;
+    let mut wrong_send = good.clone();
+    wrong_send.state.send = 8;
+    let benches = [(good, true), (wrong_gpio, false), (wrong_send, false)];
+    let conditions = [
+        Condition::Whole,
+        Condition::WrongLength,
+        Condition::WrongLayout,
+    ];
+    let outputs = [
+        (0, false),
+        (16, false),
+        (2_559, false),
+        (2_560, true),
+        (2_561, true),
+    ];
+    let mut bad_kind = toggling(3);
+    bad_kind[2].kind = 3;
+    let mut both = toggling(257);
+    both[0].kind = u32::MAX;
+    let lists = [
+        (toggling(257), 3),
+        (bad_kind, 3),
+        (both, 3),
+        (toggling(5), 0),
+        (vec![], 17),
+    ];
+    let mut seen = [0; 18];
+    for (ready, state_good) in &benches {
+        for condition in conditions {
+            for (length, long_enough) in outputs {
+                for (samples, number) in &lists {
+                    let wanted = match (state_good, condition, long_enough) {
+                        (false, _, _) => 6,
+                        (true, Condition::WrongLength | Condition::WrongLayout, _) => 4,
+                        (true, Condition::Whole, false) => 1,
+                        (true, Condition::Whole, true) => *number,
+                    };
+                    let mut bench = ready.clone();
+                    bench.journal.condition = condition;
+                    let before = bench.clone();
+                    let (answer, bodies) = bench.batch_into(samples, length);
+                    seen[usize::from(wanted)] += 1;
+                    if wanted == 0 {
+                        assert_eq!(answer, batch_sent(0, 5, 5));
+                        assert_eq!(bodies, toggled_bodies(5));
+                        continue;
+                    }
+                    assert_eq!((answer, bodies), (batch_silent(wanted), vec![]));
+                    assert_eq!((bench.state, bench.journal), (before.state, before.journal));
+                }
+            }
+        }
+    }
+    // 6: 2 states, 3 conditions, 5 outputs, 5 lists. 4: 2 conditions, 5
+    // outputs, 5 lists. 1: 3 outputs, 5 lists. 3: 2 outputs, 3 lists.
+    let counts = [6, 4, 1, 3, 0, 17].map(|number: usize| seen[number]);
+    assert_eq!(counts, [150, 50, 15, 6, 2, 2]);
+}
+
+#[test]
+fn a_bad_kind_anywhere_in_the_list() {
+    for count in [1, 2, 3, 64, 65, 255, 256] {
+        for place in [0, count / 2, count - 1] {
+            for kind in [3, 4, 0xFF, 0x100, 0x102, 0x1_0000, 0x8000_0000, u32::MAX] {
+                let mut bench = Bench::toggled();
+                let before = bench.clone();
+                let mut samples = toggling(count);
+                samples[place].kind = kind;
+                assert_eq!(bench.batch(&samples), (batch_silent(3), vec![]));
+                assert_eq!(
+                    (bench.state, &bench.journal),
+                    (before.state, &before.journal)
+                );
+                // The greatest good kind is taken in its place. It samples no
+                // line here, and the sample after it then finds nothing new.
+                samples[place].kind = 2;
+                let lost = if place == count - 1 { 1 } else { 2 };
+                let wanted = match count - lost {
+                    0 => batch_silent(17),
+                    some => batch_sent(0, some, some as u32),
+                };
+                assert_eq!(bench.batch(&samples).0, wanted);
+                assert_eq!(bench.kept(), (6 + count).min(64));
+            }
+        }
+    }
+    // With GPIO disabled too.
+    let mut bench = Bench::new();
+    let refused = bench.batch(&list(&[(0, 0), (0, 3)]));
+    assert_eq!((refused, bench.kept()), ((batch_silent(3), vec![]), 0));
+}
+
+#[test]
+fn outputs_of_a_batch() {
+    for count in [0, 1, 2, 255, 256] {
+        for length in [0, 1, 9, 10, 15, 16, 20, 128, 2_550, 2_559] {
+            let mut bench = Bench::toggled();
+            let before = bench.clone();
+            let refused = bench.batch_into(&toggling(count), length);
+            assert_eq!(refused, (batch_silent(1), vec![]));
+            assert_eq!(
+                (bench.state, &bench.journal),
+                (before.state, &before.journal)
+            );
+        }
+        // `batch_into` looks at every byte after the bodies.
+        for length in [2_560, 2_561, 2_570, 5_120, 70_000] {
+            let mut bench = Bench::toggled();
+            let (answer, bodies) = bench.batch_into(&toggling(count), length);
+            let wanted = match count {
+                0 => batch_silent(17),
+                _ => batch_sent(0, count, count as u32),
+            };
+            assert_eq!((answer, bodies), (wanted, toggled_bodies(count)));
+        }
+    }
+}
+
+#[test]
+fn bytes_after_the_bodies_stay() {
+    let mut bench = Bench::mixed();
+    let mut output = [0x5A; 3_000];
+    let samples = mixed_samples();
+    let answer = sample_batch(&mut bench.state, &mut bench.journal, &samples, &mut output);
+    assert_eq!(answer, batch_sent(1, 9, 39));
+    assert_eq!(output[..90], MIXED_BODIES.concat());
+    assert_eq!(output[90..], [0x5A; 2_910]);
+    // A shorter batch into the same output leaves the old bodies after it.
+    let old = output;
+    let samples = list(&[(0, 0), (0x0070_0000, 0), (0x0070_0000, 0)]);
+    let answer = sample_batch(&mut bench.state, &mut bench.journal, &samples, &mut output);
+    // Falling: 30 to 24 and 19 to 16, that is 11 lines; rising: 22 to 20.
+    assert_eq!(answer, batch_sent(1, 2, 14));
+    let falling = [0x00, 0x44, 0xFF, 0x02, 0x00, 0x04, 0x0F, 0x7F, 0x00, 0x00];
+    let rising = [0x00, 0x46, 0xFF, 0x02, 0x00, 0x04, 0x70, 0x00, 0x00, 0x00];
+    assert_eq!(output[..20], [falling, rising].concat());
+    assert_eq!(output[20..], old[20..]);
+}
+
+/// Levels near the ones before, so that lines stay, rise and fall.
+fn random_samples(chance: &mut Chance, count: usize) -> Vec<Sample> {
+    let mut levels = chance.next() as u32;
+    let mut samples = Vec::new();
+    for _ in 0..count {
+        levels ^= (chance.next() & chance.next() & chance.next()) as u32;
+        let kind = chance.below(3) as u32;
+        samples.push(Sample { levels, kind });
+    }
+    samples
+}
+
+fn random_gpio(chance: &mut Chance) -> Gpio {
+    let mut any = || chance.next() as u32;
+    let (direction, clksel) = (any() & any(), any());
+    Gpio {
+        dataout: any(),
+        datain: any(),
+        direction,
+        intsel: any() & any(),
+        inttrig: any(),
+        ints: any(),
+        clksel,
+        edgesel: any(),
+        intenable: u32::from(chance.below(5) != 0),
+    }
+}
+
+#[test]
+fn a_batch_equals_its_samples_one_by_one() {
+    let mut chance = Chance(2_026);
+    let (mut frames, mut silent, mut disabled, mut unanswered) = (0, 0, 0, 0);
+    for round in 0..1_500 {
+        let mut batched = Bench::ready();
+        batched.state.send = chance.below(8) as u8;
+        batched.state.receive = chance.below(8) as u8;
+        batched.state.active = chance.below(2) as u8;
+        batched.state.gpio = random_gpio(&mut chance);
+        if round % 10 == 0 {
+            batched.state.crb &= !0x04;
+            batched.state.gpio = Gpio::default();
+        }
+        (0..chance.below(70)).for_each(|_| assert_eq!(batched.upset().0, 17));
+        let mut single = batched.clone();
+        let count = match chance.below(4) {
+            0 => chance.below(257),
+            1 => chance.below(70),
+            _ => chance.below(12),
+        };
+        let samples = random_samples(&mut chance, count as usize);
+        let (answer, bodies) = batched.batch(&samples);
+        let (mut sent, mut sum) = (Vec::new(), 0);
+        for one in &samples {
+            let (number, port, body) = single.sample(one.levels, one.kind);
+            let off = single.state.crb & 0x04 == 0;
+            assert!(number == 0 && !off || number == if off { 16 } else { 17 });
+            if number == 0 {
+                assert_eq!(port, u32::from(single.state.active));
+                sum += body[6..].iter().map(|byte| byte.count_ones()).sum::<u32>();
+                sent.push(body);
+            } else {
+                disabled += i32::from(off);
+                unanswered += i32::from(!off);
+            }
+        }
+        let wanted = match sent.len() {
+            0 => batch_silent(17),
+            some => batch_sent(u32::from(single.state.active), some, sum),
+        };
+        assert_eq!(answer, wanted);
+        assert_eq!(bodies.concat(), sent.concat());
+        assert_eq!(batched.state, single.state);
+        assert_eq!(batched.journal, single.journal);
+        frames += sent.len();
+        silent += i32::from(sent.is_empty());
+        // As many steps back as there are, side by side.
+        while single.kept() > 0 {
+            assert_eq!((batched.back(), single.back()), (17, 17));
+            assert_eq!(
+                (batched.state, batched.kept()),
+                (single.state, single.kept())
+            );
+        }
+        assert_eq!((batched.back(), single.back()), (5, 5));
+    }
+    assert!(frames > 10_000, "only {} frames", frames);
+    assert!(silent > 100, "only {} batches without a frame", silent);
+    assert!(
+        disabled > 1_000,
+        "only {} samples with GPIO disabled",
+        disabled
+    );
+    assert!(
+        unanswered > 1_000,
+        "only {} samples without a frame",
+        unanswered
+    );
+}
+
+#[test]
+fn runs_with_batches_equal_runs_of_the_standing_events() {
+    let mut chance = Chance(33);
+    let (mut frames, mut refused, mut taken_back) = (0, 0, 0);
+    for _ in 0..200 {
+        let mut plain = Bench::new();
+        plain.state = Bench::ready().state;
+        plain.state.gpio = random_gpio(&mut chance);
+        let mut bench = plain.clone();
+        // Each sample of a batch stands by itself.
+        let mut standing: Vec<Event> = Vec::new();
+        let mut number = 0;
+        for _ in 0..60 {
+            match chance.below(3) {
+                0 => {
+                    for _ in 0..chance.below(9) {
+                        assert_eq!(bench.back(), if number == 0 { 5 } else { 17 });
+                        if number > 0 {
+                            number -= 1;
+                            taken_back += 1;
+                            standing.pop();
+                        }
+                    }
+                }
+                1 => {
+                    let count = match chance.below(8) {
+                        0 => chance.below(260),
+                        _ => chance.below(12),
+                    };
+                    let mut samples = random_samples(&mut chance, count as usize);
+                    let bad = chance.below(10) == 0 && count > 0;
+                    if bad {
+                        samples[chance.below(count) as usize].kind += 3;
+                    }
+                    let (answer, _) = bench.batch(&samples);
+                    if bad || count > 256 {
+                        assert_eq!(answer, batch_silent(3));
+                        refused += 1;
+                    } else {
+                        assert!(answer.number == 0 || answer.number == 17);
+                        frames += answer.frames;
+                        number = (number + samples.len()).min(64);
+                        let events = samples.iter();
+                        standing.extend(events.map(|one| Event::Sample(one.levels, one.kind)));
+                    }
+                }
+                _ => {
+                    let event = random_event(&mut chance, &bench.state);
+                    let (given, _, _) = bench.play(&event);
+                    assert!(given != 4 && given != 6);
+                    if given == 0 || given >= 11 {
+                        let reset = matches!(&event, Event::Frame(_, body) if body.len() == 2
+                            && body[0] == 0 && (body[1] == 0x8F || body[1] == 0x9F));
+                        number = if reset { 0 } else { (number + 1).min(64) };
+                        standing.push(event);
+                    }
+                }
+            }
+            assert_eq!(bench.kept(), number);
+            assert!(in_range(&bench.state));
+        }
+        for event in &standing {
+            plain.play(event);
+        }
+        assert_eq!(plain.state, bench.state);
+    }
+    assert!(frames > 1_000, "only {} frames", frames);
+    assert!(refused > 100, "only {} batches refused", refused);
+    assert!(taken_back > 1_000, "only {} steps back", taken_back);
 }
