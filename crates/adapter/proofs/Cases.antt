@@ -203,6 +203,10 @@ module _ (v : Verdict) (l : List ℕ) (q : v ≡ Passed) where
   pub passed-output : (s j g b : Bool) → v ≡ inOrder s j (ltb (length l) 16) g b → 16 ≤ length l
   passed-output s j g b h = ltb-false _ 16 (unrefused v s j _ g b q h .2)
 
+  -- which is room for a reply
+  pub passed-reply : (s j g b : Bool) → v ≡ inOrder s j (ltb (length l) 16) g b → 10 ≤ length l
+  passed-reply s j g b h = omega (arith, passed-output s j g b h)
+
   pub passed-received : (s j o b : Bool) → v ≡ inOrder s j o (not (eqb (length l) 16)) b → length l ≡ 16
   passed-received s j o b h = eqb-true (length l) 16 (not-false _ (unrefused v s j o _ b q h .3))
 

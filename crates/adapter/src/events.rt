@@ -12,7 +12,7 @@ ghost use mathlib.Core.Bool.{true};
 ghost use mathlib.Core.List.{List};
 ghost use Prim.Native.Nat.{ℕ, _≤_};
 ghost use lib.ListN.{length};
-ghost use Rattle.numbers.specs.Numbers.{bodyLeast, bodyMost, outputLeast, transferBytes};
+ghost use Rattle.numbers.specs.Numbers.{bodyLeast, bodyMost, replyBytes, outputLeast, transferBytes};
 ghost use Rattle.commands.specs.Channels.{firstMaster};
 ghost use Rattle.parts.specs.Parts.{put};
 ghost use Rattle.state.specs.Bytes.{linkBytes, stateSize, linkImage};
@@ -107,7 +107,7 @@ fn i2c_happens(
 
 fn sample_happens(state: &mut [u8], levels: u32, kind: u8, output: &mut [u8]) -> Answer
     requires { ⌜ length (now state) ≡ stateSize ⌝ }
-    requires { ⌜ outputLeast ≤ length (now output) ⌝ }
+    requires { ⌜ replyBytes ≤ length (now output) ⌝ }
     ensures { λ r. ⌜ ((journal : List ℕ) → outcome r (now (state .exit)) journal (now (output .exit)) ≡ happened (now (state .entry)) (Event.sample levels kind) (now (output .entry)) journal) ⌝ }
 {
     let link = state::link_of(state);
@@ -181,8 +181,8 @@ pub(crate) fn i2c_completion(
     i2c_happens(state, channel, acknowledge, low, received, output)
 }
 
-// A pin sample.
-pub(crate) fn sample(
+// A pin sample, in an output with room for an interrupt.
+pub fn sample(
     state: &mut [u8],
     journal: &mut [u8],
     levels: u32,
@@ -190,7 +190,7 @@ pub(crate) fn sample(
     output: &mut [u8],
 ) -> Answer
     requires { ⌜ (wellFormed (now journal) ≡ true) × (length (now state) ≡ stateSize) ⌝ }
-    requires { ⌜ outputLeast ≤ length (now output) ⌝ }
+    requires { ⌜ replyBytes ≤ length (now output) ⌝ }
     ensures { λ r. ⌜ outcome r (now (state .exit)) (now (journal .exit)) (now (output .exit)) ≡ done (now (state .entry)) (now (journal .entry)) (Event.sample levels kind) (now (output .entry)) ⌝ }
 {
     record_event(journal, state, Group::Switched(Control::B), false);

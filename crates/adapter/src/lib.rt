@@ -1,6 +1,6 @@
 // The adapter as its users call it, on the bytes that they lend: every refusal in document 01's order, every event kept in the journal, steps
 // back.
-mod events;
+pub mod events;
 
 use numbers::BAD_ARGUMENT;
 use numbers::BAD_BODY;
@@ -92,7 +92,8 @@ pub fn kept(journal: &[u8]) -> KeptNumber
     }
 }
 
-fn in_order(state: bool, journal: bool, output: bool, argument: bool, body: bool) -> Verdict
+// The first refusal that applies, in document 01's order.
+pub fn in_order(state: bool, journal: bool, output: bool, argument: bool, body: bool) -> Verdict
     ensures { λ r. ⌜ r ≡ inOrder state journal output argument body ⌝ }
 {
     if state {

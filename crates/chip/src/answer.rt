@@ -2,7 +2,7 @@
 ghost use mathlib.Core.Path.{_≡_};
 ghost use Prim.Native.Nat.{_≤_};
 ghost use lib.ListN.{length};
-ghost use Rattle.numbers.specs.Numbers.{bodyMost, outputLeast};
+ghost use Rattle.numbers.specs.Numbers.{bodyMost};
 ghost use Rattle.parts.specs.Parts.{put};
 ghost use Rattle.chip.specs.Inner.{sent, given};
 use crate::Response;
@@ -10,8 +10,7 @@ use link::Link;
 
 // An answer with a frame.
 pub(crate) fn send(link: Link, port: u8, body: &[u8], output: &mut [u8]) -> Response
-    requires { ⌜ length (now body) ≤ bodyMost ⌝ }
-    requires { ⌜ outputLeast ≤ length (now output) ⌝ }
+    requires { ⌜ (length (now body) ≤ bodyMost) × (length (now body) ≤ length (now output)) ⌝ }
     ensures { λ r. ⌜ (r ≡ sent link port (length (now (body .entry)))) × (now (output .exit) ≡ put 0 (now (body .entry)) (now (output .entry))) ⌝ }
 {
     parts::store(output, 0, body);

@@ -3,7 +3,7 @@ ghost use mathlib.Core.Path.{_≡_};
 ghost use mathlib.Core.List.{List};
 ghost use Prim.Native.Nat.{ℕ, _-_, _≤_};
 ghost use lib.ListN.{length};
-ghost use Rattle.numbers.specs.Numbers.{bodyLeast, bodyMost, outputLeast, transferBytes};
+ghost use Rattle.numbers.specs.Numbers.{bodyLeast, bodyMost, replyBytes, outputLeast, transferBytes};
 ghost use Rattle.commands.specs.Channels.{firstMaster};
 ghost use Rattle.registers.specs.Registers.{size};
 ghost use Rattle.channels.specs.Rows.{masterGroup};
@@ -207,7 +207,7 @@ pub fn on_sample(
     output: &mut [u8],
 ) -> Response
     requires { ⌜ length (now registers) ≡ size ⌝ }
-    requires { ⌜ outputLeast ≤ length (now output) ⌝ }
+    requires { ⌜ replyBytes ≤ length (now output) ⌝ }
     ensures { λ r. ⌜ said r (now (registers .exit)) (now (output .exit)) ≡ says (reaction (adapter link (now (registers .entry))) (Event.sample levels kind)) (now (output .entry)) ⌝ }
 {
     if channels::is_enabled(registers, Channel::Gpio) {

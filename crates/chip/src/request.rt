@@ -3,7 +3,7 @@ ghost use mathlib.Core.Path.{_≡_};
 ghost use mathlib.Core.List.{List};
 ghost use Prim.Native.Nat.{ℕ, _≤_};
 ghost use lib.ListN.{length};
-ghost use Rattle.numbers.specs.Numbers.{outputLeast};
+ghost use Rattle.numbers.specs.Numbers.{outputLeast, replyBytes};
 ghost use Rattle.registers.specs.Registers.{size};
 ghost use Rattle.state.specs.State.{adapter};
 ghost use Rattle.chip.specs.Inner.{said, says};
@@ -23,7 +23,7 @@ pub(crate) fn reply(
     value: u32,
     output: &mut [u8],
 ) -> Response
-    requires { ⌜ outputLeast ≤ length (now output) ⌝ }
+    requires { ⌜ replyBytes ≤ length (now output) ⌝ }
     ensures { λ r. ⌜ ((rs : List ℕ) → said r rs (now (output .exit)) ≡ says (replies (adapter link rs) trn ch err len value) (now (output .entry))) ⌝ }
 {
     let body = packets::reply_body(link::reply_control(link), trn, ch, err, len, value);

@@ -98,6 +98,10 @@ bodyLeast = 2
 abbrev pub bodyMost : ℕ
 bodyMost = 16
 
+-- The bytes of the body of a reply or an interrupt.
+abbrev pub replyBytes : ℕ
+replyBytes = 10
+
 -- The bytes of the longest frame on the cable, the transmitter's least output.
 abbrev pub cableMost : ℕ
 cableMost = 24
@@ -109,6 +113,14 @@ inputMost = 65536
 -- The least output of an event and of a receiver.
 abbrev pub outputLeast : ℕ
 outputLeast = 16
+
+-- The most pin samples of a batch.
+abbrev pub samplesMost : ℕ
+samplesMost = 256
+
+-- The least output of a batch: a body for each of its samples.
+abbrev pub batchLeast : ℕ
+batchLeast = 2560
 
 -- The bytes received in an SPI transfer.
 abbrev pub transferBytes : ℕ

@@ -50,12 +50,18 @@ pub const ABORTED: u8 = 24;
 pub const BODY_LEAST: usize = 2;
 // The bytes of the longest body.
 pub const BODY_MOST: usize = 16;
+// The bytes of the body of a reply or an interrupt.
+pub const REPLY_BYTES: usize = 10;
 // The bytes of the longest frame on the cable, the transmitter's least output.
 pub const CABLE_MOST: usize = 24;
 // The most bytes of a receiver's input.
 pub const INPUT_MOST: usize = 65536;
 // The least output of an event and of a receiver.
 pub const OUTPUT_LEAST: usize = 16;
+// The most pin samples of a batch.
+pub const SAMPLES_MOST: usize = 256;
+// The least output of a batch: a body for each of its samples.
+pub const BATCH_LEAST: usize = 2560;
 // The bytes received in an SPI transfer.
 pub const TRANSFER_BYTES: usize = 16;
 // The most bytes received in an I2C transaction.

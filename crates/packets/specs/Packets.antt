@@ -20,6 +20,10 @@ requestOf info =
       value = word (getD info 6 0) (getD info 7 0) (getD info 4 0) (getD info 5 0);
     }
 
+-- D of a reply's or an interrupt's body, whose last four bytes are D[23:16], D[31:24], D[7:0], D[15:8]
+abbrev pub dataOf : List ℕ → ℕ
+dataOf body = word (getD body 8 0) (getD body 9 0) (getD body 6 0) (getD body 7 0)
+
 -- byte k of D: D[7:0], D[15:8], D[23:16], D[31:24]
 abbrev pub byteOf : ℕ → ℕ → ℕ
 byteOf d k = d / 2 ^ (8 * k) % 256

@@ -2,7 +2,7 @@
 ghost use mathlib.Core.Path.{_≡_};
 ghost use Prim.Native.Nat.{_<_};
 ghost use lib.ListN.{length};
-ghost use Rattle.packets.specs.Packets.{requestOf, byteOf, replyBody};
+ghost use Rattle.packets.specs.Packets.{requestOf, dataOf, byteOf, replyBody};
 use commands::request::Request;
 
 // The chip's address.
@@ -21,6 +21,14 @@ pub fn request_of(info: &[u8]) -> Request
         cmd: info[3],
         value: value,
     }
+}
+
+// D of the body of a reply or an interrupt.
+pub fn data_of(body: &[u8]) -> u32
+    requires { ⌜ length (now body) ≡ 10 ⌝ }
+    ensures { λ r. ⌜ r ≡ dataOf (now (body .entry)) ⌝ }
+{
+    parts::word_of(body[8], body[9], body[6], body[7])
 }
 
 // Byte k of D, byte 0 the lowest.
