@@ -12,17 +12,19 @@
  *     The link reads frames from the bits of a cable (sca_receive) and writes
  *     them (sca_transmit). The adapter is the chip: it takes events (sca_frame,
  *     sca_completion, sca_i2c_completion, sca_sample, sca_upset), gives what the
- *     chip would send, and can take events back (sca_step_back).
+ *     chip would send, and can take events back (sca_step_back). Pin samples may
+ *     also come by the batch (sca_samples).
  *
  *     The library keeps nothing: whatever lasts from call to call stands in
  *     bytes that the caller lends. It allocates nothing, opens nothing and
  *     holds no lock, so that calls on different buffers may run side by side.
  *     No call takes more than 768 bytes of stack.
  *
- *     A buffer is a pointer and its length in bytes. A pointer whose length
- *     is 0 is not read and may be NULL. The buffers of one call must not
- *     overlap. No call touches a byte outside of the buffers lent to it. Every
- *     other argument may have any value, and every call ends.
+ *     A buffer is a pointer and its length in bytes; a list of samples is a
+ *     pointer and how many they are. A pointer whose length or count is 0 is not
+ *     read and may be NULL. What is lent to one call must not overlap. No call
+ *     touches a byte outside of what is lent to it. Every other argument may have
+ *     any value, and every call ends.
  *
  *     Bits go least significant first: bit n of a cable buffer is bit n % 8
  *     of its byte n / 8.
@@ -50,19 +52,21 @@ extern "C" {
 
 /* ------------------------------------------------------------------ version */
 
-/* The version that this header is of, 1.2.1: major << 16 | minor << 8 | patch. */
-#define SCA_VERSION 0x010201
+/* The version that this header is of, 1.3.0: major << 16 | minor << 8 | patch. */
+#define SCA_VERSION 0x010300
 
 /* ------------------------------------------------------------------ numbers */
 
 enum {
-    SCA_HAS_FRAME = 0,        /* a frame was read or sent: its bytes stand at the front of output */
+    SCA_HAS_FRAME = 0,        /* a frame was read or sent (by a batch: one or more): its bytes stand at the front of output */
 
     /* refused: nothing has changed */
-    SCA_SHORT_OUTPUT = 1,     /* the output is under SCA_OUTPUT_LEAST (sca_transmit: SCA_CABLE_MOST) bytes */
+    SCA_SHORT_OUTPUT = 1,     /* the output is under SCA_OUTPUT_LEAST (sca_transmit: SCA_CABLE_MOST, sca_samples:
+                                 SCA_BATCH_LEAST) bytes */
     SCA_BAD_BODY = 2,         /* the body is not SCA_BODY_LEAST to SCA_BODY_MOST bytes */
     SCA_BAD_ARGUMENT = 3,     /* the port is not 0 or 1, the edge kind is over 2, an SPI completion is not 16 bytes,
-                                 or an I2C completion is of a channel that is not I2C, or over 16 bytes */
+                                 an I2C completion is of a channel that is not I2C, or over 16 bytes, or a batch
+                                 has over SCA_SAMPLES_MOST samples */
     SCA_BAD_JOURNAL = 4,      /* the journal's length, mark, version or layout is wrong */
     SCA_NONE_KEPT = 5,        /* the kept number is 0: there is no event to take back */
     SCA_BAD_STATE = 6,        /* the state or the receiver has another length, or a field out of range */
@@ -95,6 +99,9 @@ enum {
 #define SCA_CABLE_MOST 24       /* the bytes of the longest frame on the cable: the least output of sca_transmit */
 #define SCA_INPUT_MOST 65536    /* the most bytes of cable in one call of sca_receive */
 #define SCA_OUTPUT_LEAST 16     /* the least output of sca_receive and of an event */
+#define SCA_REPLY_BYTES 10      /* the bytes of a reply and of an interrupt, so of each body that a batch sends */
+#define SCA_SAMPLES_MOST 256    /* the most samples of a batch */
+#define SCA_BATCH_LEAST 2560    /* the least output of a batch, however few its samples */
 #define SCA_TRANSFER_BYTES 16   /* the bytes received in an SPI transfer, whatever its length */
 #define SCA_I2C_MOST 16         /* the most bytes received in an I2C transaction */
 #define SCA_ID_MOST 0xFFFFFF    /* the greatest chip ID */
@@ -117,6 +124,12 @@ enum {
     SCA_I2C_LAST = 0x12         /* to this one */
 };
 
+/* A pin sample of a batch: 8 bytes, with no gap. */
+struct sca_pin_sample {
+    uint32_t levels;            /* bit n is the level of line n */
+    uint32_t kind;              /* an edge kind */
+};
+
 /* --------------------------------------------------------- reading a result */
 
 /* The number: any call but sca_version. */
@@ -125,14 +138,21 @@ static inline unsigned sca_number(uint64_t result) { return (unsigned)(result & 
 /* Whether the call was refused and so changed nothing: any call but sca_version. */
 static inline int sca_refused(uint64_t result) { return sca_number(result) >= 1 && sca_number(result) <= 10; }
 
-/* The bytes of the body that was written, 2 to 16, or 0 where there is none: sca_receive and the events. */
+/* The bytes of the body that was written, 2 to 16, or 0 where there is none: sca_receive and the events. Those of each
+   body, SCA_REPLY_BYTES, or 0 where there is none: sca_samples. */
 static inline size_t sca_length(uint64_t result) { return (size_t)((result >> 8) & 0xFF); }
 
 /* The bits read from the start bit on, the deciding bit among them: sca_receive. */
 static inline size_t sca_consumed(uint64_t result) { return (size_t)(result >> 16); }
 
-/* The port that the body leaves on, or 0 where there is none: the events. */
+/* The port that the body leaves on, or 0 where there is none: the events. That of all bodies: sca_samples. */
 static inline uint32_t sca_port(uint64_t result) { return (uint32_t)((result >> 16) & 0xFF); }
+
+/* The bodies that were written, 0 to SCA_SAMPLES_MOST: sca_samples. */
+static inline size_t sca_frames(uint64_t result) { return (size_t)((result >> 24) & 0xFFFF); }
+
+/* The lines that fired, added up over the interrupts: the ones in the data of all bodies written. sca_samples. */
+static inline uint32_t sca_sum(uint64_t result) { return (uint32_t)(result >> 40); }
 
 /* The bytes of cable that were written, at most SCA_CABLE_MOST: sca_transmit. */
 static inline size_t sca_count(uint64_t result) { return (size_t)(result >> 8); }
@@ -144,9 +164,11 @@ static inline unsigned sca_kept_in(uint64_t result) { return (unsigned)((result 
 static inline const char *sca_text(unsigned number) {
     switch (number) {
     case SCA_HAS_FRAME: return "a frame was read or sent";
-    case SCA_SHORT_OUTPUT: return "the output is under 16 bytes (transmitter: under 24)";
+    case SCA_SHORT_OUTPUT: return "the output is under 16 bytes (transmitter: under 24, batch: under 2,560)";
     case SCA_BAD_BODY: return "the body is not 2 to 16 bytes";
-    case SCA_BAD_ARGUMENT: return "the port is not 0 or 1, the edge kind is over 2, the channel is not I2C, or the completion is not 16 bytes (I2C: over 16)";
+    case SCA_BAD_ARGUMENT:
+        return "the port is not 0 or 1, the edge kind is over 2, the channel is not I2C, the completion is not 16 bytes (I2C: "
+               "over 16), or the batch is over 256 samples";
     case SCA_BAD_JOURNAL: return "the journal's length, mark, version or layout is wrong";
     case SCA_NONE_KEPT: return "the kept number is 0";
     case SCA_BAD_STATE: return "the state or the receiver has another length, or a field out of range";
@@ -283,8 +305,9 @@ uint64_t sca_transmit(const uint8_t *body, size_t body_length, uint8_t *output, 
  *
  * THE EVENTS
  *     They are sca_frame, sca_completion, sca_i2c_completion, sca_sample and
- *     sca_upset. Each writes the body that it sends at the front of output; no
- *     other byte of output changes.
+ *     sca_upset; sca_samples is many pin samples at once, and its text says how it
+ *     differs. Each writes the body that it sends at the front of output; no other
+ *     byte of output changes.
  *
  *     Number of every event, with sca_length and sca_port:
  *         0         a body of sca_length bytes is to leave on port sca_port
@@ -591,6 +614,36 @@ uint64_t sca_i2c_completion(uint8_t *state, size_t state_length, uint8_t *journa
  */
 uint64_t sca_sample(uint8_t *state, size_t state_length, uint8_t *journal, size_t journal_length, uint32_t levels,
                     uint32_t kind, uint8_t *output, size_t output_length);
+
+/*
+ * sca_samples - the pins are sampled, many times in a row
+ *
+ * list holds count samples, the first one first. State, journal and bodies are
+ * those of as many calls of sca_sample, one after the other: each sample is an
+ * event of its own, kept and taken back by itself, and with GPIO disabled too.
+ * The bodies stand one after the other from the front of output on,
+ * SCA_REPLY_BYTES each, in the order in which they are to leave; no other byte
+ * of output changes. An empty list changes nothing.
+ *
+ *     struct sca_pin_sample list[SCA_SAMPLES_MOST];
+ *     uint8_t output[SCA_BATCH_LEAST];
+ *     result = sca_samples(state, sizeof state, journal, sizeof journal, list, count, output, sizeof output);
+ *     for (size_t n = 0; n < sca_frames(result); n++)
+ *         send(sca_port(result), output + n * SCA_REPLY_BYTES, sca_length(result));
+ *
+ * Number, with sca_frames, sca_sum, sca_length and sca_port:
+ *     0   sca_frames interrupts of sca_length bytes are to leave on port sca_port,
+ *         and sca_sum lines fired, added up over them; lines that fired with
+ *         INTENABLE 0 are not counted
+ *     17  done, and nothing is to be sent; with GPIO disabled too
+ * or refused, before anything is done:
+ *     6   as by the events
+ *     4   as by the events
+ *     1   output_length is under SCA_BATCH_LEAST, however few the samples
+ *     3   count is over SCA_SAMPLES_MOST, or any kind is over SCA_STROBE_FALLING
+ */
+uint64_t sca_samples(uint8_t *state, size_t state_length, uint8_t *journal, size_t journal_length,
+                     const struct sca_pin_sample *list, size_t count, uint8_t *output, size_t output_length);
 
 /*
  * sca_upset - a single event upset

@@ -1,9 +1,11 @@
-//! Measures, in one run on the same events, the library's adapter beside the independent one with its own undo.
+//! Measures, in one run on the same events, the library's adapter beside the independent one with its own undo; and the library's
+//! batches of pin samples beside its own single calls.
 
 #![forbid(unsafe_code)]
 
 use reference::adapter::{self, Journal, State};
-use sca::{boundary, JOURNAL_BYTES, STATE_BYTES};
+use sca::boundary::{self, RawSample};
+use sca::{BATCH_LEAST, JOURNAL_BYTES, REPLY_BYTES, SAMPLES_MOST, STATE_BYTES};
 use std::time::Instant;
 
 /// Rounds of each measurement; the best of them counts.
@@ -42,11 +44,31 @@ struct Theirs {
     journal: Journal,
 }
 
+/// A batch of 256 samples by the system clock, as each side takes it.
+struct Probe {
+    ours: Vec<RawSample>,
+    theirs: Vec<adapter::Sample>,
+}
+
+impl Probe {
+    /// The levels count up from 1, each held for so many samples. All lines interrupt on rising: so does every first sample of a
+    /// level, also where the batch begins again.
+    fn held(samples: usize) -> Probe {
+        let levels = || (0..SAMPLES_MOST).map(move |at| (at / samples + 1) as u32);
+        Probe {
+            ours: levels().map(|levels| RawSample { levels, kind: 0 }).collect(),
+            theirs: levels().map(|levels| adapter::Sample { levels, kind: 0 }).collect(),
+        }
+    }
+}
+
 /// What both can do; each call gives a sum over what it wrote, so that both are seen to do the same.
 trait Side: Clone {
     fn new() -> Self;
     fn frame(&mut self, body: &[u8]) -> usize;
     fn sample(&mut self, levels: u32) -> usize;
+    /// The interrupts of a batch, and a sum over them.
+    fn batch(&mut self, probe: &Probe) -> (usize, usize);
     /// The end of a read on the master, which gets 16 bytes.
     fn i2c_completion(&mut self) -> usize;
     fn step_back(&mut self) -> usize;
@@ -70,6 +92,12 @@ impl Side for Ours {
         let mut output = [0; 16];
         let answer = boundary::sca_sample(&mut self.state, &mut self.journal, levels, 0, &mut output);
         sum(answer.number, &output)
+    }
+
+    fn batch(&mut self, probe: &Probe) -> (usize, usize) {
+        let mut output = [0; BATCH_LEAST];
+        let answer = boundary::sca_samples(&mut self.state, &mut self.journal, &probe.ours, &mut output);
+        (answer.frames, sum_of_bodies(&output, answer.frames))
     }
 
     fn i2c_completion(&mut self) -> usize {
@@ -104,6 +132,12 @@ impl Side for Theirs {
         sum(answer.number, &output)
     }
 
+    fn batch(&mut self, probe: &Probe) -> (usize, usize) {
+        let mut output = [0; BATCH_LEAST];
+        let answer = adapter::sample_batch(&mut self.state, &mut self.journal, &probe.theirs, &mut output);
+        (answer.frames, sum_of_bodies(&output, answer.frames))
+    }
+
     fn i2c_completion(&mut self) -> usize {
         let (mut output, channel) = ([0; 16], u32::from(MASTER));
         let (state, journal) = (&mut self.state, &mut self.journal);
@@ -120,6 +154,14 @@ const RECEIVED: [u8; 16] = *b"sixteen I2C data";
 
 fn sum(number: u8, output: &[u8]) -> usize {
     usize::from(number) + usize::from(output[1]) + usize::from(output[4]) + usize::from(output[8])
+}
+
+fn sum_of_body(body: &[u8]) -> usize {
+    usize::from(body[1]) + usize::from(body[8])
+}
+
+fn sum_of_bodies(output: &[u8], frames: usize) -> usize {
+    output.chunks(REPLY_BYTES).take(frames).map(sum_of_body).sum()
 }
 
 /// An adapter with SPI and GPIO on, all lines with interrupts on rising, and a full journal.
@@ -162,6 +204,29 @@ fn samples<S: Side>(side: &mut S) -> (f64, usize) {
     (begin.elapsed().as_nanos() as f64 / EVENTS as f64, sum)
 }
 
+/// A batch over and over, of as many samples in all.
+fn batches<S: Side>(side: &mut S, probe: &Probe) -> (f64, usize) {
+    let begin = Instant::now();
+    let sum = (0..EVENTS / SAMPLES_MOST).map(|_| side.batch(probe).1).sum();
+    (begin.elapsed().as_nanos() as f64 / EVENTS as f64, sum)
+}
+
+/// The same samples, each by a call of its own.
+fn one_by_one(side: &mut Ours, probe: &Probe) -> (f64, usize) {
+    let begin = Instant::now();
+    let mut sum = 0;
+    for _ in 0..EVENTS / SAMPLES_MOST {
+        for RawSample { levels, kind } in &probe.ours {
+            let mut output = [0; 16];
+            let answer = boundary::sca_sample(&mut side.state, &mut side.journal, *levels, *kind, &mut output);
+            if answer.number == 0 {
+                sum += sum_of_body(&output);
+            }
+        }
+    }
+    (begin.elapsed().as_nanos() as f64 / EVENTS as f64, sum)
+}
+
 /// An I2C start and its completion, over and over.
 fn transactions<S: Side>(side: &mut S, starts: &Requests) -> (f64, usize) {
     let begin = Instant::now();
@@ -193,6 +258,11 @@ fn steps_back<S: Side>(side: &S) -> (f64, usize) {
     (begin.elapsed().as_nanos() as f64 / ADAPTERS as f64, sum)
 }
 
+/// What stands in the columns.
+fn title(ours: &str, theirs: &str, ratio: &str) {
+    println!("{:<45} {:>9} {:>11} {:>19}", "", ours, theirs, ratio);
+}
+
 /// Both in turn, round after round; each one's best.
 fn compare(what: &str, mut ours: impl FnMut() -> (f64, usize), mut theirs: impl FnMut() -> (f64, usize)) {
     let mut least = [f64::INFINITY; 2];
@@ -208,7 +278,11 @@ fn compare(what: &str, mut ours: impl FnMut() -> (f64, usize), mut theirs: impl 
 
 /// Frames of one request over and over, both journals full.
 fn compare_frames(what: &str, channel: u8, length: u8, command: u8) {
-    compare_frames_on(what, (ready(), ready()), [0x05, channel, length, command, 0x12, 0x34, 0x56, 0x78]);
+    compare_frames_on(
+        what,
+        (ready(), ready()),
+        [0x05, channel, length, command, 0x12, 0x34, 0x56, 0x78],
+    );
 }
 
 fn compare_frames_on(what: &str, (ours, theirs): (Ours, Theirs), request: [u8; 8]) {
@@ -231,18 +305,59 @@ fn compare_back(what: &str, (ours, theirs): (Ours, Theirs), channel: u8, length:
 /// I2C reads of 16 bytes, to their ends, and back again.
 fn compare_transactions() {
     let starts = requests([0x05, MASTER, 0x04, 0xDE, 0x00, 0x50, 0x00, 0x00]);
-    let (mut ours, mut theirs) = (in_sequence(ready_masters::<Ours>()), in_sequence(ready_masters::<Theirs>()));
+    let (mut ours, mut theirs) = (
+        in_sequence(ready_masters::<Ours>()),
+        in_sequence(ready_masters::<Theirs>()),
+    );
     compare(
         "I2C start and its completion",
         || transactions(&mut ours, &starts),
         || transactions(&mut theirs, &starts),
     );
-    let (mut ours, mut theirs) = (in_sequence(ready_masters::<Ours>()), in_sequence(ready_masters::<Theirs>()));
+    let (mut ours, mut theirs) = (
+        in_sequence(ready_masters::<Ours>()),
+        in_sequence(ready_masters::<Theirs>()),
+    );
     compare(
         "I2C start and its completion, and back twice",
         || transactions_and_back(&mut ours, &starts[0]),
         || transactions_and_back(&mut theirs, &starts[0]),
     );
+}
+
+/// How many samples of a batch interrupt: on both sides the same, the first time and again.
+fn interrupts(probe: &Probe) -> usize {
+    let (mut ours, mut theirs) = (ready::<Ours>(), ready::<Theirs>());
+    let (frames, _) = ours.batch(probe);
+    assert!(frames > 0, "a batch that is measured interrupts");
+    for (again, _) in [ours.batch(probe), theirs.batch(probe), theirs.batch(probe)] {
+        assert_eq!(again, frames, "a batch interrupts as often again");
+    }
+    frames
+}
+
+/// Batches of which every sample interrupts, and every 16th, each with its name.
+fn probes() -> [(String, Probe); 2] {
+    [1, 16].map(|samples| {
+        let probe = Probe::held(samples);
+        let name = format!("batch of {} samples, {} interrupt", SAMPLES_MOST, interrupts(&probe));
+        (name, probe)
+    })
+}
+
+fn compare_batches() {
+    for (what, probe) in &probes() {
+        let (mut ours, mut theirs) = (ready::<Ours>(), ready::<Theirs>());
+        compare(what, || batches(&mut ours, probe), || batches(&mut theirs, probe));
+    }
+}
+
+/// The library's batches beside its own single calls.
+fn compare_with_single_calls() {
+    for (what, probe) in &probes() {
+        let (mut batched, mut single) = (ready::<Ours>(), ready::<Ours>());
+        compare(what, || batches(&mut batched, probe), || one_by_one(&mut single, probe));
+    }
 }
 
 /// After a CONNECT, by which number 0 is due.
@@ -256,29 +371,48 @@ fn main() {
         "A round: {} events with a full journal, or a step back of each of {} adapters at {} kept. Best of {} rounds,",
         EVENTS, ADAPTERS, FULL, ROUNDS
     );
-    println!("in nanoseconds an event. A ratio over 1: the library is faster.");
-    println!(
-        "{:<45} {:>9} {:>11} {:>19}",
-        "", "library", "independent", "independent/library"
-    );
+    println!("in nanoseconds an event, in a batch a sample. A ratio over 1: the library is faster.");
+    title("library", "independent", "independent/library");
     compare_frames("frame, a register written", 0x02, 4, 0x10);
     compare_frames("frame, a register read", 0x02, 1, 0x11);
     compare_frames("frame, an unknown channel", 0x16, 1, 0x11);
     let register = [0x05, MASTER, 4, 0x40, 0x12, 0x34, 0x56, 0x78];
     let line = [0x05, 0x02, 4, 0x10, 0x12, 0x34, 0x56, 0x78];
-    compare_frames_on("frame, a register written, 8 masters on", (ready_masters(), ready_masters()), line);
-    compare_frames_on("frame, an I2C register written", (ready_masters(), ready_masters()), register);
+    compare_frames_on(
+        "frame, a register written, 8 masters on",
+        (ready_masters(), ready_masters()),
+        line,
+    );
+    compare_frames_on(
+        "frame, an I2C register written",
+        (ready_masters(), ready_masters()),
+        register,
+    );
     let (mut ours, mut theirs) = (ready::<Ours>(), ready::<Theirs>());
-    assert_ne!(ours.clone().sample(1), 17, "the sum is more than 17 where an interrupt goes out");
+    assert_ne!(
+        ours.clone().sample(1),
+        17,
+        "the sum is more than 17 where an interrupt goes out"
+    );
     compare(
         "pin sample, an interrupt",
         || samples(&mut ours),
         || samples(&mut theirs),
     );
-    compare_back("frame, a register written, and its step back", (ready(), ready()), 0x02, 4, 0x10);
+    compare_batches();
+    compare_back(
+        "frame, a register written, and its step back",
+        (ready(), ready()),
+        0x02,
+        4,
+        0x10,
+    );
     let masters = (ready_masters(), ready_masters());
     compare_back("frame, an I2C register, and its step back", masters, MASTER, 4, 0x40);
     compare_transactions();
     let (ours, theirs) = (ready::<Ours>(), ready::<Theirs>());
     compare("step back", || steps_back(&ours), || steps_back(&theirs));
+    println!("The library alone, as many samples by the batch and one by one. A ratio over 1: the batch is faster.");
+    title("batch", "one by one", "one by one/batch");
+    compare_with_single_calls();
 }

@@ -1,9 +1,10 @@
 //! The adapter: a state and the journal that goes with it.
 
-use crate::answers::{dropped, refusal, Answer, Edge, Port, Refusal};
-use crate::boundary::{self, RawAnswer};
-use crate::bytes::Body;
-use crate::sizes::{JOURNAL_BYTES, OUTPUT_LEAST, STATE_BYTES, TRANSFER_BYTES};
+use crate::answers::{dropped, refusal, Answer, Batch, Edge, Port, Refusal, Sample};
+use crate::boundary::{self, RawAnswer, RawSample};
+use crate::bytes::{Bodies, Body};
+use crate::sizes::{BATCH_LEAST, JOURNAL_BYTES, OUTPUT_LEAST, SAMPLES_MOST, STATE_BYTES, TRANSFER_BYTES};
+use std::borrow::Borrow;
 
 /// A slow control adapter with its journal.
 ///
@@ -18,6 +19,22 @@ pub struct Adapter {
 /// A number as the end of a call that sends nothing.
 fn done(number: u8) -> Result<(), Refusal> {
     refusal(number).map_or(Ok(()), Err)
+}
+
+/// The port that a call gives.
+fn port(number: u32) -> Port {
+    match number {
+        0 => Port::Primary,
+        _ => Port::Auxiliary,
+    }
+}
+
+/// A sample as the call takes it.
+fn raw(sample: &Sample) -> RawSample {
+    RawSample {
+        levels: sample.levels,
+        kind: sample.edge as u32,
+    }
 }
 
 impl Adapter {
@@ -60,6 +77,28 @@ impl Adapter {
     /// where INTTRIG is 1 and on falling where it is 0.
     pub fn sample(&mut self, levels: u32, edge: Edge) -> Result<Answer, Refusal> {
         self.event(|state, journal, output| boundary::sca_sample(state, journal, levels, edge as u32, output))
+    }
+
+    /// The pins are sampled, many times in a row: state, journal and bodies are those of as many calls of
+    /// [`Adapter::sample`]. Each sample is an event of its own, kept and taken back by itself, with GPIO disabled too. They come
+    /// by value, or by reference as from a slice. Refused where they are over [`crate::SAMPLES_MOST`]; of an iterator that has
+    /// more, or never ends, no sample is asked for past the first one too many.
+    pub fn samples(&mut self, samples: impl IntoIterator<Item = impl Borrow<Sample>>) -> Result<Batch, Refusal> {
+        // Room for one too many, which the call then refuses.
+        let mut list = [RawSample::default(); SAMPLES_MOST + 1];
+        let mut count = 0;
+        for (place, sample) in list.iter_mut().zip(samples) {
+            *place = raw(sample.borrow());
+            count += 1;
+        }
+        let mut output = [0; BATCH_LEAST];
+        let batch = boundary::sca_samples(&mut self.state, &mut self.journal, &list[..count], &mut output);
+        done(batch.number)?;
+        Ok(Batch {
+            port: port(batch.port),
+            bodies: Bodies::front(output, batch.frames),
+            sum: batch.sum,
+        })
     }
 
     /// A single event upset.
@@ -112,11 +151,7 @@ impl Adapter {
         Ok(match (answer.number, dropped(answer.number)) {
             (_, Some(dropped)) => Answer::Dropped(dropped),
             (0, None) => Answer::HasFrame {
-                port: if answer.port == 0 {
-                    Port::Primary
-                } else {
-                    Port::Auxiliary
-                },
+                port: port(answer.port),
                 body: Body::front(output, answer.length),
             },
             _ => Answer::NoFrame,

@@ -1,6 +1,6 @@
 //! What calls take and give. Each number has the name that `include/sca.h` gives it.
 
-use crate::bytes::Body;
+use crate::bytes::{Bodies, Body};
 use std::error::Error;
 use std::fmt;
 
@@ -24,6 +24,15 @@ pub enum Edge {
     StrobeFalling = 2,
 }
 
+/// The pins at one moment, as a logic probe hands it over: [`crate::Adapter::samples`] takes many.
+#[derive(Clone, Copy, PartialEq, Eq, Debug)]
+pub struct Sample {
+    /// Bit n is the level of line n.
+    pub levels: u32,
+    /// What samples.
+    pub edge: Edge,
+}
+
 /// Why a call was refused. Nothing has changed.
 #[derive(Clone, Copy, PartialEq, Eq, Debug)]
 #[non_exhaustive]
@@ -32,8 +41,9 @@ pub enum Refusal {
     ShortOutput = 1,
     /// The body is not 2 to 16 bytes.
     BadBody = 2,
-    /// The channel of an I2C completion is not I2C, or its bytes are over [`crate::I2C_MOST`]. Or a port, edge kind or SPI
-    /// completion of no meaning: this crate's types have none; [`crate::boundary`] takes any.
+    /// The channel of an I2C completion is not I2C, or its bytes are over [`crate::I2C_MOST`]; or a batch has over
+    /// [`crate::SAMPLES_MOST`] samples. Or a port, edge kind or SPI completion of no meaning: this crate's types have none;
+    /// [`crate::boundary`] takes any.
     BadArgument = 3,
     /// The journal's length, mark, version or layout is wrong, or its newest record is damaged.
     BadJournal = 4,
@@ -98,6 +108,18 @@ pub enum Answer {
     NoFrame,
 }
 
+/// What came of a batch of pin samples. Each sample is an event of its own: it is kept and can be taken back.
+#[derive(Clone, PartialEq, Eq, Debug)]
+pub struct Batch {
+    /// The port that all bodies leave on; [`Port::Primary`] where there is none.
+    pub port: Port,
+    /// The interrupts, in the order in which they are to leave.
+    pub bodies: Bodies,
+    /// The lines that fired, added up over the interrupts: the ones in the data of all bodies. Lines that fired with
+    /// INTENABLE 0 are not counted.
+    pub sum: u32,
+}
+
 /// What a receiver heard.
 #[derive(Clone, Copy, PartialEq, Eq, Debug)]
 #[non_exhaustive]
@@ -123,11 +145,11 @@ pub struct Received {
 pub fn text(number: u8) -> &'static str {
     match number {
         0 => "a frame was read or sent",
-        1 => "the output is under 16 bytes (transmitter: under 24)",
+        1 => "the output is under 16 bytes (transmitter: under 24, batch: under 2,560)",
         2 => "the body is not 2 to 16 bytes",
         3 => {
-            "the port is not 0 or 1, the edge kind is over 2, the channel is not I2C, \
-             or the completion is not 16 bytes (I2C: over 16)"
+            "the port is not 0 or 1, the edge kind is over 2, the channel is not I2C, the completion is not 16 bytes (I2C: \
+             over 16), or the batch is over 256 samples"
         }
         4 => "the journal's length, mark, version or layout is wrong",
         5 => "the kept number is 0",

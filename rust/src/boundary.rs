@@ -4,6 +4,8 @@
 
 /// The calls as include/sca.h declares them.
 mod library {
+    use super::RawSample;
+
     #[link(name = "sca", kind = "static")]
     extern "C" {
         pub fn sca_version() -> u64;
@@ -62,6 +64,16 @@ mod library {
             journal_length: usize,
             levels: u32,
             kind: u32,
+            output: *mut u8,
+            output_length: usize,
+        ) -> u64;
+        pub fn sca_samples(
+            state: *mut u8,
+            state_length: usize,
+            journal: *mut u8,
+            journal_length: usize,
+            list: *const RawSample,
+            count: usize,
             output: *mut u8,
             output_length: usize,
         ) -> u64;
@@ -157,6 +169,43 @@ impl RawAnswer {
             number: result as u8,
             length: usize::from((result >> 8) as u8),
             port: u32::from((result >> 16) as u8),
+        }
+    }
+}
+
+/// A pin sample of a batch, laid out as C has it: `struct sca_pin_sample`.
+#[repr(C)]
+#[derive(Clone, Copy, PartialEq, Eq, Default, Debug)]
+pub struct RawSample {
+    /// Bit n is the level of line n.
+    pub levels: u32,
+    /// The edge kind.
+    pub kind: u32,
+}
+
+/// What a batch gives.
+#[derive(Clone, Copy, PartialEq, Eq, Debug)]
+pub struct RawBatch {
+    /// The number; [`crate::text`] has it in words.
+    pub number: u8,
+    /// The bytes of each body.
+    pub length: usize,
+    /// The port that they leave on.
+    pub port: u32,
+    /// How many bodies there are.
+    pub frames: usize,
+    /// The lines that fired, added up over the interrupts.
+    pub sum: u32,
+}
+
+impl RawBatch {
+    fn of(result: u64) -> RawBatch {
+        RawBatch {
+            number: result as u8,
+            length: usize::from((result >> 8) as u8),
+            port: u32::from((result >> 16) as u8),
+            frames: usize::from((result >> 24) as u16),
+            sum: (result >> 40) as u32,
         }
     }
 }
@@ -266,6 +315,23 @@ pub fn sca_sample(state: &mut [u8], journal: &mut [u8], levels: u32, kind: u32, 
             journal.len(),
             levels,
             kind,
+            output.as_mut_ptr(),
+            output.len(),
+        )
+    })
+}
+
+/// The pins are sampled, many times in a row; the first sample stands first.
+pub fn sca_samples(state: &mut [u8], journal: &mut [u8], list: &[RawSample], output: &mut [u8]) -> RawBatch {
+    // Sound: as above; the list's length is in samples, as C counts them, and a sample is laid out as C has it.
+    RawBatch::of(unsafe {
+        library::sca_samples(
+            state.as_mut_ptr(),
+            state.len(),
+            journal.as_mut_ptr(),
+            journal.len(),
+            list.as_ptr(),
+            list.len(),
             output.as_mut_ptr(),
             output.len(),
         )

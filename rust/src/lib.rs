@@ -8,6 +8,8 @@
 // The example is a program of examples/, which the tests build and run.
 #![doc = concat!("```\n", include_str!("../examples/connect.rs"), "```")]
 //!
+//! What a logic probe saw goes in at once, as a [`Sample`] for each moment: [`Adapter::samples`].
+//!
 //! A call that is refused gives a [`Refusal`] and changes nothing.
 
 #![deny(unsafe_code)]
@@ -22,12 +24,12 @@ mod link;
 mod sizes;
 
 pub use adapter::Adapter;
-pub use answers::{text, Answer, Broken, Dropped, Edge, Heard, Port, Received, Refusal};
-pub use bytes::{Body, Bytes, Frame};
+pub use answers::{text, Answer, Batch, Broken, Dropped, Edge, Heard, Port, Received, Refusal, Sample};
+pub use bytes::{Bodies, Body, Bytes, Frame};
 pub use link::{transmit, Listening, Receiver};
 pub use sizes::{
-    BODY_LEAST, BODY_MOST, CABLE_MOST, I2C_FIRST, I2C_LAST, I2C_MOST, ID_MOST, INPUT_MOST, JOURNAL_BYTES, KEPT_MOST,
-    OUTPUT_LEAST, RECEIVER_BYTES, STATE_BYTES, TRANSFER_BYTES, VERSION,
+    BATCH_LEAST, BODY_LEAST, BODY_MOST, CABLE_MOST, I2C_FIRST, I2C_LAST, I2C_MOST, ID_MOST, INPUT_MOST, JOURNAL_BYTES,
+    KEPT_MOST, OUTPUT_LEAST, RECEIVER_BYTES, REPLY_BYTES, SAMPLES_MOST, STATE_BYTES, TRANSFER_BYTES, VERSION,
 };
 
 /// The version of the archive that was linked: [`VERSION`], where it is the one that this crate is made for.

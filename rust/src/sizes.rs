@@ -1,8 +1,8 @@
 //! The version, the sizes of what calls take and the channels of the I2C masters, under the names of `include/sca.h`, there
 //! with `SCA_` in front.
 
-/// The version that this crate is made for, 1.2.1: major << 16 | minor << 8 | patch. [`crate::version`] gives the archive's.
-pub const VERSION: u64 = 0x01_0201;
+/// The version that this crate is made for, 1.3.0: major << 16 | minor << 8 | patch. [`crate::version`] gives the archive's.
+pub const VERSION: u64 = 0x01_0300;
 
 /// The bytes of the shortest body.
 pub const BODY_LEAST: usize = 2;
@@ -14,6 +14,12 @@ pub const CABLE_MOST: usize = 24;
 pub const INPUT_MOST: usize = 65_536;
 /// The least output of a receiver and of an event.
 pub const OUTPUT_LEAST: usize = 16;
+/// The bytes of a reply and of an interrupt, so of each body that a batch sends.
+pub const REPLY_BYTES: usize = 10;
+/// The most samples of a batch.
+pub const SAMPLES_MOST: usize = 256;
+/// The least output of a batch, however few its samples.
+pub const BATCH_LEAST: usize = 2_560;
 /// The bytes received in an SPI transfer, whatever its length.
 pub const TRANSFER_BYTES: usize = 16;
 /// The most bytes received in an I2C transaction.

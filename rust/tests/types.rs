@@ -4,9 +4,11 @@
 // unreachable, and this file would not compile.
 #![deny(unreachable_patterns)]
 
-use sca::{boundary, text, transmit, Adapter, Answer, Broken, Dropped, Edge, Heard, Port, Receiver, Refusal};
-use sca::{BODY_LEAST, BODY_MOST, CABLE_MOST, I2C_FIRST, I2C_LAST, I2C_MOST, ID_MOST, INPUT_MOST, KEPT_MOST};
-use sca::{OUTPUT_LEAST, RECEIVER_BYTES, STATE_BYTES, TRANSFER_BYTES, VERSION};
+use sca::boundary::{self, RawSample};
+use sca::{text, transmit, Adapter, Answer, Broken, Dropped, Edge, Heard, Port, Receiver, Refusal};
+use sca::{BATCH_LEAST, BODY_LEAST, BODY_MOST, CABLE_MOST, I2C_FIRST, I2C_LAST, I2C_MOST, ID_MOST, INPUT_MOST};
+use sca::{KEPT_MOST, OUTPUT_LEAST, RECEIVER_BYTES, REPLY_BYTES, SAMPLES_MOST, STATE_BYTES, TRANSFER_BYTES};
+use std::mem::{align_of, size_of};
 
 fn adapter() -> Adapter {
     Adapter::new(0x00_000A).unwrap()
@@ -163,6 +165,15 @@ fn refused_i2c_completions_change_nothing() {
     assert_eq!(adapter, before);
 }
 
+/// As C lays `struct sca_pin_sample` out.
+#[test]
+fn the_layout_of_a_sample() {
+    let sample = RawSample::default();
+    let at = |field: &u32| field as *const u32 as usize - &sample as *const RawSample as usize;
+    assert_eq!((size_of::<RawSample>(), align_of::<RawSample>()), (8, 4));
+    assert_eq!((at(&sample.levels), at(&sample.kind)), (0, 4));
+}
+
 #[test]
 fn steps_back() {
     let mut adapter = adapter();
@@ -285,10 +296,11 @@ fn wide_bits() {
 
 #[test]
 fn the_version() {
-    assert_eq!(VERSION, 0x01_0201);
-    assert_eq!(sca::version(), VERSION);
-    let manifest = include_str!("../Cargo.toml");
-    assert!(manifest.lines().any(|line| line == "version = \"1.2.1\""));
+    assert_eq!(sca::VERSION, 0x01_0300);
+    assert_eq!(sca::version(), sca::VERSION);
+    for manifest in [include_str!("../Cargo.toml"), include_str!("../Cargo.lock")] {
+        assert!(manifest.lines().any(|line| line == "version = \"1.3.0\""));
+    }
 }
 
 #[test]
@@ -309,11 +321,13 @@ fn texts() {
 }
 
 /// The names that C has for the numbers, each with its value, and the text of each.
-fn numbers_of_the_header() -> Vec<(&'static str, u8, &'static str)> {
+fn numbers_of_the_header() -> Vec<(&'static str, u8, String)> {
     let header = include_str!("../../include/sca.h");
-    let texts = header.lines().filter_map(|line| {
-        let (name, text) = line.trim().strip_prefix("case SCA_")?.split_once(": return \"")?;
-        Some((name, text.strip_suffix("\";")?))
+    let texts = header.split("case SCA_").skip(1).map(|case| {
+        let (name, rest) = case.split_once(':').unwrap();
+        let (returned, _) = rest.split_once(';').unwrap();
+        // What stands between quotes is one text in C, however many parts it has.
+        (name, returned.split('"').skip(1).step_by(2).collect())
     });
     let value = |name: &str| {
         let defined = format!("SCA_{} = ", name);
@@ -348,6 +362,9 @@ fn sizes_have_one_name() {
         ("I2C_MOST", I2C_MOST),
         ("INPUT_MOST", INPUT_MOST),
         ("OUTPUT_LEAST", OUTPUT_LEAST),
+        ("REPLY_BYTES", REPLY_BYTES),
+        ("SAMPLES_MOST", SAMPLES_MOST),
+        ("BATCH_LEAST", BATCH_LEAST),
         ("TRANSFER_BYTES", TRANSFER_BYTES),
     ];
     assert_eq!(source.matches(": usize = ").count(), sizes.len());
@@ -428,6 +445,9 @@ fn sizes() {
         ("CABLE_MOST", sca::CABLE_MOST),
         ("INPUT_MOST", INPUT_MOST),
         ("OUTPUT_LEAST", sca::OUTPUT_LEAST),
+        ("SAMPLES_MOST", SAMPLES_MOST),
+        ("REPLY_BYTES", REPLY_BYTES),
+        ("BATCH_LEAST", BATCH_LEAST),
         ("TRANSFER_BYTES", sca::TRANSFER_BYTES),
         ("I2C_MOST", I2C_MOST),
         ("RECEIVER_BYTES", RECEIVER_BYTES),
@@ -438,10 +458,10 @@ fn sizes() {
         assert!(header.contains(&format!("#define SCA_{} {} ", name, size)), "{}", name);
     }
     assert!(header.contains(&format!("#define SCA_ID_MOST 0x{:X} ", ID_MOST)));
-    assert!(header.contains(&format!("#define SCA_VERSION 0x{:06X}\n", VERSION)));
+    assert!(header.contains(&format!("#define SCA_VERSION 0x{:06X}\n", sca::VERSION)));
     assert!(header.contains(&format!("    SCA_I2C_FIRST = 0x{:02X}, ", I2C_FIRST)));
     assert!(header.contains(&format!("    SCA_I2C_LAST = 0x{:02X} ", I2C_LAST)));
-    assert_eq!(header.matches("#define SCA_").count(), 14); // with SCA_H
+    assert_eq!(header.matches("#define SCA_").count(), 17); // with SCA_H
 }
 
 /// The enums that will grow; see the head of this file.

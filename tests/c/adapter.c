@@ -1,4 +1,5 @@
 /* The adapter as a C program sees it: the header's sizes and numbers against the library, and document 01's listing. */
+#include <stddef.h>
 #include <stdint.h>
 #include <string.h>
 
@@ -7,7 +8,7 @@
 
 enum { ID = 0x00000A };
 
-static uint8_t state[SCA_STATE_BYTES], journal[SCA_JOURNAL_BYTES], output[SCA_OUTPUT_LEAST];
+static uint8_t state[SCA_STATE_BYTES], journal[SCA_JOURNAL_BYTES], output[SCA_OUTPUT_LEAST], batch_output[SCA_BATCH_LEAST];
 
 static void begin(void) {
     sca_create(state, sizeof state, ID);
@@ -30,6 +31,12 @@ static uint64_t i2c_completion(uint32_t channel, uint32_t acknowledge, uint32_t 
 static uint64_t sample(uint32_t levels, uint32_t kind) {
     return sca_sample(state, sizeof state, journal, sizeof journal, levels, kind, output, sizeof output);
 }
+
+static uint64_t samples_in(size_t room, const struct sca_pin_sample *list, size_t count) {
+    return sca_samples(state, sizeof state, journal, sizeof journal, list, count, batch_output, room);
+}
+
+static uint64_t samples(const struct sca_pin_sample *list, size_t count) { return samples_in(sizeof batch_output, list, count); }
 
 static uint64_t upset(void) { return sca_upset(state, sizeof state, journal, sizeof journal, output, sizeof output); }
 
@@ -61,6 +68,22 @@ static void sizes(void) {
     check(transfers, "a transfer is SCA_TRANSFER_BYTES and no other length");
     check(transactions, "an I2C transaction brings at most SCA_I2C_MOST bytes");
     check(bodies, "a body is SCA_BODY_LEAST to SCA_BODY_MOST");
+}
+
+static void sizes_of_batches(void) {
+    static const struct sca_pin_sample list[SCA_SAMPLES_MOST + 2];
+    static uint8_t room[SCA_BATCH_LEAST + 2];
+    int counts = 1, outputs = 1;
+    check(sizeof(struct sca_pin_sample) == 8 && offsetof(struct sca_pin_sample, levels) == 0 && offsetof(struct sca_pin_sample, kind) == 4,
+          "a sample is 8 bytes, its levels at 0 and its kind at 4");
+    begin();
+    for (size_t count = 0; count <= SCA_SAMPLES_MOST + 2; count++)
+        counts &= samples(list, count) == (count <= SCA_SAMPLES_MOST ? SCA_NO_FRAME : SCA_BAD_ARGUMENT);
+    check(counts, "a batch is at most SCA_SAMPLES_MOST samples");
+    for (size_t length = 0; length <= sizeof room; length++)
+        outputs &= sca_samples(state, sizeof state, journal, sizeof journal, list, 1, room, length) ==
+                   (length < SCA_BATCH_LEAST ? SCA_SHORT_OUTPUT : SCA_NO_FRAME);
+    check(outputs && SCA_BATCH_LEAST == SCA_SAMPLES_MOST * SCA_REPLY_BYTES, "it asks for an output of SCA_BATCH_LEAST, a body for each");
 }
 
 static void kept(void) {
@@ -106,15 +129,21 @@ static void wide_arguments(void) {
     static const uint32_t kinds[] = {256, 257, 258, 0x10000, 0x10002, 0x80000000, 0xFFFFFFFF};
     static const uint32_t channels[] = {0x103, 0x112, 0x10003, 0x10012, 0x80000003, 0xFFFFFF12};
     static uint8_t was[SCA_JOURNAL_BYTES];
-    int port = 1, kind = 1, channel = 1;
+    int port = 1, kind = 1, among = 1, channel = 1;
     begin();
     memcpy(was, journal, sizeof was);
     for (size_t at = 0; at < sizeof ports / sizeof ports[0]; at++) port &= frame(ports[at], "\x00\x2F", 2) == SCA_BAD_ARGUMENT;
-    for (size_t at = 0; at < sizeof kinds / sizeof kinds[0]; at++) kind &= sample(1, kinds[at]) == SCA_BAD_ARGUMENT;
+    for (size_t at = 0; at < sizeof kinds / sizeof kinds[0]; at++) {
+        struct sca_pin_sample list[3] = {{1, 0}, {1, 0}, {1, 0}};
+        kind &= sample(1, kinds[at]) == SCA_BAD_ARGUMENT;
+        list[at % 3].kind = kinds[at];
+        among &= samples(list, 3) == SCA_BAD_ARGUMENT;
+    }
     for (size_t at = 0; at < sizeof channels / sizeof channels[0]; at++)
         channel &= i2c_completion(channels[at], 1, 0, NULL, 0) == SCA_BAD_ARGUMENT;
     check(port, "ports over 255 are SCA_BAD_ARGUMENT");
     check(kind, "edge kinds over 255 are SCA_BAD_ARGUMENT");
+    check(among, "one of them in a batch too");
     check(channel, "I2C channels over 255 are SCA_BAD_ARGUMENT");
     check(memcmp(was, journal, sizeof was) == 0 && sca_kept_in(sca_kept(journal, sizeof journal)) == 0, "and none of them is kept");
 }
@@ -141,16 +170,19 @@ static void order_of_refusals(void) {
 }
 
 static void version(void) {
-    check(SCA_VERSION == (1 << 16 | 2 << 8 | 1) && sca_version() == SCA_VERSION, "the library is of the header's version, 1.2.1");
+    check(SCA_VERSION == (1 << 16 | 3 << 8 | 0) && sca_version() == SCA_VERSION, "the library is of the header's version, 1.3.0");
 }
 
 static void readers(void) {
     int refused = 1;
-    uint64_t event = 0x010A00, reading = 0x080000021017, kept = 0x4011, sent = 0x1800;
+    uint64_t event = 0x010A00, reading = 0x080000021017, kept = 0x4011, sent = 0x1800, batch = 0x0012340100010A00;
     check(sca_number(event) == SCA_HAS_FRAME && sca_length(event) == 10 && sca_port(event) == SCA_AUXILIARY, "an event's result is read");
     check(sca_number(reading) == SCA_WRONG_FCS && sca_length(reading) == 16 && sca_consumed(reading) == 0x08000002, "a reading's");
     check(sca_number(kept) == SCA_NO_FRAME && sca_kept_in(kept) == 64, "a kept number's");
     check(sca_number(sent) == SCA_HAS_FRAME && sca_count(sent) == 24, "a transmission's");
+    check(sca_number(batch) == SCA_HAS_FRAME && sca_length(batch) == 10 && sca_port(batch) == SCA_AUXILIARY && sca_frames(batch) == 256 &&
+              sca_sum(batch) == 0x1234,
+          "a batch's");
     for (unsigned number = 0; number <= 0xFF; number++) refused &= sca_refused(0x010A00 | number) == (number >= 1 && number <= 10);
     check(refused, "1 to 10 are refusals, and no other number is");
 }
@@ -169,7 +201,8 @@ static void texts(void) {
     check(others, "what is no number is an unknown one");
     begin();
     check(strcmp(sca_text(sca_number(frame(256, "\x00\x2F", 2))),
-                 "the port is not 0 or 1, the edge kind is over 2, the channel is not I2C, or the completion is not 16 bytes (I2C: over 16)") == 0,
+                 "the port is not 0 or 1, the edge kind is over 2, the channel is not I2C, the completion is not 16 bytes (I2C: over 16), "
+                 "or the batch is over 256 samples") == 0,
           "a result in words");
 }
 
@@ -414,6 +447,214 @@ static void edges(void) {
     check(fires(0xA, SCA_NO_FRAME, 0) && state[62] == 0x2, "INTS stays where no line fires");
 }
 
+/* Whether a batch sent these bodies and no other, on this port, with this sum; nothing in it where there is none. */
+static int sent_as(uint64_t result, const uint8_t (*sent)[SCA_REPLY_BYTES], size_t frames, uint32_t port, uint32_t sum) {
+    int good = sca_frames(result) == frames && sca_port(result) == port && sca_sum(result) == sum;
+    if (frames == 0) return result == SCA_NO_FRAME;
+    good &= sca_number(result) == SCA_HAS_FRAME && sca_length(result) == SCA_REPLY_BYTES;
+    return good && memcmp(batch_output, sent, frames * SCA_REPLY_BYTES) == 0;
+}
+
+static unsigned kept_now(void) { return sca_kept_in(sca_kept(journal, sizeof journal)); }
+
+/* Both edges, by the system clock. Of lines 0, 9, 18, 27 and 31 all but the last are selected; 0 and 18 interrupt on rising, 9 and 27 on falling.
+ * Four replies went out before, so that send and receive number are 4, and control is 2 * 4 + 32 * 4 = 0x88, then 2 more each time.
+ *     levels      moved                          fire     INTS        D[23:16] [31:24] [7:0] [15:8]
+ *     0x88040201  all five rise                  0, 18    0x00040001        04      00    01     00
+ *     0x88040201  none                           none
+ *     0x80040001  9, 27 fall                     9, 27    0x08000200        00      08    00     02
+ *     0x00000001  18, 31 fall                    none
+ *     0x08000200  0 falls, 9, 27 rise            none
+ *     0x00040001  0, 18 rise, 9, 27 fall         all four 0x08040201        04      08    01     02
+ * Three interrupts, of 2 + 2 + 4 lines. */
+static void batch_of_edges(void) {
+    static const struct sca_pin_sample list[] = {{0x88040201, 0}, {0x88040201, 0}, {0x80040001, 0}, {0x00000001, 0}, {0x08000200, 0}, {0x00040001, 0}};
+    static const uint8_t sent[][SCA_REPLY_BYTES] = {{0x00, 0x88, 0xFF, 0x02, 0x00, 0x04, 0x04, 0x00, 0x01, 0x00},
+                                                        {0x00, 0x8A, 0xFF, 0x02, 0x00, 0x04, 0x00, 0x08, 0x00, 0x02},
+                                                        {0x00, 0x8C, 0xFF, 0x02, 0x00, 0x04, 0x04, 0x08, 0x01, 0x02}};
+    static const uint8_t datain[] = {0x01, 0x00, 0x04, 0x00}, ints[] = {0x01, 0x02, 0x04, 0x08};
+    armed(0x08040201, 0x00040001);
+    check(sent_as(samples(list, 6), sent, 3, SCA_PRIMARY, 8), "a batch sends its interrupts in order, rising and falling lines each by INTTRIG");
+    check(memcmp(state + 46, datain, 4) == 0 && memcmp(state + 62, ints, 4) == 0 && state[0] == 7 && state[1] == 4,
+          "DATAIN, INTS and the link numbers are then those of the last sample");
+    check(kept_now() == 4 + 6, "and each sample is kept, those that send nothing too");
+}
+
+/* The strobe. Line 0 goes by the system clock, 1 by the strobe rising (CLKSEL 1), 2 by the strobe falling (EDGESEL 1 too); line 3 is an output
+ * (DIRECTION 1). All are selected and interrupt on rising. Seven replies went out before: control is 2 * 7 + 32 * 7 = 0xEE, and with the send
+ * number at 0 again 0xE0.
+ *     levels  kind            lines taken  fire
+ *     0xF     strobe rising   1            1
+ *     0xF     strobe falling  2            2
+ *     0xF     strobe rising   1, as it is  none
+ *     0x0     strobe falling  2 falls      none
+ *     0xF     system clock    0            0
+ *     0xF     strobe falling  2            2
+ * Four interrupts of a line each. DATAIN is 0x7 then. */
+static void batch_of_strobes(void) {
+    static const struct sca_pin_sample list[] = {{0xF, SCA_STROBE_RISING}, {0xF, SCA_STROBE_FALLING}, {0xF, SCA_STROBE_RISING},
+                                                 {0x0, SCA_STROBE_FALLING}, {0xF, SCA_SYSTEM_CLOCK}, {0xF, SCA_STROBE_FALLING}};
+    static const uint8_t sent[][SCA_REPLY_BYTES] = {{0x00, 0xEE, 0xFF, 0x02, 0x00, 0x04, 0x00, 0x00, 0x02, 0x00},
+                                                        {0x00, 0xE0, 0xFF, 0x02, 0x00, 0x04, 0x00, 0x00, 0x04, 0x00},
+                                                        {0x00, 0xE2, 0xFF, 0x02, 0x00, 0x04, 0x00, 0x00, 0x01, 0x00},
+                                                        {0x00, 0xE4, 0xFF, 0x02, 0x00, 0x04, 0x00, 0x00, 0x04, 0x00}};
+    armed(0xF, 0xF);
+    request(5, 0x02, 4, 0x80, 0x6);
+    request(6, 0x02, 4, 0x90, 0x4);
+    request(7, 0x02, 4, 0x20, 0x8);
+    check(sent_as(samples(list, 6), sent, 4, SCA_PRIMARY, 4) && state[46] == 0x7, "samples of one batch go each by its own kind");
+}
+
+/* With INTENABLE 0 lines fire, but there is no interrupt, and none of them counts. With 1, from DATAIN 0xFF on, 0x0F makes lines 4 to 7 fall, which
+ * interrupt on rising, and 0xFF makes them rise. Six replies went out before it: control is 2 * 6 + 32 * 6 = 0xCC. */
+static void batch_not_enabled(void) {
+    static const struct sca_pin_sample list[] = {{0xFF, 0}, {0x00, 0}, {0xFF, 0}}, later[] = {{0xFF, 0}, {0x0F, 0}, {0xFF, 0}};
+    static const uint8_t sent[][SCA_REPLY_BYTES] = {{0x00, 0xCC, 0xFF, 0x02, 0x00, 0x04, 0x00, 0x00, 0xF0, 0x00}};
+    armed(0xFFFFFFFF, 0xFFFFFFFF);
+    request(5, 0x02, 4, 0x60, 0);
+    check(sent_as(samples(list, 3), NULL, 0, 0, 0) && state[46] == 0xFF && state[62] == 0 && kept_now() == 5 + 3,
+          "lines that fire with INTENABLE 0 send nothing, and a batch of them is SCA_NO_FRAME");
+    request(6, 0x02, 4, 0x60, 1);
+    check(sent_as(samples(later, 3), sent, 1, SCA_PRIMARY, 4), "with INTENABLE 1 those are counted that fire from then on");
+}
+
+/* After a CONNECT on port 1 both numbers are 0: control is 0, then 2. All lines interrupt on falling: 1 and 0, then 3 and 2. */
+static void batch_on_port_1(void) {
+    static const struct sca_pin_sample list[] = {{0xF, 0}, {0xC, 0}, {0x0, 0}};
+    static const uint8_t sent[][SCA_REPLY_BYTES] = {{0x00, 0x00, 0xFF, 0x02, 0x00, 0x04, 0x00, 0x00, 0x03, 0x00},
+                                                        {0x00, 0x02, 0xFF, 0x02, 0x00, 0x04, 0x00, 0x00, 0x0C, 0x00}};
+    armed(0xF, 0x0);
+    frame(SCA_AUXILIARY, "\x00\x2F", 2);
+    check(sent_as(samples(list, 3), sent, 2, SCA_AUXILIARY, 4), "a batch's interrupts leave on the active port");
+}
+
+static uint8_t state_was[SCA_STATE_BYTES], journal_was[SCA_JOURNAL_BYTES], batch_output_was[SCA_BATCH_LEAST];
+
+static void note_all(void) {
+    memset(batch_output, 0xA5, sizeof batch_output);
+    memcpy(state_was, state, sizeof state), memcpy(journal_was, journal, sizeof journal), memcpy(batch_output_was, batch_output, sizeof batch_output);
+}
+
+static int all_as_noted(void) {
+    return memcmp(state, state_was, sizeof state) == 0 && memcmp(journal, journal_was, sizeof journal) == 0 &&
+           memcmp(batch_output, batch_output_was, sizeof batch_output) == 0;
+}
+
+/* GPIO disabled: alone each sample is 16 and kept; together they are 17, and each is kept. */
+static void batch_disabled(void) {
+    static const struct sca_pin_sample list[] = {{0xFF, 0}, {0x00, 1}, {0xFF, 2}};
+    int back = 1;
+    begin();
+    note_all();
+    check(samples(list, 3) == SCA_NO_FRAME && kept_now() == 3 && memcmp(state, state_was, sizeof state) == 0 && batch_output[0] == 0xA5,
+          "a batch with GPIO disabled is SCA_NO_FRAME, and each of its samples is kept");
+    check(sample(0xFF, 0) == SCA_LINES_DISABLED && kept_now() == 4, "where one alone is SCA_LINES_DISABLED");
+    for (unsigned left = 4; left-- > 0;) back &= step_back() == SCA_NO_FRAME && kept_now() == left;
+    check(back && step_back() == SCA_NONE_KEPT, "they are taken back one by one");
+}
+
+static void batch_of_none(void) {
+    armed(0xFFFFFFFF, 0);
+    note_all();
+    check(samples(NULL, 0) == SCA_NO_FRAME && all_as_noted(), "a batch of none, NULL for its list, is SCA_NO_FRAME and changes nothing");
+    check(samples_in(SCA_BATCH_LEAST - 1, NULL, 0) == SCA_SHORT_OUTPUT && all_as_noted(), "it is refused like any other");
+}
+
+/* Whether a batch is refused with this number, and changes nothing. */
+static int refused_as(unsigned number, size_t room, const struct sca_pin_sample *list, size_t count) {
+    note_all();
+    return samples_in(room, list, count) == number && all_as_noted();
+}
+
+/* 6, 4, 1, 3: each is asked for with all that come after it. A list that is wrong in its first, a middle or its last kind, or one sample too long;
+ * what is right in it would interrupt at every other sample. */
+static void order_of_refused_batches(void) {
+    static const size_t wrong_at[] = {0, 128, 255}, counts[] = {256, 256, 256, 257};
+    int good = 1;
+    for (size_t row = 0; row < 4; row++) {
+        struct sca_pin_sample list[SCA_SAMPLES_MOST + 1];
+        for (size_t at = 0; at <= SCA_SAMPLES_MOST; at++) list[at].levels = at % 2 ? 0 : 0xFFFFFFFF, list[at].kind = 0;
+        armed(0xFFFFFFFF, 0);
+        good &= sca_frames(samples(list, SCA_SAMPLES_MOST)) == 128;
+        armed(0xFFFFFFFF, 0);
+        if (row < 3) list[wrong_at[row]].kind = SCA_STROBE_FALLING + 1;
+        good &= refused_as(SCA_BAD_ARGUMENT, SCA_BATCH_LEAST, list, counts[row]);
+        good &= refused_as(SCA_SHORT_OUTPUT, SCA_BATCH_LEAST - 1, list, counts[row]);
+        journal[3] = 2;
+        good &= refused_as(SCA_BAD_JOURNAL, SCA_BATCH_LEAST - 1, list, counts[row]);
+        state[2] = 2;
+        good &= refused_as(SCA_BAD_STATE, SCA_BATCH_LEAST - 1, list, counts[row]);
+    }
+    check(good, "a wrong kind anywhere in a batch, or one sample too many, is refused after 6, 4 and 1, before anything is done");
+}
+
+static unsigned ones(const uint8_t *bytes, size_t count) {
+    unsigned sum = 0;
+    for (size_t bit = 0; bit < 8 * count; bit++) sum += bytes[bit / 8] >> bit % 8 & 1;
+    return sum;
+}
+
+/* Whether a batch leaves and sends what its samples do one by one, and is taken back sample by sample. */
+static int as_one_by_one(const struct sca_pin_sample *list, size_t count, size_t least_frames) {
+    static uint8_t before[SCA_SAMPLES_MOST][SCA_STATE_BYTES], batch_state[SCA_STATE_BYTES], batch_journal[SCA_JOURNAL_BYTES];
+    uint64_t result;
+    size_t frames = 0;
+    unsigned sum = 0, kept;
+    int good = 1;
+    note_all();
+    result = samples(list, count);
+    memcpy(batch_state, state, sizeof state), memcpy(batch_journal, journal, sizeof journal);
+    memcpy(state, state_was, sizeof state), memcpy(journal, journal_was, sizeof journal);
+    for (size_t at = 0; at < count; at++) {
+        uint64_t one;
+        memcpy(before[at], state, sizeof state);
+        one = sample(list[at].levels, list[at].kind);
+        good &= !sca_refused(one);
+        if (sca_number(one) != SCA_HAS_FRAME) continue;
+        good &= sca_length(one) == SCA_REPLY_BYTES && sca_port(one) == sca_port(result);
+        memcpy(batch_output_was + frames++ * SCA_REPLY_BYTES, output, SCA_REPLY_BYTES);
+        sum += ones(output + 6, 4);
+    }
+    good &= frames >= least_frames && sca_frames(result) == frames && sca_sum(result) == sum;
+    good &= sca_number(result) == (frames ? SCA_HAS_FRAME : SCA_NO_FRAME) && sca_length(result) == (frames ? SCA_REPLY_BYTES : 0);
+    memcpy(state_was, batch_state, sizeof state), memcpy(journal_was, batch_journal, sizeof journal);
+    good &= all_as_noted();
+    kept = kept_now();
+    for (size_t step = 1; step <= count && step <= SCA_KEPT_MOST; step++)
+        good &= step_back() == SCA_NO_FRAME && kept_now() == kept - step && memcmp(state, before[count - step], sizeof state) == 0;
+    return good;
+}
+
+/* Sizes around those of the journal and of the batch, over lines that all interrupt, half on rising and half on falling; over lines of which some
+ * do, by every kind; on port 1; and with GPIO disabled. Of the first all samples interrupt. */
+static void batches_as_one_by_one(void) {
+    static const size_t counts[] = {0, 1, 2, 63, 64, 65, 255, 256};
+    static struct sca_pin_sample swinging[SCA_SAMPLES_MOST], any[SCA_SAMPLES_MOST];
+    int all = 1, some = 1, other_port = 1, disabled = 1;
+    for (uint32_t at = 0; at < SCA_SAMPLES_MOST; at++) {
+        swinging[at].levels = at % 2 ? 0 : 0xFFFFFFFF;
+        any[at].levels = (at + 1) * 0x9E3779B9, any[at].kind = at % 5 % 3;
+    }
+    for (size_t row = 0; row < sizeof counts / sizeof counts[0]; row++) {
+        size_t count = counts[row];
+        armed(0xFFFFFFFF, 0x0000FFFF);
+        all &= as_one_by_one(swinging, count, count);
+        armed(0x00F00F0F, 0x00550055);
+        request(5, 0x02, 4, 0x80, 0x0000FF00);
+        request(6, 0x02, 4, 0x90, 0x0000F000);
+        some &= as_one_by_one(any, count, count / 4);
+        armed(0xFFFFFFFF, 0x0000FFFF);
+        frame(SCA_AUXILIARY, "\x00\x2F", 2);
+        other_port &= as_one_by_one(any, count, count / 4);
+        begin();
+        disabled &= as_one_by_one(any, count, 0);
+    }
+    check(all, "batches of 0 to 256 samples that all interrupt are their samples one by one, back again too");
+    check(some, "of which some do, by every edge kind");
+    check(other_port, "on port 1");
+    check(disabled, "and with GPIO disabled");
+}
+
 /* Reads and writes on two masters at once, and a step back over each end. */
 static void i2c_exchange(void) {
     int good = 1;
@@ -454,6 +695,15 @@ int main(void) {
     listing();
     later_answers();
     edges();
+    sizes_of_batches();
+    batch_of_edges();
+    batch_of_strobes();
+    batch_not_enabled();
+    batch_on_port_1();
+    batch_disabled();
+    batch_of_none();
+    order_of_refused_batches();
+    batches_as_one_by_one();
     i2c_exchange();
     return failures != 0;
 }

@@ -21,7 +21,7 @@ struct lent {
     size_t length;
 };
 
-static struct lent state, journal, output, body, received, receiver, input;
+static struct lent state, journal, output, body, received, list, receiver, input;
 static int at_end;
 
 static struct lent between_guards(size_t most) {
@@ -46,6 +46,13 @@ static uint8_t *lend(struct lent *lent, size_t length) {
 
 static void lend_bytes(struct lent *lent, const void *bytes, size_t length) { memcpy(lend(lent, length), bytes, length); }
 
+/* Lends room for this many samples; of none, a place for one in a guard page. */
+static struct sca_pin_sample *lend_samples(size_t count) {
+    lend(&list, count * sizeof(struct sca_pin_sample));
+    if (count == 0 && !at_end) list.at = list.room - sizeof(struct sca_pin_sample);
+    return (struct sca_pin_sample *)(void *)list.at;
+}
+
 static void note(struct lent *lent) { memcpy(lent->was, lent->room, lent->size); }
 
 static int unchanged(const struct lent *lent) { return memcmp(lent->was, lent->room, lent->size) == 0; }
@@ -68,9 +75,15 @@ static void touched(int signal) {
 
 /* -------------------------------------------------------------------- calls */
 
-enum call { FRAME, COMPLETION, I2C, SAMPLE, UPSET, STEP_BACK, CALLS };
+enum call { FRAME, COMPLETION, I2C, SAMPLE, SAMPLES, UPSET, STEP_BACK, CALLS };
 
 static uint32_t port, kind, channel, acknowledge, line_low;
+
+static const struct sca_pin_sample *samples(void) { return (const struct sca_pin_sample *)(const void *)list.at; }
+
+static size_t count(void) { return list.length / sizeof(struct sca_pin_sample); }
+
+static size_t least_output(enum call which) { return which == SAMPLES ? SCA_BATCH_LEAST : SCA_OUTPUT_LEAST; }
 
 static uint64_t call(enum call call) {
     switch (call) {
@@ -83,6 +96,8 @@ static uint64_t call(enum call call) {
                                   output.at, output.length);
     case SAMPLE:
         return sca_sample(state.at, state.length, journal.at, journal.length, 0xFFFF0000, kind, output.at, output.length);
+    case SAMPLES:
+        return sca_samples(state.at, state.length, journal.at, journal.length, samples(), count(), output.at, output.length);
     case UPSET:
         return sca_upset(state.at, state.length, journal.at, journal.length, output.at, output.length);
     default:
@@ -125,6 +140,27 @@ static int is_reset(enum call which) {
     return which == FRAME && body.length == 2 && body.at[0] == 0x00 && (body.at[1] & 0xEF) == 0x8F;
 }
 
+/* Whether a batch gave and left what its samples do one by one, on copies of what it was lent: result, bodies, state and journal. */
+static int as_one_by_one(uint64_t result) {
+    static uint8_t state_due[SCA_STATE_BYTES], journal_due[SCA_JOURNAL_BYTES], body_due[SCA_OUTPUT_LEAST];
+    size_t frames = 0;
+    uint32_t sum = 0;
+    int good = 1;
+    memcpy(state_due, state.was + (state.at - state.room), sizeof state_due);
+    memcpy(journal_due, journal.was + (journal.at - journal.room), sizeof journal_due);
+    for (size_t at = 0; at < count(); at++) {
+        uint64_t one = sca_sample(state_due, sizeof state_due, journal_due, sizeof journal_due, samples()[at].levels, samples()[at].kind, body_due,
+                                  sizeof body_due);
+        if (sca_number(one) != SCA_HAS_FRAME) continue;
+        good &= memcmp(output.at + SCA_REPLY_BYTES * frames++, body_due, SCA_REPLY_BYTES) == 0 && sca_port(one) == sca_port(result);
+        for (unsigned bit = 0; bit < 32; bit++) sum += body_due[6 + bit / 8] >> bit % 8 & 1;
+    }
+    good &= sca_number(result) == (frames ? SCA_HAS_FRAME : SCA_NO_FRAME) && sca_length(result) == (frames ? SCA_REPLY_BYTES : 0);
+    good &= sca_frames(result) == frames && sca_sum(result) == sum;
+    good &= memcmp(state_due, state.at, sizeof state_due) == 0 && memcmp(journal_due, journal.at, sizeof journal_due) == 0;
+    return good && unchanged_after(&journal, SCA_JOURNAL_BYTES);
+}
+
 /* Whether the call left the journal's bytes as it must, where it was not refused: each that it has to write, and no other one. */
 static int journal_as_left(enum call which) {
     static uint8_t expected[SCA_JOURNAL_BYTES];
@@ -148,20 +184,23 @@ static int journal_as_left(enum call which) {
     return memcmp(expected, journal.at, sizeof expected) == 0 && unchanged_after(&journal, SCA_JOURNAL_BYTES);
 }
 
+/* All that the last call gave. */
+static uint64_t given;
+
 /* The call's number, and whether it left what it must: all where it is refused, else all outside of what it may write, and of the journal
  * each byte as it is due. */
 static unsigned number_of(enum call which, int *good) {
     uint64_t result;
-    note(&state), note(&journal), note(&output), note(&body), note(&received);
-    writable(&body, 0), writable(&received, 0);
-    result = call(which);
-    writable(&body, 1), writable(&received, 1);
-    *good &= unchanged(&body) && unchanged(&received);
+    note(&state), note(&journal), note(&output), note(&body), note(&received), note(&list);
+    writable(&body, 0), writable(&received, 0), writable(&list, 0);
+    given = result = call(which);
+    writable(&body, 1), writable(&received, 1), writable(&list, 1);
+    *good &= unchanged(&body) && unchanged(&received) && unchanged(&list);
     if (sca_refused(result)) {
         *good &= unchanged(&state) && unchanged(&journal) && unchanged(&output) && result == sca_number(result);
     } else {
-        *good &= unchanged_after(&state, SCA_STATE_BYTES) && journal_as_left(which);
-        *good &= unchanged_after(&output, sca_length(result));
+        *good &= unchanged_after(&state, SCA_STATE_BYTES) && (which == SAMPLES ? as_one_by_one(result) : journal_as_left(which));
+        *good &= unchanged_after(&output, sca_length(result) * (which == SAMPLES ? sca_frames(result) : 1));
         *good &= sca_length(result) <= SCA_OUTPUT_LEAST && sca_port(result) <= SCA_AUXILIARY;
         *good &= (sca_length(result) > 0) == (sca_number(result) == SCA_HAS_FRAME);
     }
@@ -204,14 +243,16 @@ static void reach(int deep, uint8_t tag) {
     }
 }
 
-/* All as it must be for a call to be granted. */
-static void lend_all(void) {
+/* All as it must be for a call to be granted: its output as short as it may be, and a batch of three samples. */
+static void lend_all(enum call which) {
+    static const struct sca_pin_sample three[] = {{0xFFFF0000, SCA_SYSTEM_CLOCK}, {0x00000000, SCA_STROBE_RISING}, {0x0000FFFF, SCA_SYSTEM_CLOCK}};
     port = 0, kind = SCA_SYSTEM_CLOCK, channel = 0x05, acknowledge = 1, line_low = 0;
     lend_bytes(&state, some_state, sizeof some_state);
     lend_bytes(&journal, some_journal, sizeof some_journal);
     lend_bytes(&body, "\x00\x2F", 2);
     lend(&received, SCA_TRANSFER_BYTES);
-    lend(&output, SCA_OUTPUT_LEAST);
+    memcpy(lend_samples(3), three, sizeof three);
+    lend(&output, least_output(which));
 }
 
 static int all_zero(const uint8_t *bytes, size_t from, size_t to) {
@@ -268,12 +309,21 @@ static void lengths_of_outputs(void) {
     int good = 1;
     EACH_CALL(UPSET)
     for (size_t length = 0; length <= 25; length++) {
-        lend_all();
+        lend_all(which);
         lend(&output, length);
         unsigned number = number_of(which, &good);
-        good &= (number == SCA_SHORT_OUTPUT) == (length < SCA_OUTPUT_LEAST);
+        good &= (number == SCA_SHORT_OUTPUT) == (length < least_output(which));
     }
     check(good, "outputs of 0 to 25 bytes");
+    good = 1;
+    for (at_end = 0; at_end <= 1; at_end++)
+        for (size_t length = SCA_BATCH_LEAST - 25; length <= SCA_BATCH_LEAST + 1; length++) {
+            lend_all(SAMPLES);
+            lend(&output, length);
+            unsigned number = number_of(SAMPLES, &good);
+            good &= number == (length < SCA_BATCH_LEAST ? SCA_SHORT_OUTPUT : SCA_HAS_FRAME);
+        }
+    check(good, "a batch's outputs of 2,535 to 2,561 bytes");
 }
 
 static void lengths_of_journals(void) {
@@ -283,7 +333,7 @@ static void lengths_of_journals(void) {
         size_t length = lengths[at];
         int right = length == SCA_JOURNAL_BYTES;
         EACH_CALL(STEP_BACK) {
-            lend_all();
+            lend_all(which);
             memcpy(lend(&journal, length), some_journal, length < SCA_JOURNAL_BYTES ? length : SCA_JOURNAL_BYTES);
             unsigned number = number_of(which, &good);
             good &= (number == SCA_BAD_JOURNAL) == !right;
@@ -311,7 +361,7 @@ static void headers_of_journals(void) {
         for (unsigned byte = 0; byte <= 0xFF; byte++) {
             int layout = at == 5 ? byte > 63 : at == 6 ? byte > SCA_KEPT_MOST : at < 7 && byte != some_journal[at];
             unsigned number;
-            lend_all();
+            lend_all(which);
             journal.at[at] = (uint8_t)byte;
             number = number_of(which, &good);
             if (which != STEP_BACK || layout) good &= (number == SCA_BAD_JOURNAL) == layout;
@@ -327,7 +377,7 @@ static void bits_of_states(void) {
         EACH_CALL(STEP_BACK)
         for (size_t bit = 0; bit < 8 * SCA_STATE_BYTES; bit++) {
             int ranged;
-            lend_all();
+            lend_all(which);
             state.at[bit / 8] ^= (uint8_t)(1 << bit % 8);
             ranged = in_range(state.at);
             unsigned number = number_of(which, &good);
@@ -342,7 +392,7 @@ static int altered_back(const uint8_t *handed_in, size_t at, uint8_t byte) {
     uint8_t expected[SCA_STATE_BYTES], *slot;
     int good = 1;
     unsigned due, number;
-    lend_all();
+    lend_all(STEP_BACK);
     memcpy(state.at, handed_in, sizeof expected);
     memcpy(expected, handed_in, sizeof expected);
     slot = slot_of(journal.at, journal.at[6] - 1u);
@@ -392,7 +442,7 @@ static void records_apart(void) {
         /* a new adapter's events: CRB, CRC and CRD are off, and of the registers that they switch, those not in the record are not 0 */
         for (uint8_t tag = 0; tag <= 3; tag++) {
             reach(0, tag);
-            lend_all();
+            lend_all(STEP_BACK);
             memcpy(state.at, deep, sizeof deep);
             number = number_of(STEP_BACK, &good);
             good &= number == SCA_BAD_JOURNAL;
@@ -401,7 +451,7 @@ static void records_apart(void) {
         /* where only those in the record are not 0, it has their zeros, so that all is as at power-on but the chip ID */
         for (uint8_t tag = 1; tag <= 3; tag++) {
             reach(0, tag);
-            lend_all();
+            lend_all(STEP_BACK);
             memcpy(state.at, deep, GROUPS_AT);
             memset(state.at + GROUPS_AT, 0, SCA_STATE_BYTES - GROUPS_AT);
             memcpy(state.at + group_at(tag), deep + group_at(tag), group_bytes(tag));
@@ -412,7 +462,7 @@ static void records_apart(void) {
 
         /* the other way round: all are on, and the registers stay those of a new adapter */
         reach(1, 0);
-        lend_all();
+        lend_all(STEP_BACK);
         sca_create(state.at, state.length, 0x123456);
         number = number_of(STEP_BACK, &good);
         memcpy(expected, deep, sizeof expected);
@@ -433,7 +483,7 @@ static void records_of_frames(void) {
     at_end = 1;
     for (unsigned to = 0; to <= 0xFF; to++)
         for (unsigned at = 0; at < (to ? sizeof commands : 0x100); at++) {
-            lend_all();
+            lend_all(FRAME);
             lend_bytes(&body, "\x00\x00\x0A\x00\x04\x00\x00\xFE\x00\x00", 10);
             body.at[1] = (uint8_t)(2 * some_state[1]); /* in sequence, so that the request is heard */
             body.at[3] = (uint8_t)to, body.at[5] = to ? commands[at] : (uint8_t)at;
@@ -448,7 +498,7 @@ static void records_of_frames(void) {
                 for (size_t front = 0; front < sizeof fronts / sizeof fronts[0]; front++)
                     for (uint32_t on = SCA_PRIMARY; on <= SCA_AUXILIARY; on++) {
                         uint8_t bytes[SCA_BODY_MOST] = {fronts[front][0], fronts[front][1], 0x0A, to, 0x04, command};
-                        lend_all();
+                        lend_all(FRAME);
                         port = on;
                         lend_bytes(&body, bytes, length);
                         unsigned number = number_of(FRAME, &good);
@@ -463,7 +513,7 @@ static void lengths_of_states(void) {
     for (size_t at = 0; at < sizeof lengths / sizeof lengths[0]; at++) {
         size_t length = lengths[at];
         EACH_CALL(STEP_BACK) {
-            lend_all();
+            lend_all(which);
             memset(lend(&state, length), 0, length);
             unsigned number = number_of(which, &good);
             good &= (number == SCA_BAD_STATE) == (length != SCA_STATE_BYTES);
@@ -484,36 +534,36 @@ static void arguments(void) {
     int bodies = 1, transfers = 1, transactions = 1, ports = 1, kinds = 1, channels = 1;
     for (at_end = 0; at_end <= 1; at_end++) {
         for (size_t length = 0; length <= 20; length++) {
-            lend_all();
+            lend_all(FRAME);
             lend(&body, length);
             bodies &= (number_of(FRAME, &bodies) == SCA_BAD_BODY) == (length < 2 || length > 16);
-            lend_all();
+            lend_all(COMPLETION);
             lend(&received, length);
             transfers &= (number_of(COMPLETION, &transfers) == SCA_BAD_ARGUMENT) == (length != 16);
-            lend_all();
+            lend_all(I2C);
             lend(&received, length);
             transactions &= number_of(I2C, &transactions) == (length > 16 ? SCA_BAD_ARGUMENT : SCA_HAS_FRAME);
         }
         for (unsigned at = 0; at <= 0x3FF; at++) {
             uint32_t value = at <= 0x2FF ? at : 0xFFFFFC00 + at; /* 0 to 767, then the last 256 numbers of 32 bits */
-            lend_all();
+            lend_all(FRAME);
             port = value;
             ports &= (number_of(FRAME, &ports) == SCA_BAD_ARGUMENT) == (value > 1);
-            lend_all();
+            lend_all(SAMPLE);
             kind = value;
             kinds &= (number_of(SAMPLE, &kinds) == SCA_BAD_ARGUMENT) == (value > 2);
-            lend_all();
+            lend_all(I2C);
             channel = value;
             channels &= (number_of(I2C, &channels) == SCA_BAD_ARGUMENT) == (value < SCA_I2C_FIRST || value > SCA_I2C_LAST);
         }
         for (unsigned bit = 8; bit < 32; bit++) { /* one bit above a low byte that would do */
-            lend_all();
+            lend_all(FRAME);
             port = (uint32_t)1 << bit | SCA_AUXILIARY;
             ports &= number_of(FRAME, &ports) == SCA_BAD_ARGUMENT;
-            lend_all();
+            lend_all(SAMPLE);
             kind = (uint32_t)1 << bit | SCA_STROBE_FALLING;
             kinds &= number_of(SAMPLE, &kinds) == SCA_BAD_ARGUMENT;
-            lend_all();
+            lend_all(I2C);
             channel = (uint32_t)1 << bit | 0x05;
             channels &= number_of(I2C, &channels) == SCA_BAD_ARGUMENT;
         }
@@ -535,7 +585,7 @@ static void receptions(void) {
             for (unsigned length = 0; length <= SCA_I2C_MOST; length++)
                 for (unsigned way = 0; way < 4; way++) {
                     uint8_t was[16];
-                    lend_all();
+                    lend_all(I2C);
                     acknowledge = way & 1, line_low = way & 2;
                     state.at[master + 1] = (uint8_t)(count << 2);
                     for (unsigned k = 0; k < 16; k++) state.at[data + k] = (uint8_t)(0xA0 + k);
@@ -558,7 +608,7 @@ static void order(void) {
     for (at_end = 0; at_end <= 1; at_end++)
         for (unsigned wrong = 1; wrong < 32; wrong++) {
             unsigned first = wrong & 1 ? 6 : wrong & 2 ? 4 : wrong & 4 ? 1 : wrong & 8 ? 3 : 2;
-            lend_all();
+            lend_all(FRAME);
             if (wrong & 1) state.at[1] = 8;
             if (wrong & 2) journal.at[0] = 0;
             if (wrong & 4) lend(&output, SCA_OUTPUT_LEAST - 1);
@@ -576,7 +626,7 @@ static void i2c_order(void) {
     for (at_end = 0; at_end <= 1; at_end++)
         for (unsigned wrong = 1; wrong < 32; wrong++) {
             unsigned first = wrong & 1 ? 6 : wrong & 2 ? 4 : wrong & 4 ? 1 : 3;
-            lend_all();
+            lend_all(I2C);
             if (wrong & 1) state.at[MASTERS_AT + 2] = 0x80;
             if (wrong & 2) journal.at[0] = 0;
             if (wrong & 4) lend(&output, SCA_OUTPUT_LEAST - 1);
@@ -588,22 +638,87 @@ static void i2c_order(void) {
     check(good, "and at an I2C completion");
 }
 
+/* A batch's samples, lent: every one interrupts up to this many, and then none does. In the state that was reached, lines 0 and 1 interrupt on
+ * rising: first line 0 rises, then line 1 while line 0 falls, and so on. */
+static struct sca_pin_sample *lend_swinging(size_t all, size_t swinging) {
+    struct sca_pin_sample *lent = lend_samples(all);
+    for (size_t at = 0; at < all; at++) {
+        lent[at].levels = (at < swinging ? at : swinging - 1) % 2 + 1;
+        lent[at].kind = SCA_SYSTEM_CLOCK;
+    }
+    return lent;
+}
+
+/* The greatest batch fills the least output: its last body ends right before a guard page, and so does the list. */
+static void batches(void) {
+    int counts = 1, frames = 1, kinds = 1;
+    for (at_end = 0; at_end <= 1; at_end++) {
+        for (size_t all = 0; all <= SCA_SAMPLES_MOST + 1; all++) {
+            unsigned due = all == 0 ? SCA_NO_FRAME : all <= SCA_SAMPLES_MOST ? SCA_HAS_FRAME : SCA_BAD_ARGUMENT, number;
+            lend_all(SAMPLES);
+            lend_swinging(all, all);
+            number = number_of(SAMPLES, &counts);
+            counts &= number == due && (number != SCA_HAS_FRAME || sca_frames(given) == all);
+        }
+        for (size_t swinging = 1; swinging <= SCA_SAMPLES_MOST; swinging++) {
+            unsigned number;
+            lend_all(SAMPLES);
+            lend_swinging(SCA_SAMPLES_MOST, swinging);
+            number = number_of(SAMPLES, &frames);
+            frames &= number == SCA_HAS_FRAME && sca_frames(given) == swinging && sca_sum(given) == swinging;
+        }
+        for (size_t all = 1; all <= SCA_SAMPLES_MOST; all += 51) /* 1, 52, .. and 256 */
+            for (size_t place = 0; place < all; place++) {
+                uint32_t wrong = place % 2 ? SCA_STROBE_FALLING + 1 : (uint32_t)1 << (8 + place % 24) | SCA_STROBE_RISING;
+                unsigned number;
+                lend_all(SAMPLES);
+                lend_swinging(all, all)[place].kind = wrong;
+                number = number_of(SAMPLES, &kinds);
+                kinds &= number == SCA_BAD_ARGUMENT;
+            }
+    }
+    check(counts, "batches of 0 to 257 samples, of which every one interrupts");
+    check(frames, "batches of 256 samples, of which 1 to 256 interrupt");
+    check(kinds, "a wrong kind in any place of a batch");
+}
+
+/* Of several reasons to refuse a batch: 6, 4, 1, 3, the last for a kind or for one sample too many. */
+static void batch_order(void) {
+    int good = 1;
+    for (at_end = 0; at_end <= 1; at_end++)
+        for (unsigned wrong = 1; wrong < 32; wrong++) {
+            unsigned first = wrong & 1 ? 6 : wrong & 2 ? 4 : wrong & 4 ? 1 : 3, number;
+            size_t all = wrong & 16 ? SCA_SAMPLES_MOST + 1 : SCA_SAMPLES_MOST;
+            lend_all(SAMPLES);
+            lend_swinging(all, all)[all - 1].kind = !(wrong & 8) ? SCA_SYSTEM_CLOCK : at_end ? 256 : 3;
+            if (wrong & 1) state.at[1] = 8;
+            if (wrong & 2) journal.at[0] = 0;
+            if (wrong & 4) lend(&output, SCA_BATCH_LEAST - 1);
+            number = number_of(SAMPLES, &good);
+            good &= number == first;
+        }
+    check(good, "and at a batch");
+}
+
 static void no_buffers(void) {
+    static struct lent *const buffers[] = {&state, &journal, &output, &body, &received, &list};
+    static const unsigned numbers[] = {6, 4, 1, 2, 3, SCA_NO_FRAME};
     int good = 1;
     at_end = 0;
     for (enum call which = FRAME; which < CALLS; which++)
-        for (struct lent *none = &state;; none = none == &state ? &journal : none == &journal ? &output : none == &output ? &body : &received) {
-            unsigned number = none == &state ? 6 : none == &journal ? 4 : none == &output ? 1 : none == &body ? 2 : 3, got;
-            int used = none == &state || none == &journal || (none == &output && which != STEP_BACK) ||
-                       (none == &body && which == FRAME) || (none == &received && which == COMPLETION);
-            lend_all();
+        for (size_t at = 0; at < sizeof buffers / sizeof buffers[0]; at++) {
+            struct lent *none = buffers[at];
+            int used = none == &state || none == &journal || (none == &output && which != STEP_BACK) || (none == &body && which == FRAME) ||
+                       (none == &received && which == COMPLETION) || (none == &list && which == SAMPLES);
+            unsigned got;
+            lend_all(which);
             none->at = NULL, none->length = 0;
             got = number_of(which, &good);
-            good &= used ? got == number : got == SCA_HAS_FRAME || got >= 11;
-            if (none == &received) break;
+            good &= used ? got == numbers[at] : got == SCA_HAS_FRAME || got >= 11;
         }
     good &= sca_create(NULL, 0, 0) == SCA_BAD_STATE && sca_receiver_new(NULL, 0) == SCA_BAD_STATE;
     good &= sca_empty(NULL, 0) == SCA_BAD_JOURNAL && sca_kept(NULL, 0) == SCA_BAD_JOURNAL;
+    good &= sca_samples(NULL, 0, NULL, 0, NULL, 0, NULL, 0) == SCA_BAD_STATE;
     good &= sca_transmit(NULL, 0, NULL, 0) == SCA_BAD_BODY && sca_receive(NULL, 0, NULL, 0, 0, NULL, 0) == SCA_BAD_STATE;
     lend(&receiver, SCA_RECEIVER_BYTES);
     lend(&output, SCA_OUTPUT_LEAST);
@@ -724,9 +839,10 @@ static void guards(void) {
 static void map_all(void) {
     state = between_guards(SCA_STATE_BYTES + 1);
     journal = between_guards(SCA_JOURNAL_BYTES + 1);
-    output = between_guards(25);
+    output = between_guards(SCA_BATCH_LEAST + 1);
     body = between_guards(20);
     received = between_guards(20);
+    list = between_guards((SCA_SAMPLES_MOST + 1) * sizeof(struct sca_pin_sample));
     receiver = between_guards(SCA_RECEIVER_BYTES + 1);
     input = between_guards(SCA_INPUT_MOST + 1);
     signal(SIGSEGV, touched);
@@ -745,6 +861,8 @@ int main(void) {
     receptions();
     order();
     i2c_order();
+    batch_order();
+    batches();
     no_buffers();
     bits_of_states();
     altered_records();

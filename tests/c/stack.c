@@ -11,6 +11,8 @@
 enum { STACK = 1 << 16, PAINT = 0xA5, MOST = 768 };
 
 static uint8_t state[SCA_STATE_BYTES], journal[SCA_JOURNAL_BYTES], output[SCA_CABLE_MOST], receiver[SCA_RECEIVER_BYTES];
+static uint8_t batch_output[SCA_BATCH_LEAST];
+static struct sca_pin_sample list[SCA_SAMPLES_MOST];
 static uint8_t cable[SCA_CABLE_MOST];
 static unsigned char stack[STACK];
 static ucontext_t here, there;
@@ -49,6 +51,30 @@ static void waiting(void) {
                                           {0x00, 0x06, 0x04, 0x02, 0x04, 0x60, 0x00, 0x00, 0x01, 0x00}};
     enabled();
     requests(bodies);
+}
+
+/* The journal is full, all masters are on, and of a batch of 256 samples every one interrupts: at each, one line falls and another rises. */
+static void probing(void) {
+    static const uint8_t bodies[3][10] = {{0x00, 0x08, 0x05, 0x00, 0x04, 0x02, 0x00, 0xFE, 0x00, 0x00},
+                                          {0x00, 0x0A, 0x06, 0x00, 0x04, 0x04, 0x00, 0xFF, 0x00, 0x00},
+                                          {0x00, 0x0C, 0x07, 0x00, 0x04, 0x06, 0x00, 0x1F, 0x00, 0x00}};
+    waiting();
+    requests(bodies);
+    while (sca_kept_in(sca_kept(journal, sizeof journal)) < SCA_KEPT_MOST)
+        sca_upset(state, sizeof state, journal, sizeof journal, output, sizeof output);
+    for (size_t at = 0; at < SCA_SAMPLES_MOST; at++) list[at].levels = at % 2 + 1, list[at].kind = SCA_SYSTEM_CLOCK;
+}
+
+/* The last kind of the batch is wrong. */
+static void misprobing(void) {
+    probing();
+    list[SCA_SAMPLES_MOST - 1].kind = SCA_STROBE_FALLING + 1;
+}
+
+/* The lines are disabled. */
+static void unwatched(void) {
+    probing();
+    fresh();
 }
 
 /* All masters of CRC on; a read of 16 bytes is open. */
@@ -124,6 +150,12 @@ static void transacted(void) {
 
 static void sample(void) { sca_sample(state, sizeof state, journal, sizeof journal, 1, 0, output, sizeof output); }
 
+static uint64_t batch;
+
+static void samples(void) {
+    batch = sca_samples(state, sizeof state, journal, sizeof journal, list, SCA_SAMPLES_MOST, batch_output, sizeof batch_output);
+}
+
 static void upset(void) { sca_upset(state, sizeof state, journal, sizeof journal, output, sizeof output); }
 
 static void step_back(void) { sca_step_back(state, sizeof state, journal, sizeof journal); }
@@ -181,6 +213,10 @@ int main(void) {
     flat(transacting, i2c_completion, "sca_i2c_completion");
     flat(waiting, sample, "sca_sample with an interrupt");
     check(output[2] == 0xFF, "it was sent");
+    flat(probing, samples, "sca_samples with 256 interrupts");
+    check(sca_frames(batch) == SCA_SAMPLES_MOST && sca_kept_in(sca_kept(journal, sizeof journal)) == SCA_KEPT_MOST, "all were sent");
+    flat(unwatched, samples, "sca_samples with GPIO disabled");
+    flat(misprobing, samples, "sca_samples refused for its last kind");
     flat(fresh, upset, "sca_upset");
     flat(enabled, step_back, "sca_step_back");
     flat(transacted, step_back, "sca_step_back over an I2C completion");

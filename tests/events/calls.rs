@@ -2,6 +2,7 @@
 
 use crate::harness::hex::{bytes_in, Hex};
 use reference::adapter::State;
+use sca::boundary::RawSample;
 use sca::{I2C_FIRST, I2C_MOST};
 use std::fmt;
 
@@ -64,6 +65,11 @@ pub enum Call {
     Sample {
         levels: u32,
         kind: u32,
+        room: usize,
+    },
+    /// Pin samples by the batch.
+    Samples {
+        list: Vec<RawSample>,
         room: usize,
     },
     Upset {
@@ -213,6 +219,11 @@ impl fmt::Display for Call {
             }
             Call::Ending { nth, bytes, .. } => write!(out, "ending {} {}", nth, Hex(bytes)),
             Call::Sample { levels, kind, room } => write!(out, "P {:08x} {} {}", levels, kind, room),
+            Call::Samples { list, room } => {
+                write!(out, "samples {}", room)?;
+                let mut each = list.iter();
+                each.try_for_each(|sample| write!(out, " {:08x}:{}", sample.levels, sample.kind))
+            }
             Call::Upset { room } => write!(out, "U {}", room),
             Call::StepBack => write!(out, "B"),
             Call::Adopt { state } => write!(out, "adopt {}", Hex(state)),
@@ -265,6 +276,10 @@ fn call_of(words: &[&str]) -> Option<Call> {
             kind: word(kind)?,
             room: number(room)?,
         }),
+        ["samples", room, ..] => Some(Call::Samples {
+            list: words[2..].iter().map(|text| sample_in(text)).collect::<Option<_>>()?,
+            room: number(room)?,
+        }),
         ["U", room] => Some(Call::Upset { room: number(room)? }),
         ["B"] => Some(Call::StepBack),
         ["adopt", state] => Some(Call::Adopt {
@@ -298,4 +313,13 @@ fn call_of(words: &[&str]) -> Option<Call> {
         }),
         _ => None,
     }
+}
+
+/// The sample of a batch that a word spells: its levels in hex, and its kind.
+fn sample_in(text: &str) -> Option<RawSample> {
+    let (levels, kind) = text.split_once(':')?;
+    Some(RawSample {
+        levels: u32::from_str_radix(levels, 16).ok()?,
+        kind: kind.parse().ok()?,
+    })
 }

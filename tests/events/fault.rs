@@ -24,28 +24,105 @@ pub enum Fault {
     RefusedOutput,
     KeptNumber,
     Created,
+    /// In a batch of pin samples.
+    Batch(BatchFault),
 }
 
-pub const FAULTS: [(Fault, &str); 21] = [
-    (Fault::Number, "an event's number"),
-    (Fault::Port, "a frame's port"),
-    (Fault::Length, "a frame's length"),
-    (Fault::Body, "a byte of a body"),
-    (Fault::OutputAfterBody, "a byte of output after a body"),
-    (Fault::OutsideOutput, "a byte behind the output"),
-    (Fault::State, "a bit of the state after an event"),
-    (Fault::Master, "a bit of an I2C master after an event"),
-    (Fault::RestoredState, "a bit of the state after a step back"),
-    (Fault::RefusedState, "a bit of the state at a refused call"),
-    (Fault::Tag, "a record's tag"),
-    (Fault::Record, "a bit of the core in a record"),
-    (Fault::Group(CRB), "a bit of CRB's group in a record"),
-    (Fault::Group(CRC), "a bit of CRC's group in a record"),
-    (Fault::Group(CRD), "a bit of CRD's group in a record"),
-    (Fault::BehindRecord, "a bit of a slot behind its record"),
-    (Fault::UnusedJournal, "a bit of the journal that no call uses"),
-    (Fault::RefusedJournal, "a bit of the journal at a refused call"),
-    (Fault::RefusedOutput, "a byte of output at a refused call"),
-    (Fault::KeptNumber, "the kept number"),
-    (Fault::Created, "a bit of a new state"),
+/// What a batch could do wrong.
+#[derive(Clone, Copy, PartialEq, Eq, Debug)]
+pub enum BatchFault {
+    Number,
+    NumberAlone,
+    Port,
+    Length,
+    Frames,
+    Sum,
+    SumUnsent,
+    Body,
+    Order,
+    SamplePlace,
+    OutputBehind,
+    OutsideOutput,
+    State,
+    Record,
+    OneRecord,
+    Unkept,
+    StopsAtFrame,
+    LastLeftOut,
+    EmptyKept,
+    FirstsDone,
+    RefusedState,
+    RefusedJournal,
+    RefusedOutput,
+}
+
+const FAULTS: [(Fault, &str); 21] = [
+    (Fault::Number, "an event's number changed"),
+    (Fault::Port, "a frame's port changed"),
+    (Fault::Length, "a frame's length changed"),
+    (Fault::Body, "a byte of a body changed"),
+    (Fault::OutputAfterBody, "a byte of output after a body changed"),
+    (Fault::OutsideOutput, "a byte behind the output changed"),
+    (Fault::State, "a bit of the state after an event changed"),
+    (Fault::Master, "a bit of an I2C master after an event changed"),
+    (Fault::RestoredState, "a bit of the state after a step back changed"),
+    (Fault::RefusedState, "a bit of the state at a refused call changed"),
+    (Fault::Tag, "a record's tag changed"),
+    (Fault::Record, "a bit of the core in a record changed"),
+    (Fault::Group(CRB), "a bit of CRB's group in a record changed"),
+    (Fault::Group(CRC), "a bit of CRC's group in a record changed"),
+    (Fault::Group(CRD), "a bit of CRD's group in a record changed"),
+    (Fault::BehindRecord, "a bit of a slot behind its record changed"),
+    (Fault::UnusedJournal, "a bit of the journal that no call uses changed"),
+    (Fault::RefusedJournal, "a bit of the journal at a refused call changed"),
+    (Fault::RefusedOutput, "a byte of output at a refused call changed"),
+    (Fault::KeptNumber, "the kept number changed"),
+    (Fault::Created, "a bit of a new state changed"),
 ];
+
+const BATCH_FAULTS: [(BatchFault, &str); 23] = [
+    (BatchFault::Number, "a batch's number changed"),
+    (BatchFault::NumberAlone, "16 for a batch with GPIO disabled"),
+    (BatchFault::Port, "a batch's port changed"),
+    (BatchFault::Length, "a batch's length changed"),
+    (BatchFault::Frames, "a batch's frames, one too few"),
+    (BatchFault::Sum, "a batch's sum, one too high"),
+    (BatchFault::SumUnsent, "lines counted that fired with INTENABLE 0"),
+    (BatchFault::Body, "a byte of a batch's last body changed"),
+    (BatchFault::Order, "two bodies in each other's place"),
+    (BatchFault::SamplePlace, "a body at its sample's place"),
+    (
+        BatchFault::OutputBehind,
+        "a byte of output behind a batch's bodies changed",
+    ),
+    (BatchFault::OutsideOutput, "a byte behind a batch's output changed"),
+    (BatchFault::State, "a bit of the state after a batch changed"),
+    (
+        BatchFault::Record,
+        "a bit of the oldest record that a batch left changed",
+    ),
+    (BatchFault::OneRecord, "one record for all samples"),
+    (BatchFault::Unkept, "samples not kept with GPIO disabled"),
+    (BatchFault::StopsAtFrame, "a batch that stops at its first frame"),
+    (BatchFault::LastLeftOut, "a batch without its last sample"),
+    (BatchFault::EmptyKept, "an empty batch that is kept"),
+    (
+        BatchFault::FirstsDone,
+        "a refused batch that has done its first samples",
+    ),
+    (
+        BatchFault::RefusedState,
+        "a bit of the state at a refused batch changed",
+    ),
+    (
+        BatchFault::RefusedJournal,
+        "a bit of the journal at a refused batch changed",
+    ),
+    (BatchFault::RefusedOutput, "a byte of output at a refused batch changed"),
+];
+
+/// Every fault, with its name.
+pub fn faults() -> impl Iterator<Item = (Fault, &'static str)> {
+    let in_a_batch = BATCH_FAULTS.map(|(fault, name)| (Fault::Batch(fault), name));
+    FAULTS.into_iter().chain(in_a_batch)
+}

@@ -10,6 +10,7 @@
 
 #![forbid(unsafe_code)]
 
+mod batches;
 mod calls;
 mod exchanges;
 mod fault;
@@ -18,6 +19,7 @@ mod harness;
 mod image;
 mod listing;
 mod masters;
+mod probes;
 mod record;
 mod ring;
 mod run;
@@ -26,7 +28,7 @@ mod streams;
 mod tally;
 
 use calls::Call;
-use fault::{Fault, FAULTS};
+use fault::Fault;
 use harness::chance::Chance;
 use harness::options::Options;
 use harness::report::{all, list, say};
@@ -157,6 +159,7 @@ fn all_seen(tally: &Tally) -> bool {
         some("64 steps back in a row and one more", tally.whole_journals_back),
     ];
     results.extend(tally.masters.all_seen());
+    results.extend(tally.batches.all_seen());
     results.iter().all(|holds| *holds)
 }
 
@@ -164,7 +167,7 @@ fn all_seen(tally: &Tally) -> bool {
 /// it must still.
 fn find_faults(seed: u64) -> bool {
     let mut found = true;
-    for (fault, name) in FAULTS {
+    for (fault, name) in fault::faults() {
         let runs = (1_000..2_000).map(|number| streams::stream(&mut Chance::new(seed, number)));
         let mut tried = runs.map(|calls| (run(&calls, Some(fault), &mut Tally::new()), calls));
         let difference = match tried.find(|((_, faulted), _)| *faulted) {
@@ -177,7 +180,7 @@ fn find_faults(seed: u64) -> bool {
         };
         found &= say(
             difference.contains("the library has") || difference.contains("differs"),
-            &format!("{} changed: {}", name, difference),
+            &format!("{}: {}", name, difference),
         );
     }
     found

@@ -61,7 +61,12 @@ impl Ring {
 
     /// Where the newest record starts: where none is kept, the slot before the first.
     pub fn newest_at(&self) -> usize {
-        self.slot(self.kept() + SLOTS - 1)
+        self.record_at(0)
+    }
+
+    /// Where a record starts: the newest is 0, and older ones follow.
+    pub fn record_at(&self, newest: usize) -> usize {
+        self.slot(self.kept() + SLOTS - 1 - newest)
     }
 
     /// The tag of the newest record; none where there is no record.
@@ -80,7 +85,7 @@ impl Ring {
 
     /// What a record makes of the state handed in: the newest is 0, and older ones follow.
     pub fn record(&self, newest: usize, handed_in: &State) -> Option<State> {
-        let at = self.slot(self.kept() + SLOTS - 1 - newest);
+        let at = self.record_at(newest);
         restored(&self.0[at..at + SLOT], handed_in)
     }
 }

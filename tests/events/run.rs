@@ -1,6 +1,9 @@
 //! Runs the calls of a run on both sides, the library and the independent implementation, and compares all that each
 //! call gives and leaves.
 
+mod batch;
+
+use crate::batches::Taken;
 use crate::calls::Call;
 use crate::fault::Fault;
 use crate::harness::hex::Hex;
@@ -55,6 +58,8 @@ struct Pair {
     /// How many of the newest records are of events since the state was last put in from elsewhere. The journal did not go with
     /// it further back.
     together: usize,
+    /// How many of the newest records are of batches' samples.
+    sampled: usize,
     /// The journal's bytes were altered, so that `earlier` does not stand for them.
     altered: bool,
 }
@@ -72,6 +77,7 @@ impl Pair {
             earlier: Journal::new(),
             ring,
             together: 0,
+            sampled: 0,
             altered: false,
         }
     }
@@ -81,11 +87,13 @@ impl Pair {
         self.handed_in = bytes.clone();
         self.state = bytes;
         self.together = 0;
+        self.sampled = 0;
     }
 
     fn set_journal(&mut self, bytes: Vec<u8>) {
         self.ring = Ring(bytes.clone());
         self.journal = bytes;
+        self.sampled = 0;
         self.altered = true;
         self.earlier.condition = if self.journal.len() != JOURNAL_BYTES {
             Condition::WrongLength
@@ -99,16 +107,26 @@ impl Pair {
     fn empty_ring(&mut self) {
         self.ring.empty();
         self.together = 0;
+        self.sampled = 0;
     }
 
     fn push(&mut self, tag: u8, before: &State) {
         self.ring.push(tag, before);
         self.together = self.ring.kept().min(self.together + 1);
+        self.sampled = 0;
+    }
+
+    /// A record for each sample of a batch.
+    fn push_samples(&mut self, taken: &[Taken]) {
+        let sampled = self.sampled + taken.len();
+        taken.iter().for_each(|taken| self.push(CRB, &taken.before));
+        self.sampled = self.ring.kept().min(sampled);
     }
 
     fn lower(&mut self) {
         self.ring.lower();
         self.together = self.together.saturating_sub(1);
+        self.sampled = self.sampled.saturating_sub(1);
     }
 
     /// What a step back is on.
@@ -247,11 +265,12 @@ impl<'a> Run<'a> {
         self.on(&mut copy, call)
     }
 
-    /// An event, a step back or a counting, on a pair.
+    /// An event, a batch of them, a step back or a counting, on a pair.
     fn on(&mut self, pair: &mut Pair, call: &Call) -> Checked {
         match call {
             Call::StepBack => self.step_back(pair)?,
             Call::Kept => {}
+            Call::Samples { list, room } => self.batch(pair, list, *room)?,
             _ => self.event(pair, call)?,
         }
         self.kept(pair)
@@ -325,6 +344,9 @@ impl<'a> Run<'a> {
             Some(state) => by_reference(state, &mut pair.earlier, call, expected_output.lent()),
         };
         let kept = !refused(expected.number);
+        if kept && pair.sampled > 0 {
+            self.tally.batches.followed_by(call);
+        }
         if let (true, Some(before)) = (kept, before) {
             match adapter::kept(&pair.earlier) {
                 (_, 0) => pair.empty_ring(),
@@ -420,7 +442,8 @@ impl<'a> Run<'a> {
             same("docs/JOURNAL.md's number", number, theirs)?;
             same("docs/JOURNAL.md's state", after, Some(left))?;
         }
-        self.tally.step_back(number, pair.back(), pair.ring.newest_tag());
+        self.tally
+            .step_back(number, pair.back(), pair.ring.newest_tag(), pair.sampled);
         if let (DONE, Back::Together, Some(before), Some(after)) = (number, pair.back(), &before, &after) {
             self.tally.masters.stepped_back(before, after);
         }

@@ -6,6 +6,7 @@ use crate::exchanges::{is_start, master, some_master, unknown_code, whole_start}
 use crate::harness::chance::Chance;
 use crate::image::{bytes_of, DATA_AT, MASTERS_AT, MASTER_BYTES};
 use crate::masters::is_on;
+use crate::probes::{any_batch, probing, wrong_batch};
 use reference::adapter::{Gpio, Spi, State};
 use sca::{I2C_FIRST, I2C_LAST, JOURNAL_BYTES, STATE_BYTES};
 
@@ -108,7 +109,7 @@ fn create(chance: &mut Chance) -> Call {
 }
 
 fn phase(chance: &mut Chance) -> Vec<Call> {
-    match chance.below(27) {
+    match chance.below(30) {
         0..=3 => many(chance, 1, 20, request_or_ending),
         4..=6 => transfer(chance),
         7..=9 => pins(chance),
@@ -127,6 +128,7 @@ fn phase(chance: &mut Chance) -> Vec<Call> {
         19..=22 => exchange(chance),
         23 | 24 => at_once(chance),
         25 => many(chance, 1, 12, unknown_code),
+        26..=28 => probing(chance),
         _ => vec![match chance.below(3) {
             0 => Call::Empty { length: JOURNAL_BYTES },
             1 => create(chance),
@@ -340,7 +342,7 @@ fn request_or_ending(chance: &mut Chance) -> Call {
     }
 }
 
-fn sample(chance: &mut Chance) -> Call {
+pub fn sample(chance: &mut Chance) -> Call {
     Call::Sample {
         levels: word(chance),
         kind: chance.below(3) as u32,
@@ -421,6 +423,9 @@ fn any_frame(chance: &mut Chance) -> Call {
 }
 
 fn event(chance: &mut Chance) -> Call {
+    if chance.once_in(24) {
+        return any_batch(chance);
+    }
     match chance.below(7) {
         0 => sample(chance),
         1 => completion(chance),
@@ -454,7 +459,7 @@ fn refused(chance: &mut Chance) -> Call {
             16
         }
     };
-    match chance.below(9) {
+    match chance.below(10) {
         0 | 1 => {
             let length = match chance.below(3) {
                 0 => chance.below(2),
@@ -495,6 +500,7 @@ fn refused(chance: &mut Chance) -> Call {
             length: [STATE_BYTES, STATE_BYTES - 1, STATE_BYTES + 1, 75, chance.below(500)][chance.below(5)],
             id: [0x0100_0000, u32::MAX, 0x00FF_FFFF, word(chance)][chance.below(4)],
         },
+        8 => wrong_batch(chance),
         _ => Call::Empty {
             length: other_length(chance, JOURNAL_BYTES),
         },
@@ -537,7 +543,13 @@ fn kept_event_or_step_back(chance: &mut Chance) -> Call {
 
 /// An event or a step back on a damaged copy of the state or of the journal, or on both.
 pub fn damaged(chance: &mut Chance) -> Call {
-    let call = Box::new(kept_event_or_step_back(chance));
+    let call = kept_event_or_step_back(chance);
+    damaged_by(chance, call)
+}
+
+/// This call on such a copy, or a step back.
+pub fn damaged_by(chance: &mut Chance, call: Call) -> Call {
+    let call = Box::new(call);
     match chance.below(11) {
         0..=2 => Call::FlippedState {
             bit: some_bit(chance),

@@ -1,8 +1,9 @@
 //! How often each thing was seen, over all runs.
 
+use crate::batches::{Batches, Seen};
 use crate::calls::Call;
 use crate::masters::{End, Masters};
-use crate::record::CRD;
+use crate::record::{CRB, CRD};
 use crate::run::refused;
 use reference::adapter::{Gpio, State};
 use reference::numbers::{BAD_ARGUMENT, BAD_JOURNAL, DONE, FRAME, NOTHING_KEPT, OTHER_ADDRESS, WRONG_INFORMATION};
@@ -23,6 +24,11 @@ pub enum Back {
 /// With bit 4 clear.
 const CONNECT: u8 = 0x2F;
 const RESET: u8 = 0x8F;
+
+/// Whether a body is a RESET that is accepted.
+pub fn is_reset(body: &[u8]) -> bool {
+    matches!(body, [0x00, control] if control & 0xEF == RESET)
+}
 
 pub struct Tally {
     pub calls: u64,
@@ -68,6 +74,7 @@ pub struct Tally {
     pub go_connected: u64,
     pub counter_wrapped: u64,
     pub masters: Masters,
+    pub batches: Batches,
     /// A full journal taken back to its end: 64 steps in a row, and one more.
     pub whole_journals_back: u64,
     steps_in_a_row: usize,
@@ -108,6 +115,7 @@ impl Tally {
             go_connected: 0,
             counter_wrapped: 0,
             masters: Masters::new(),
+            batches: Batches::new(),
             whole_journals_back: 0,
             steps_in_a_row: 0,
         }
@@ -176,6 +184,19 @@ impl Tally {
         }
     }
 
+    /// A batch of pin samples.
+    pub fn batch(&mut self, seen: &Seen) {
+        self.events += 1;
+        self.steps_in_a_row = 0;
+        if !refused(seen.answer.number) {
+            self.masters.left(&seen.after);
+            for taken in seen.taken {
+                self.recorded(CRB, taken.number);
+            }
+        }
+        self.batches.seen(seen);
+    }
+
     /// Lines that a sample moved to these levels.
     fn moved(&mut self, gpio: &Gpio, levels: u32) {
         for place in 0..self.edges.len() {
@@ -225,9 +246,13 @@ impl Tally {
         self.dropped_tags[usize::from(tag)] += u64::from((OTHER_ADDRESS..=WRONG_INFORMATION).contains(&number));
     }
 
-    /// A step back, and the tag of the newest record, if there is one.
-    pub fn step_back(&mut self, number: u8, back: Back, tag: Option<u8>) {
+    /// A step back, the tag of the newest record, if there is one, and how many of the newest are of batches' samples.
+    pub fn step_back(&mut self, number: u8, back: Back, tag: Option<u8>, sampled: usize) {
         self.events += 1;
+        if number == DONE && sampled > 0 {
+            let after_63 = sampled == 1 && self.steps_in_a_row == 63;
+            self.batches.stepped_back(after_63);
+        }
         let (counts, tags) = match back {
             Back::Together => (&mut self.step_back, Some(&mut self.tags_back)),
             Back::Apart => (&mut self.apart_back, Some(&mut self.tags_back_apart)),

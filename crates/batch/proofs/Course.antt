@@ -7,7 +7,7 @@ use native.Mathlib.Omega.{arith}
 use lib.ListN.{length, take, drop, length-append, take-append-drop}
 use lib.Seq.{drop-drop}
 use lib.Count.{ones}
-use borrow.Author.Tests.{eq-eqb, ne-eqb}
+use borrow.Author.Tests.{ne-eqb}
 use Rattle.numbers.specs.Numbers.{linesDisabled, noFrame}
 use Rattle.commands.specs.declared.channel.Channel.the-variants.{Gpio}
 use Rattle.commands.specs.declared.command.Register.the-variants.{Ints}
@@ -16,7 +16,7 @@ use Rattle.registers.specs.Registers.{read}
 use Rattle.registers.specs.Pins.{sampled, interrupts}
 use Rattle.channels.specs.Rows.{isEnabled}
 use Rattle.parts.specs.Parts.{part, put}
-use Rattle.parts.proofs.Laws.{put-none, put-put, put-all, part-put-same, length-part, length-put}
+use Rattle.parts.proofs.Laws.{put-put, put-all, part-put-same, length-part, length-put}
 use Rattle.packets.specs.Packets.{dataOf, replyBody}
 use Rattle.state.specs.State.{Adapter, withRegisters}
 use Rattle.state.specs.Bytes.{stateBytes, linkOf, stateIn}
@@ -25,11 +25,11 @@ use Rattle.chip.specs.Answer.{Reaction, sends, gives}
 use Rattle.chip.specs.Event.{sample}
 use Rattle.chip.specs.Request.{replies}
 use Rattle.chip.specs.Chip.{reaction, onSample}
-use Rattle.adapter.specs.Calls.{done, recorded}
+use Rattle.adapter.specs.Calls.{done}
 use Rattle.batch.specs.declared.Sample.{Sample}
 use Rattle.batch.specs.declared.Pass.{Pass}
 use Rattle.batch.specs.Batch.{eventOf, Course, onward, linesIn}
-use Rattle.batch.specs.Passes.{Going, going, sampledAt, given}
+use Rattle.batch.specs.Inner.{Going, going, sampledAt, given}
 
 -- ---- what a sample comes to: a number without a frame, or an interrupt on the active port, which stays
 
@@ -54,11 +54,11 @@ sample-shape a levels kind =
     (quiet a linesDisabled (λ z. not-0 16 (omega arith) z) refl) (interrupt _ _ _ _ _ _ _ refl) (quiet after noFrame (λ z. not-0 17 (omega arith) z) refl)
 
 -- in bytes
-port-in : (s : List ℕ) → stateIn s .link .port ≡ linkOf s .port
+pub port-in : (s : List ℕ) → stateIn s .link .port ≡ linkOf s .port
 unfolding stateIn
 port-in s = refl
 
-port-back : (b : Adapter) → linkOf (stateBytes b) .port ≡ b .link .port
+pub port-back : (b : Adapter) → linkOf (stateBytes b) .port ≡ b .link .port
 unfolding stateBytes
 port-back b = refl
 

@@ -1,6 +1,6 @@
 -- The definitions of the two passes, case by case. Assumes nothing.
 use Prim.Native.Nat.{ℕ, _+_, _-_, _*_, _≤_, _<_, _^_}
-use mathlib.Core.Path.{_≡_, refl, sym, ap, _∙_, subst}
+use mathlib.Core.Path.{_≡_, refl, sym, ap, _∙_}
 use mathlib.Core.Bool.{Bool, true, false, not, cond}
 use mathlib.Core.List.{List}
 use native.Mathlib.Omega.{arith}
@@ -9,7 +9,7 @@ use lib.Dec.{eqb, ltb}
 use lib.Count.{ones, ones-le}
 use borrow.Author.Tests.{eq-eqb, ne-eqb, lt-ltb, le-ltb}
 use borrow.Rule.Slice.PartMut.{putMid}
-use Rattle.parts.specs.Parts.{part, put}
+use Rattle.parts.specs.Parts.{part}
 use Rattle.parts.proofs.Laws.{put-mid, length-part}
 use Rattle.packets.specs.Packets.{dataOf}
 use Rattle.state.specs.Bytes.{isState}
@@ -23,7 +23,7 @@ use Rattle.batch.specs.declared.Sample.{Sample}
 use Rattle.batch.specs.declared.Pass.{Pass}
 use Rattle.batch.specs.declared.Batch.{Batch}
 use Rattle.batch.specs.Batch.{eventOf, bare}
-use Rattle.batch.specs.Passes.{stopped, begins, begun, Going, going, silent, counted, sampledAt, given, Given, looked, moved, Moved, finished}
+use Rattle.batch.specs.Inner.{stopped, begun, Going, going, silent, counted, sampledAt, given, Given, looked, moved, Moved, finished}
 
 -- ---- the start
 
@@ -60,7 +60,8 @@ sampled-there s j o n x a s′ j′ body h l e =
     let long : length body ≡ 10 = l ∙ ap (λ (k : ℕ). length (take k (drop n o))) (ten n) ∙ length-part n 10 o h in
     rw (← there, put-mid n 10 o body long) refl
 
-module _ (s j o : List ℕ) (p : Pass) (x : Sample) (a : Answer) (s′ j′ o′ : List ℕ) (is : outcome a s′ j′ o′ ≡ sampledAt s j o (10 * p .frames) x) (r : Pass) where
+module _ (s j o : List ℕ) (p : Pass) (x : Sample) (a : Answer) (s′ j′ o′ : List ℕ)
+    (is : outcome a s′ j′ o′ ≡ sampledAt s j o (10 * p .frames) x) (r : Pass) where
   pub without-frame : (a .number ≡ 0 → ⊥) → r ≡ silent p → Given s j o p x s′ j′ o′ r
   unfolding given
   without-frame n e = rw e (record { is = rw (← is, ne-eqb _ _ n) refl; frame = omega arith; lines = omega arith })
@@ -113,7 +114,11 @@ module _ (many : ℕ) (s j o : List ℕ) (p : Pass) (x : Sample) (r : Pass) wher
   unfolding moved
   looks-on d e =
       let n = none-counted many (p .at) (x .kind) in
-      record { is = ap (going s j o) e ∙ ap either (sym d); frame = omega (arith, ap (λ (q : Pass). q .frames) e, n .0); lines = omega (arith, ap (λ (q : Pass). q .sum) e, n .1) }
+      record {
+        is = ap (going s j o) e ∙ ap either (sym d);
+        frame = omega (arith, ap (λ (q : Pass). q .frames) e, n .0);
+        lines = omega (arith, ap (λ (q : Pass). q .sum) e, n .1);
+      }
 
 -- ---- the end
 

@@ -1,3 +1,4 @@
 pub mod Laws
 pub mod Course
 pub mod Ran
+pub mod OneOutcome

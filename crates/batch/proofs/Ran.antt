@@ -1,7 +1,7 @@
 -- A batch on its way through the two passes: what a walk of its list carries round, from the start to the call's own equation. Assumes nothing.
 use Prim.Native.Nat.{ℕ, zero, suc, _+_, _-_, _*_, _≤_, _<_}
-use mathlib.Core.Path.{_≡_, refl, sym, ap, ap₂, _∙_, subst}
-use mathlib.Core.Bool.{Bool, true, false, not, cond, _||_, true≢false}
+use mathlib.Core.Path.{_≡_, refl, sym, ap, _∙_, subst}
+use mathlib.Core.Bool.{Bool, true, false, cond, _||_, true≢false}
 use mathlib.Core.List.{List, [], _∷_, foldl, flatten, foldl-append}
 use mathlib.Core.WellFounded.{WellFounded, InvImage·wf}
 use native.Mathlib.Nat.{not-suc-le-zero, le-of-suc-le-suc}
@@ -12,7 +12,7 @@ use lib.Dec.{eqb, ltb}
 use lib.Count.{ones}
 use lib.ListN.{length, take, getD}
 use lib.Seq.{take-suc, take-all}
-use borrow.Author.Tests.{ne-eqb, le-ltb, ltb-false, eqb-true, eqb-false, not-false}
+use borrow.Author.Tests.{ne-eqb, le-ltb, ltb-false, eqb-true, eqb-false}
 use Rattle.parts.specs.Parts.{part}
 use Rattle.parts.proofs.Laws.{put-none}
 use Rattle.packets.specs.Packets.{dataOf}
@@ -20,16 +20,15 @@ use Rattle.state.specs.Bytes.{stateSize, linkOf, isState}
 use Rattle.state.proofs.Spelling.{its-length}
 use Rattle.journal.specs.Layout.{wellFormed}
 use Rattle.journal.proofs.Ring.{of-well, well-of}
-use Rattle.adapter.specs.declared.Verdict.{Verdict}
 use Rattle.adapter.specs.declared.Verdict.the-variants.{Refused, Passed}
 use Rattle.adapter.specs.Refusals.{inOrder}
 use Rattle.adapter.specs.Calls.{Outcome, done, recorded}
 use Rattle.adapter.proofs.Laws.{recorded-well}
 use Rattle.batch.specs.declared.Sample.{Sample}
 use Rattle.batch.specs.declared.Pass.{Pass}
-use Rattle.batch.specs.Batch.{eventOf, Course, outset, onward, oneByOne, someWrong, linesIn, bare, answered, verdict, outcome, called}
+use Rattle.batch.specs.Batch.{eventOf, outset, oneByOne, someWrong, linesIn, bare, answered, verdict, outcome, called}
 use Rattle.batch.specs.Batch as batch
-use Rattle.batch.specs.Passes.{stopped, begins, begun, Going, going, Ready, silent, counted, sampledAt, given, looked, moved, Moved, finished}
+use Rattle.batch.specs.Inner.{stopped, begun, Going, going, Ready, silent, counted, sampledAt, given, looked, moved, Moved, finished}
 use Rattle.batch.proofs.Course.{Stands, stands}
 
 -- a sample of no list
@@ -44,7 +43,8 @@ some-more [] i h g k = absurd (not-suc-le-zero h)
 some-more (s ∷ l) zero h g k = rw k refl
 some-more (s ∷ l) (suc i) h g k = more (ltb 2 (s .kind)) g (λ e. some-more l i (le-of-suc-le-suc h) e k)
   where
-    more : (t : Bool) → (t || someWrong (take i l)) ≡ false → (someWrong (take i l) ≡ false → someWrong (take (suc i) l) ≡ false) → (t || someWrong (take (suc i) l)) ≡ false
+    more : (t : Bool) → (t || someWrong (take i l)) ≡ false → (someWrong (take i l) ≡ false → someWrong (take (suc i) l) ≡ false)
+        → (t || someWrong (take (suc i) l)) ≡ false
     more true e f = e
     more false e f = f e
 
@@ -75,7 +75,8 @@ nothing-wrong = refl
 
 -- ---- a sample of the second pass
 
-counted-so : (p : Pass) (t : Bool) (port lines : ℕ) → let r = cond t (counted p port lines) (silent p) in (r .at ≡ p .at + 1) × (r .doing ≡ true) × (r .number ≡ 0)
+counted-so : (p : Pass) (t : Bool) (port lines : ℕ) → let r = cond t (counted p port lines) (silent p) in
+    (r .at ≡ p .at + 1) × (r .doing ≡ true) × (r .number ≡ 0)
 counted-so p true port lines = (refl, refl, refl)
 counted-so p false port lines = (refl, refl, refl)
 
@@ -137,11 +138,15 @@ module _ (s₀ j₀ o₀ : List ℕ) (list : List Sample) where
     pub last : p .at ≡ many → many ≡ 0
     pub within : p .at ≤ many
 
+  -- the start of the second
+  abbrev pub outgoing : Going
+  outgoing = going s₀ j₀ o₀ (stopped 0 true 0)
+
   -- the second: all kinds are right, and the samples before this one are done
   pub record Doing (s j o : List ℕ) (p : Pass) : Type 0 where
     pub sized : Sized
     pub kinds : someWrong list ≡ false
-    pub is : going s j o p ≡ foldl given (going s₀ j₀ o₀ (stopped 0 true 0)) (take (p .at) list)
+    pub is : going s j o p ≡ foldl given outgoing (take (p .at) list)
     pub on : p .doing ≡ true
     pub number : p .number ≡ 0
     pub formed : wellFormed j ≡ true
@@ -248,6 +253,10 @@ module _ (s₀ j₀ o₀ : List ℕ) (list : List Sample) where
     ]
 
     module _ (s′ j′ o′ : List ℕ) (r : Pass) (e : Moved many (a .s) (a .j) (a .o) (a .p) x s′ j′ o′ r) where
+      -- a turn of either pass
+      abbrev either : Bool → Going
+      either on = cond on (given (going (a .s) (a .j) (a .o) (a .p)) x) (going (a .s) (a .j) (a .o) (looked many (a .p .at) (x .kind)))
+
       abbrev pub Next : Going → Type 0
       Next g = Phase (g .state) (g .journal) (g .output) (g .pass) × (turnsLeft (g .pass) < turnsLeft (a .p))
 
@@ -259,7 +268,7 @@ module _ (s₀ j₀ o₀ : List ℕ) (list : List Sample) where
         looks : going s′ j′ o′ r ≡ going s₀ j₀ o₀ (looked many (a .p .at) (x .kind))
         unfolding moved
         looks =
-            e .is ∙ ap (λ (t : Bool). cond t (given (going (a .s) (a .j) (a .o) (a .p)) x) (going (a .s) (a .j) (a .o) (looked many (a .p .at) (x .kind)))) off
+            e .is ∙ ap either off
             ∙ ap (λ (g : Going). going (g .state) (g .journal) (g .output) (looked many (a .p .at) (x .kind))) (c .is)
 
         looked-at : (t u : Bool) → ltb 2 (x .kind) ≡ t → eqb (a .p .at + 1) many ≡ u → Next (going s₀ j₀ o₀ (looked many (a .p .at) (x .kind)))
@@ -305,7 +314,7 @@ module _ (s₀ j₀ o₀ : List ℕ) (list : List Sample) where
       module _ (c : Doing (a .s) (a .j) (a .o) (a .p)) where
         gives : going s′ j′ o′ r ≡ given (going (a .s) (a .j) (a .o) (a .p)) x
         unfolding moved
-        gives = e .is ∙ ap (λ (t : Bool). cond t (given (going (a .s) (a .j) (a .o) (a .p)) x) (going (a .s) (a .j) (a .o) (looked many (a .p .at) (x .kind)))) (c .on)
+        gives = e .is ∙ ap either (c .on)
 
         done-one : Next (going s′ j′ o′ r)
         done-one =
@@ -315,8 +324,8 @@ module _ (s₀ j₀ o₀ : List ℕ) (list : List Sample) where
               doing (record {
                 sized = c .sized;
                 kinds = c .kinds;
-                is = gives ∙ ap (λ (h : Going). given h x) (c .is) ∙ sym (foldl-append given (going s₀ j₀ o₀ (stopped 0 true 0)) (take (a .p .at) list) (x ∷ []))
-                    ∙ ap (foldl given (going s₀ j₀ o₀ (stopped 0 true 0))) (sym (ap (λ (k : ℕ). take k list) (at ∙ add-one (a .p .at)) ∙ take-suc list (a .p .at) dark less));
+                is = gives ∙ ap (λ (h : Going). given h x) (c .is) ∙ sym (foldl-append given outgoing (take (a .p .at) list) (x ∷ []))
+                    ∙ ap (foldl given outgoing) (sym (ap (λ (k : ℕ). take k list) (at ∙ add-one (a .p .at)) ∙ take-suc list (a .p .at) dark less));
                 on = on;
                 number = ap (λ (h : Going). h .pass .number) gives ∙ given-number g x;
                 formed = ap (λ (h : Going). wellFormed (h .journal)) gives ∙ ap wellFormed (given-journal g x)
@@ -375,15 +384,17 @@ module _ (s₀ j₀ o₀ : List ℕ) (list : List Sample) where
     | looking c ↦
         let none : list ≡ [] = nil-of list (c .last (omega (arith, c .within))) in
         let h : Stands active o₀ (oneByOne s₀ j₀ list) (going (a .s) (a .j) (a .o) (a .p)) = subst (Stands active o₀ (oneByOne s₀ j₀ list)) (sym (c .is))
-        (subst (λ (l : List Sample). Stands active o₀ (oneByOne s₀ j₀ l) (going s₀ j₀ o₀ (stopped (a .p .at) false 0))) (sym none) (at-outset s₀ j₀ o₀ (a .p .at) false)) in
+        (subst (λ (l : List Sample). Stands active o₀ (oneByOne s₀ j₀ l) (going s₀ j₀ o₀ (stopped (a .p .at) false 0))) (sym none)
+        (at-outset s₀ j₀ o₀ (a .p .at) false)) in
         rw (passes (c .sized) (ap someWrong none ∙ nothing-wrong))
         (closes (a .s) (a .j) (a .o) (a .p) (ap (λ (g : Going). g .pass .number) (c .is)) h)
     | doing c ↦
         let z = c .sized in
-        let is : going (a .s) (a .j) (a .o) (a .p) ≡ foldl given (going s₀ j₀ o₀ (stopped 0 true 0)) list =
-        c .is ∙ ap (foldl given (going s₀ j₀ o₀ (stopped 0 true 0))) (take-all (a .p .at) list over) in
+        let is : going (a .s) (a .j) (a .o) (a .p) ≡ foldl given outgoing list =
+        c .is ∙ ap (foldl given outgoing) (take-all (a .p .at) list over) in
         let h : Stands active o₀ (oneByOne s₀ j₀ list) (going (a .s) (a .j) (a .o) (a .p)) =
-        subst (Stands active o₀ (oneByOne s₀ j₀ list)) (sym is) (stands active o₀ (outset s₀ j₀) (going s₀ j₀ o₀ (stopped 0 true 0)) list (at-outset s₀ j₀ o₀ 0 true) (omega (arith, z .roomy, z .few))) in
+        subst (Stands active o₀ (oneByOne s₀ j₀ list)) (sym is)
+        (stands active o₀ (outset s₀ j₀) outgoing list (at-outset s₀ j₀ o₀ 0 true) (omega (arith, z .roomy, z .few))) in
         rw (passes z (c .kinds)) (closes (a .s) (a .j) (a .o) (a .p) (c .number) h)
     | refused c ↦ rw (c .why) (ends (a .s) (a .j) (a .o) (a .p) (c .is) (c .some))
   ]

@@ -1,3 +1,3 @@
 -- A batch of pin samples: what it is, and the two passes that do it.
 pub mod Batch
-pub mod Passes
+pub mod Inner

@@ -21,7 +21,7 @@ ghost use Rattle.state.specs.Bytes.{stateSize};
 ghost use Rattle.journal.specs.Layout.{wellFormed};
 ghost use Rattle.adapter.specs.Calls.{outcome};
 ghost use Rattle.batch.specs.Batch.{bare};
-ghost use Rattle.batch.specs.Passes.{stopped, begun, silent, counted, sampledAt, Ready, Given, looked, Moved, finished};
+ghost use Rattle.batch.specs.Inner.{stopped, begun, silent, counted, sampledAt, Ready, Given, looked, Moved, finished};
 
 // What a logic probe saw: the levels of the 32 lines, and the edge kind.
 #[repr(C)]

@@ -1,18 +1,26 @@
 -- Every event keeps a state good: its fields hold what their machine types hold, and it is in the range of document 01's number 6.
 use Prim.Native.Nat.{ℕ, _-_, _≤_}
+use mathlib.Core.Bool.{not}
 use mathlib.Core.List.{List}
 use mathlib.Core.Path.{subst}
 use native.Mathlib.Omega.{arith}
 use lib.Dec.{lit≤}
+use borrow.Author.Tests.{not-false}
+use Rattle.bits.proofs.Tests.{cond-cases, either}
 use Rattle.channels.proofs.Laws.{RequestBytes, performed-sound, sampled-sound, completed-sound, ended-sound, upset-sound}
+use Rattle.channels.specs.Rows.{isEnabled}
 use Rattle.commands.specs.Channels.{firstMaster}
+use Rattle.commands.specs.declared.channel.Channel.the-variants.{Gpio}
+use Rattle.registers.specs.Pins.{interrupts}
 use Rattle.parts.proofs.Laws.{bytes-drop}
 use Rattle.link.specs.Link.{sendUp}
 use Rattle.state.specs.State.{Adapter, withLink}
 use Rattle.state.proofs.Good.{Good, powered-good, relinked, stored}
-use Rattle.chip.specs.Event.{Event}
+use Rattle.chip.specs.Event.{Event, sample}
+use Rattle.chip.specs.Answer.{Reaction}
+use Rattle.chip.specs.Request.{replies}
 use Rattle.chip.specs.Frame.{counted}
-use Rattle.chip.specs.Chip.{reaction}
+use Rattle.chip.specs.Chip.{onSample, reaction}
 use Rattle.chip.proofs.EventFits.{EventFits}
 use Rattle.chip.proofs.Steps.{Commanded, connects, resets, tests, Moved, requests, completes, ends, samples, counts, state-cases}
 
@@ -41,3 +49,12 @@ moved-good a e b counts g f = stored a _ g (upset-sound (a .registers) (g .regis
 pub good-stays : (a : Adapter) (e : Event) → Good a → EventFits e → Good (reaction a e .adapter)
 good-stays a e g f =
     state-cases a e Good g (λ port body b h c. commanded-good a port _ b c g (subst EventFits h f .port)) (λ b m. moved-good a e b m g f) raised-good
+
+-- A pin sample does, whatever its levels and its kind are.
+pub sample-good : (a : Adapter) (levels kind : ℕ) → Good a → Good (reaction a (sample levels kind) .adapter)
+unfolding reaction onSample replies
+sample-good a levels kind g =
+    cond-cases (λ (r : Reaction). Good (r .adapter)) (not (isEnabled (a .registers) Gpio)) (λ _. g)
+    (λ h.
+    let taken = stored a _ g (sampled-sound (a .registers) (g .registers) levels kind (not-false _ h)) in
+    either (λ (r : Reaction). Good (r .adapter)) (interrupts (a .registers) levels kind) _ _ (raised-good _ taken) taken)

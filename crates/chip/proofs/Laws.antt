@@ -28,7 +28,7 @@ use Rattle.bits.proofs.Tests.{and-left, and-right, or-second}
 use Rattle.chip.proofs.Steps.{Commanded, connects, resets, tests, moved-link, Shape, dropped, acknowledged, echoed, rejected}
 use Rattle.chip.proofs.Steps.{replied, quiet, shapes}
 pub use Rattle.chip.proofs.Bodies.{number-given, OneFrame, one-frame, silent, sendable, frame-bytes}
-pub use Rattle.chip.proofs.Good.{good-stays}
+pub use Rattle.chip.proofs.Good.{good-stays, sample-good}
 pub use Rattle.chip.proofs.Outside.{outside, id-given, id-stays}
 
 -- ---- the state in what an event leaves

@@ -6,7 +6,7 @@ use Prim.Native.Nat.{ℕ}
 abbrev pub hasFrame : ℕ
 hasFrame = 0
 
--- The output is under 16 bytes, for the transmitter under 24.
+-- The output is under 16 bytes, for the transmitter under 24, for a batch under 2,560.
 abbrev pub shortOutput : ℕ
 shortOutput = 1
 
@@ -14,7 +14,8 @@ shortOutput = 1
 abbrev pub badBody : ℕ
 badBody = 2
 
--- The port is not 0 or 1, the edge kind is over 2, or a completion is not 16 bytes, not of an I2C channel, or over 16 bytes.
+-- The port is not 0 or 1, the edge kind is over 2, a completion is not 16 bytes, not of an I2C channel, or over 16 bytes, or a batch is over 256
+-- samples.
 abbrev pub badArgument : ℕ
 badArgument = 3
 

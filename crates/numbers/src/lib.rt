@@ -3,11 +3,12 @@
 
 // A frame was read or sent.
 pub const HAS_FRAME: u8 = 0;
-// The output is under 16 bytes, for the transmitter under 24.
+// The output is under 16 bytes, for the transmitter under 24, for a batch under 2,560.
 pub const SHORT_OUTPUT: u8 = 1;
 // The body is not 2 to 16 bytes.
 pub const BAD_BODY: u8 = 2;
-// The port is not 0 or 1, the edge kind is over 2, or a completion is not 16 bytes, not of an I2C channel, or over 16 bytes.
+// The port is not 0 or 1, the edge kind is over 2, a completion is not 16 bytes, not of an I2C channel, or over 16 bytes, or a batch is over 256
+// samples.
 pub const BAD_ARGUMENT: u8 = 3;
 // The journal's length, mark, version or layout is wrong.
 pub const BAD_JOURNAL: u8 = 4;

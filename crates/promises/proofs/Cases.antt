@@ -3,7 +3,7 @@
 use Prim.Native.Nat.{ℕ, _*_, _≤_}
 use mathlib.Core.Path.{_≡_, refl}
 use mathlib.Core.List.{List}
-use mathlib.Core.Bool.{true, not, _&&_, false≢true}
+use mathlib.Core.Bool.{Bool, true, false, not, _&&_, _||_, true≢false, false≢true}
 use mathlib.Core.Logic.{_⊎_, inl, inr}
 use native.Mathlib.Omega.{arith}
 use lib.ListN.{length}
@@ -28,6 +28,10 @@ use Rattle.adapter.specs.declared.Verdict.{Verdict}
 use Rattle.adapter.specs.declared.Verdict.the-variants.{Refused, Passed}
 use Rattle.adapter.specs.Refusals.{wrongArgument, wrongBody, inOrder, verdict, backVerdict}
 use Rattle.adapter.specs.Calls.{Made, made, created, madeEmpty, Outcome, outcome, plain, done, judged, called, Stepped, stepped, judgedBack, steppedBack}
+use Rattle.adapter.proofs.Cases.{unrefused}
+use Rattle.batch.specs.declared.Sample.{Sample}
+use Rattle.batch.specs.Batch as batches
+use Rattle.state.specs.Bytes.{linkOf}
 use Rattle.promises.specs.Runs.{isRefusal}
 use Rattle.promises.proofs.Steps.{split}
 
@@ -45,6 +49,24 @@ abbrev Refusing : Verdict → Type 0
 Refusing (Refused n) = isRefusal n ≡ true
 Refusing Passed = Unit
 
+pub neither : (a b : Bool) → (a || b) ≡ false → (a ≡ false) × (b ≡ false)
+neither true b h = absurd (true≢false h)
+neither false b h = (refl, h)
+
+-- what a batch has that is not refused
+pub record BatchPassing (s j : List ℕ) (list : List Sample) (o : List ℕ) : Type 0 where
+  pub state : isState s ≡ true
+  pub formed : wellFormed j ≡ true
+  pub room : 2560 ≤ length o
+  pub few : length list ≤ 256
+  pub kinds : batches.someWrong list ≡ false
+
+pub batch-passing : (s j : List ℕ) (list : List Sample) (o : List ℕ) → batches.verdict s j list o ≡ Passed → BatchPassing s j list o
+batch-passing s j list o q =
+    let p = unrefused (batches.verdict s j list o) (not (isState s)) (not (wellFormed j)) (ltb (length o) 2560) (batches.wrongList list) false q refl in
+    let n = neither (ltb 256 (length list)) (batches.someWrong list) (p .3) in
+    record { state = not-false _ (p .0); formed = not-false _ (p .1); room = ltb-false _ _ (p .2); few = ltb-false _ _ (n .0); kinds = n .1 }
+
 module _ (s j : List ℕ) where
   refusing : (e : Event) (o : List ℕ) → Refusing (verdict s j e o)
   unfolding verdict inOrder
@@ -59,6 +81,23 @@ module _ (s j : List ℕ) where
   event-cases e o P refused passed = by (verdict s j e o) refl (refusing e o)
     where
       by : (v : Verdict) → verdict s j e o ≡ v → Refusing v → P (judged v s j e o)
+      by (Refused n) q r = refused n r
+      by Passed q r = passed q
+
+  batch-refusing : (list : List Sample) (o : List ℕ) → Refusing (batches.verdict s j list o)
+  unfolding inOrder
+  batch-refusing list o =
+      either Refusing (not (isState s)) _ _ refl
+      (either Refusing (not (wellFormed j)) _ _ refl
+      (either Refusing (ltb (length o) 2560) _ _ refl (either Refusing (batches.wrongList list) _ _ refl tt)))
+
+  pub batch-cases : (list : List Sample) (o : List ℕ) (P : batches.Outcome → Type 0)
+      → ((n : ℕ) → isRefusal n ≡ true → P (batches.outcome (batches.bare n) s j o))
+      → (batches.verdict s j list o ≡ Passed → P (batches.done (linkOf s .port) (batches.oneByOne s j list) o)) → P (batches.called s j list o)
+  unfolding batches.called
+  batch-cases list o P refused passed = by (batches.verdict s j list o) refl (batch-refusing list o)
+    where
+      by : (v : Verdict) → batches.verdict s j list o ≡ v → Refusing v → P (batches.judged v s j list o)
       by (Refused n) q r = refused n r
       by Passed q r = passed q
 

@@ -28,7 +28,8 @@ use Rattle.listing.specs.Line as Line
 use Rattle.listing.specs.Answer.{decimal, frameText, answerText}
 use Rattle.player.specs.Play as Listing
 use Rattle.player.specs.Play.{linesFrom}
-use Rattle.promises.specs.Runs.{Call, event, back, empty, AllOfTheirTypes, atStart}
+use Rattle.batch.specs.declared.Sample.{Sample}
+use Rattle.promises.specs.Runs.{Call, event, batch, back, empty, SamplesOfTypes, AllOfTheirTypes, atStart}
 use Rattle.promises.specs.Ours.{ours}
 use Rattle.promises.specs.Text.{text}
 use Rattle.promises.specs.Table.{listing, listingOutput, inputText, outputText, request, Give, everything, everythingOutput, Table}
@@ -49,6 +50,16 @@ bytes [] h i = lit< tt
 bytes (x ∷ xs) h zero = ltb-true x 256 (and-left (ltb x 256) (below xs) h)
 bytes (x ∷ xs) h (suc i) = bytes xs (and-right (ltb x 256) (below xs) h) i
 
+unfoldable pub words : List Sample → Bool
+words [] = true
+words (x ∷ list) = ltb (x .levels) (2 ^ 32) && words list
+
+pub typed-samples : (list : List Sample) → words list ≡ true → SamplesOfTypes list
+unfolding words
+typed-samples [] h = tt
+typed-samples (x ∷ list) h =
+    let b = both (ltb (x .levels) (2 ^ 32)) (words list) h in (ltb-true (x .levels) (2 ^ 32) (b .0), typed-samples list (b .1))
+
 unfoldable pub literal : List Call → Bool
 literal [] = true
 literal (event (frame port body) o ∷ ks) = below body && literal ks
@@ -56,6 +67,7 @@ literal (event (completion (spi received)) o ∷ ks) = below received && literal
 literal (event (completion (i2c channel acknowledge lineLow received)) o ∷ ks) = below received && literal ks
 literal (event (sample levels kind) o ∷ ks) = ltb levels (2 ^ 32) && literal ks
 literal (event upset o ∷ ks) = literal ks
+literal (batch list o ∷ ks) = words list && literal ks
 literal (back ∷ ks) = literal ks
 literal (empty ∷ ks) = literal ks
 
@@ -67,6 +79,7 @@ typed (event (completion (spi received)) o ∷ ks) h = let b = both (below recei
 typed (event (completion (i2c channel acknowledge lineLow received)) o ∷ ks) h = let b = both (below received) (literal ks) h in (bytes received (b .0), typed ks (b .1))
 typed (event (sample levels kind) o ∷ ks) h = let b = both (ltb levels (2 ^ 32)) (literal ks) h in (ltb-true levels (2 ^ 32) (b .0), typed ks (b .1))
 typed (event upset o ∷ ks) h = (tt, typed ks h)
+typed (batch list o ∷ ks) h = let b = both (words list) (literal ks) h in (typed-samples list (b .0), typed ks (b .1))
 typed (back ∷ ks) h = (tt, typed ks h)
 typed (empty ∷ ks) h = (tt, typed ks h)
 

@@ -1,12 +1,13 @@
 -- Demand 3 of the exports: packing loses nothing, so an export gives what the call of crate `adapter` gives. Assumes nothing.
-use Prim.Native.Nat.{ℕ, _+_, _*_, _/_, _%_, _≤_, _<_}
+use Prim.Native.Nat.{ℕ, _+_, _*_, _/_, _%_, _≤_, _<_, _^_}
 use mathlib.Core.Path.{_≡_, refl, sym, ap, _∙_}
 use mathlib.Core.Bool.{true, false}
-use mathlib.Core.List.{List, []}
+use mathlib.Core.List.{List, [], _∷_, foldl}
 use mathlib.Core.Logic.{_⊎_, inl, inr}
 use native.Mathlib.Omega.{arith}
 use lib.ListN.{length}
-use lib.Dec.{lit<}
+use lib.Dec.{eqb, lit<}
+use Rattle.bits.proofs.Tests.{either}
 use borrow.Author.Tests.{ltb-false}
 use Rattle.state.specs.State.{Adapter}
 use Rattle.state.specs.Bytes.{stateIn}
@@ -27,12 +28,17 @@ use Rattle.adapter.specs.declared.Verdict.the-variants.{Passed}
 use Rattle.adapter.specs.Refusals.{wrongArgument, wrongBody, verdict}
 use Rattle.adapter.specs.Calls.{created, madeEmpty, keptIn, called, done, steppedBack}
 use Rattle.adapter.proofs.Cases.{passing, body-short}
-use Rattle.sca.specs.Adapter.{packAnswer, packKept}
-use Rattle.promises.specs.Runs.{Call, event, back, empty, Given, Run, left, bare, isRefusal, refuses, Demand3}
+use Rattle.batch.specs.declared.Sample.{Sample}
+use Rattle.batch.specs.declared.Batch.{Batch}
+use Rattle.batch.specs.Batch.{Course, onward, oneByOne}
+use Rattle.batch.specs.Batch as batches
+use Rattle.batch.proofs.Course.{port-in, one-more}
+use Rattle.sca.specs.Adapter.{packAnswer, packKept, packBatch}
+use Rattle.promises.specs.Runs.{Call, event, batch, back, empty, Given, Run, left, bare, batchGiven, isRefusal, refuses, Demand3}
 use Rattle.promises.specs.Ours.{Handed, given, givesOurs, ours, unpacked, unpackedKept, givesExported, exported}
 use Rattle.promises.proofs.Runs.{demand3}
 use Rattle.promises.proofs.Steps.{split}
-use Rattle.promises.proofs.Cases.{refusal-most, event-cases, back-cases, empty-cases, create-cases}
+use Rattle.promises.proofs.Cases.{refusal-most, event-cases, batch-cases, batch-passing, back-cases, empty-cases, create-cases}
 
 -- ---- packing loses nothing
 
@@ -46,20 +52,88 @@ module _ (n l p : ℕ) (hn : n < 256) (hl : l < 256) (hp : p < 256) where
   its-port : (n + 256 * l + 65536 * p) / 65536 % 256 ≡ p
   its-port = omega arith
 
+  -- no frames are counted in an event's result
+  its-frames : (n + 256 * l + 65536 * p) / 2 ^ 24 % 2 ^ 16 ≡ 0
+  its-frames = omega arith
+
+  its-sum : (n + 256 * l + 65536 * p) / 2 ^ 40 ≡ 0
+  its-sum = omega arith
+
 record Small (x : Answer) : Type 0 where
   number : x .number < 256
   length : x .length < 256
   port : x .port < 256
 
 unpacked-answer : (x : Answer) (output : List ℕ) → Small x → unpacked (packAnswer x) output ≡ given x output
-unpacked-answer x output s = simp (its-number, its-length, its-port, s .number, s .length, s .port)
+unpacked-answer x output s = simp (its-number, its-length, its-port, its-frames, its-sum, s .number, s .length, s .port)
+
+-- of a batch
+record SmallBatch (x : Batch) : Type 0 where
+  number : x .number < 256
+  length : x .length < 256
+  port : x .port < 256
+  frames : x .frames < 65536
+
+-- what stands above a place, and what stands below it
+above-8 : (a b : ℕ) → a < 2 ^ 8 → (a + 2 ^ 8 * b) / 2 ^ 8 ≡ b
+above-8 a b h = omega arith
+
+above-16 : (a b : ℕ) → a < 2 ^ 16 → (a + 2 ^ 16 * b) / 2 ^ 16 ≡ b
+above-16 a b h = omega arith
+
+above-24 : (a b : ℕ) → a < 2 ^ 24 → (a + 2 ^ 24 * b) / 2 ^ 24 ≡ b
+above-24 a b h = omega arith
+
+above-40 : (a b : ℕ) → a < 2 ^ 40 → (a + 2 ^ 40 * b) / 2 ^ 40 ≡ b
+above-40 a b h = omega arith
+
+below-8 : (a b : ℕ) → a < 2 ^ 8 → (a + 2 ^ 8 * b) % 2 ^ 8 ≡ a
+below-8 a b h = omega arith
+
+below-16 : (a b : ℕ) → a < 2 ^ 16 → (a + 2 ^ 16 * b) % 2 ^ 16 ≡ a
+below-16 a b h = omega arith
+
+module _ (n l p f m : ℕ) (hn : n < 256) (hl : l < 256) (hp : p < 256) (hf : f < 65536) where
+  abbrev result : ℕ
+  result = n + 256 * l + 65536 * p + 16777216 * f + 1099511627776 * m
+
+  batch-length : result / 2 ^ 8 % 256 ≡ l
+  batch-length =
+      let e : result ≡ n + 2 ^ 8 * (l + 2 ^ 8 * (p + 2 ^ 8 * (f + 2 ^ 16 * m))) = omega arith in
+      ap (λ (k : ℕ). k / 2 ^ 8 % 256) e ∙ ap (λ (k : ℕ). k % 256) (above-8 n _ hn) ∙ below-8 l _ hl
+
+  batch-port : result / 2 ^ 16 % 256 ≡ p
+  batch-port =
+      let e : result ≡ (n + 256 * l) + 2 ^ 16 * (p + 2 ^ 8 * (f + 2 ^ 16 * m)) = omega arith in
+      ap (λ (k : ℕ). k / 2 ^ 16 % 256) e ∙ ap (λ (k : ℕ). k % 256) (above-16 (n + 256 * l) _ (omega arith)) ∙ below-8 p (f + 2 ^ 16 * m) hp
+
+  batch-frames : result / 2 ^ 24 % 2 ^ 16 ≡ f
+  batch-frames =
+      let e : result ≡ (n + 256 * l + 65536 * p) + 2 ^ 24 * (f + 2 ^ 16 * m) = omega arith in
+      ap (λ (k : ℕ). k / 2 ^ 24 % 2 ^ 16) e ∙ ap (λ (k : ℕ). k % 2 ^ 16) (above-24 (n + 256 * l + 65536 * p) _ (omega arith)) ∙ below-16 f m hf
+
+  batch-sum : result / 2 ^ 40 ≡ m
+  batch-sum =
+      let e : result ≡ (n + 256 * l + 65536 * p + 16777216 * f) + 2 ^ 40 * m = omega arith in
+      ap (λ (k : ℕ). k / 2 ^ 40) e ∙ above-40 (n + 256 * l + 65536 * p + 16777216 * f) m (omega arith)
+
+unpacked-batch : (x : Batch) (output : List ℕ) → SmallBatch x → unpacked (packBatch x) output ≡ batchGiven x output
+unpacked-batch x output s =
+    let number : packBatch x % 256 ≡ x .number = omega (arith, s .number) in
+    let length = batch-length (x .number) (x .length) (x .port) (x .frames) (x .sum) (s .number) (s .length) (s .port) (s .frames) in
+    let port = batch-port (x .number) (x .length) (x .port) (x .frames) (x .sum) (s .number) (s .length) (s .port) (s .frames) in
+    let frames = batch-frames (x .number) (x .length) (x .port) (x .frames) (x .sum) (s .number) (s .length) (s .port) (s .frames) in
+    let sum = batch-sum (x .number) (x .length) (x .port) (x .frames) (x .sum) (s .number) (s .length) (s .port) (s .frames) in
+    rw (number, port, length, frames, sum) refl
 
 unpacked-number : (n : ℕ) → n < 256 → unpacked n [] ≡ bare n []
 unpacked-number n h =
     let a : n % 256 ≡ n = omega arith in
     let b : n / 256 % 256 ≡ 0 = omega arith in
     let c : n / 65536 % 256 ≡ 0 = omega arith in
-    simp (a, b, c)
+    let d : n / 2 ^ 24 % 2 ^ 16 ≡ 0 = omega arith in
+    let e : n / 2 ^ 40 ≡ 0 = omega arith in
+    simp (a, b, c, d, e)
 
 -- ---- what the calls give is small
 
@@ -103,6 +177,25 @@ called-small s j e o =
     let l = small-frame (stateIn s) e (ranges (stateIn s) (its-range s (p .state)) .2) (p .argument) (p .body) in
     record { number = small-given _ (number-given (stateIn s) e); length = l .length; port = l .port })
 
+-- a batch sends no more frames than it has samples
+few-frames : (list : List Sample) (c : Course) → length (foldl onward c list .bodies) ≤ length (c .bodies) + length list
+few-frames [] c = omega arith
+few-frames (x ∷ list) c = let f = few-frames list (onward c x) in omega (arith, one-more c x)
+
+batch-small : (s j : List ℕ) (list : List Sample) (o : List ℕ) → SmallBatch (batches.called s j list o .answer)
+batch-small s j list o =
+    batch-cases s j list o (λ x. SmallBatch (x .answer)) (λ n r. record { number = refusal-small n r; length = lit< tt; port = lit< tt; frames = lit< tt })
+    (λ q.
+    let p = batch-passing s j list o q in
+    let few = few-frames list (batches.outset s j) in
+    let port = ranges (stateIn s) (its-range s (p .state)) .2 in
+    either SmallBatch (eqb (length (oneByOne s j list .bodies)) 0) _ _
+    (record { number = lit< tt; length = lit< tt; port = lit< tt; frames = lit< tt })
+    (record { number = lit< tt; length = lit< tt; port = omega (arith, port, port-in s); frames = omega (arith, few, p .few) }))
+
+pub batch-number : (s j : List ℕ) (list : List Sample) (o : List ℕ) → batches.called s j list o .answer .number < 256
+batch-number s j list o = batch-small s j list o .number
+
 pub called-number : (s j : List ℕ) (e : Event) (o : List ℕ) → called s j e o .answer .number < 256
 called-number s j e o = called-small s j e o .number
 
@@ -123,6 +216,9 @@ kept-again k n h l = (omega arith, omega arith)
 pub gives-same : (p : Handed) (k : Call) → givesExported p k ≡ givesOurs p k
 gives-same p (event e o) =
     unpacked-answer (called (p .state) (p .journal) e o .answer) (called (p .state) (p .journal) e o .output) (called-small (p .state) (p .journal) e o)
+gives-same p (batch list o) =
+    let x = batches.called (p .state) (p .journal) list o in
+    unpacked-batch (x .answer) (x .output) (batch-small (p .state) (p .journal) list o)
 gives-same p back = unpacked-number (steppedBack (p .state) (p .journal) .number) (back-number (p .state) (p .journal))
 gives-same p empty = unpacked-number (madeEmpty (p .journal) .number) (empty-number (p .journal))
 
@@ -138,6 +234,7 @@ demand3-exported =
       undamaged = λ r k. rw (gives-same (left ours r) k) (demand3 .undamaged r k);
       state = λ r. demand3 .state r;
       reply = λ r e output. gives-same (left ours r) (event e output) ∙ demand3 .reply r e output;
+      batch-reply = λ r list output. gives-same (left ours r) (batch list output) ∙ demand3 .batch-reply r list output;
       takes-back = λ r h.
           let d = demand3 .takes-back r (λ z. h (same r ∙ z)) in (gives-same (left ours r) back ∙ d .0, d .1);
       refused-at-zero = λ r z.

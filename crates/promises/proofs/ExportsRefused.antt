@@ -16,15 +16,18 @@ use Rattle.receiver.specs.declared.Receiver.{Receiver}
 use Rattle.receiver.specs.Receiver.{view}
 use Rattle.receiver.specs.Receive.{received}
 use Rattle.adapter.specs.Calls.{Outcome, created, madeEmpty, called, steppedBack, stepped}
-use Rattle.sca.specs.Adapter.{left, packAnswer, packed}
+use Rattle.batch.specs.declared.Sample.{Sample}
+use Rattle.batch.specs.Batch as batches
+use Rattle.sca.specs.Adapter.{left, packAnswer, packed, packBatch, packedBatch}
 use Rattle.sca.specs.Link.{receiverBytes, receiverOf, transmitResult, transmitOutput, newResult, newReceiver, receiveResult, receiveReceiver, receiveOutput}
 use Rattle.sca.proofs.Spelling.{spelled-again}
 use Rattle.promises.specs.Runs.{isRefusal}
 use Rattle.promises.specs.Ours.{resultNumber}
-use Rattle.promises.proofs.Exported.{refusal-small, its-number, called-number, back-number, create-number, empty-number}
+use Rattle.promises.proofs.Exported.{refusal-small, its-number, called-number, batch-number, back-number, create-number, empty-number}
 use Rattle.promises.proofs.Steps.{split}
 use Rattle.promises.proofs.Cases.{transmit-cases, receive-cases}
-use Rattle.promises.proofs.Refused.{event-unchanged, back-unchanged, create-unchanged, empty-unchanged, transmit-unchanged, reading-number, receive-unchanged}
+use Rattle.promises.proofs.Refused.{event-unchanged, batch-unchanged, back-unchanged, create-unchanged, empty-unchanged, transmit-unchanged}
+use Rattle.promises.proofs.Refused.{reading-number, receive-unchanged}
 
 -- ---- the adapter's calls
 
@@ -35,6 +38,15 @@ event-keeps s journal e output h =
     let x = called s journal e output .answer in
     let n = its-number (x .number) (x .length) (x .port) (called-number s journal e output) in
     ap (λ (c : Outcome). left (packAnswer x) (c .state) (c .journal) (c .output)) (event-unchanged s journal e output (ap isRefusal (sym n) ∙ h))
+
+-- sca_samples
+pub batch-keeps : (s journal : List ℕ) (list : List Sample) (output : List ℕ) → let x = packedBatch (batches.called s journal list output) in
+    isRefusal (resultNumber (x .result)) ≡ true → x ≡ left (x .result) s journal output
+batch-keeps s journal list output h =
+    let x = batches.called s journal list output .answer in
+    let small = batch-number s journal list output in
+    let n : packBatch x % 256 ≡ x .number = omega (arith, small) in
+    ap (λ (c : batches.Outcome). left (packBatch x) (c .state) (c .journal) (c .output)) (batch-unchanged s journal list output (ap isRefusal (sym n) ∙ h))
 
 -- sca_step_back
 pub back-keeps : (s journal : List ℕ) → isRefusal (resultNumber (steppedBack s journal .number)) ≡ true

@@ -1,11 +1,14 @@
 pub mod Examples
 pub mod Masters
+pub mod Batches
+pub mod BatchExamples
 pub mod Errors
 pub mod Sentences
 pub mod Lines
 pub mod Text
 pub mod ShutOut
 pub mod Cases
+pub mod Samples
 pub mod Runs
 pub mod Formats
 pub mod Refused

@@ -7,7 +7,7 @@ use lib.Dec.{eqb}
 use borrow.Author.Tests.{eqb-true, eqb-false}
 use Rattle.journal.specs.Layout.{slotsOf, wrongLength}
 use Rattle.adapter.specs.declared.KeptNumber.{KeptNumber}
-use Rattle.promises.specs.Runs.{Call, event, back, empty, Calls, AllOfTheirTypes, Run, Standing, atStart, keeps, Demand3}
+use Rattle.promises.specs.Runs.{Call, event, batch, back, empty, Calls, AllOfTheirTypes, Run, Standing, atStart, keeps, Demand3}
 use Rattle.promises.specs.Table.{line, lines}
 use Rattle.promises.proofs.Runs.{told}
 use Rattle.promises.proofs.Standing.{typed-more}
@@ -30,6 +30,7 @@ module _ (c : Calls) (d : Demand3 c) (id : ℕ) (id-fits : id ≤ 0xFFFFFF) (byt
 
   gives-told : (ks : List Call) → AllOfTheirTypes ks → (k : Call) → c .gives (after ks) k ≡ told id (foldl keeps first ks) k
   gives-told ks t (event e o) = d .reply (runOf ks t) e o
+  gives-told ks t (batch list o) = d .batch-reply (runOf ks t) list o
   gives-told ks t back =
       let n : c .kept (after ks) .kept ≡ foldl keeps first ks .number = ap (λ (x : KeptNumber). x .kept) (d .kept (runOf ks t)) in
       split (eqb (foldl keeps first ks .number) 0) (λ e. rw e (d .refused-at-zero (runOf ks t) (n ∙ eqb-true _ 0 e) .0))

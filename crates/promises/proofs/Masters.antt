@@ -40,7 +40,7 @@ use Rattle.chip.specs.Request.{replies, requested}
 use Rattle.chip.specs.Frame.{reset, isResetFrame, commanded, numbered, carried, addressed, onFrame}
 use Rattle.chip.specs.Chip.{reaction, onI2c, transacted}
 use Rattle.chip.proofs.Examples.{fresh, after, run, Ask, ask, asked, told, left, Rows, write, read as reads}
-use Rattle.promises.specs.Runs.{Call, event, back, empty, Given, Calls, Run, left as paired, Demand3}
+use Rattle.promises.specs.Runs.{Call, event, batch, back, empty, Given, Calls, Run, left as paired, Demand3}
 use Rattle.promises.specs.Ours.{Handed, givesOurs, leavesOurs, ours}
 use Rattle.promises.proofs.Examples.{below, literal, typed}
 use Rattle.promises.proofs.ShutOut.{ran, output, numberOf}
@@ -165,13 +165,14 @@ module _ (c : Calls) (d : Demand3 c) where
 
 -- A START THAT REPLIES AT ONCE: an adapter like ours that gives 0 where a frame gets 17.
 prompt : Given → Given
-prompt g = record { number = cond (eqb (g .number) 17) 0 (g .number); port = g .port; length = g .length; output = g .output }
+prompt g = record { number = cond (eqb (g .number) 17) 0 (g .number); port = g .port; length = g .length; frames = g .frames; sum = g .sum; output = g .output }
 
 hasty : Handed → Call → Given
 hasty p (event (frame port body) o) = prompt (givesOurs p (event (frame port body) o))
 hasty p (event (completion c) o) = givesOurs p (event (completion c) o)
 hasty p (event (sample levels kind) o) = givesOurs p (event (sample levels kind) o)
 hasty p (event upset o) = givesOurs p (event upset o)
+hasty p (batch list o) = givesOurs p (batch list o)
 hasty p back = givesOurs p back
 hasty p empty = givesOurs p empty
 
@@ -195,6 +196,7 @@ crossed upset = upset
 
 neighbourly : Handed → Call → Given
 neighbourly p (event e o) = givesOurs p (event (crossed e) o)
+neighbourly p (batch list o) = givesOurs p (batch list o)
 neighbourly p back = givesOurs p back
 neighbourly p empty = givesOurs p empty
 

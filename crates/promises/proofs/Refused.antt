@@ -4,6 +4,7 @@ use Prim.Native.Nat.{ℕ}
 use mathlib.Core.Path.{_≡_, refl, sym, _∙_}
 use mathlib.Core.List.{List}
 use mathlib.Core.Bool.{true, false, false≢true}
+use lib.Dec.{eqb}
 use lib.ListN.{length, drop}
 use Rattle.wire.specs.Bits.{wire}
 use Rattle.receiver.specs.Receiver.{State, runs, view}
@@ -12,12 +13,16 @@ use Rattle.receiver.specs.Receive as receive
 use Rattle.transmitter.specs.Transmit.{transmitted}
 use Rattle.transmitter.specs.Transmit as transmit
 use Rattle.receiver.specs.declared.Receiver.{Receiver}
-use Rattle.state.specs.Bytes.{stateIn}
+use Rattle.state.specs.Bytes.{linkOf, stateIn}
 use Rattle.chip.specs.Event.{Event}
 use Rattle.chip.proofs.Laws.{number-given}
 use Rattle.adapter.specs.Calls.{created, madeEmpty, outcome, plain, done, called, stepped, steppedBack}
+use Rattle.batch.specs.declared.Sample.{Sample}
+use Rattle.batch.specs.declared.Batch.{Batch}
+use Rattle.batch.specs.Batch as batches
+use Rattle.bits.proofs.Tests.{either}
 use Rattle.promises.specs.Runs.{isRefusal}
-use Rattle.promises.proofs.Cases.{not-one-to-ten, event-cases, back-cases, empty-cases, create-cases, transmit-cases, receive-cases}
+use Rattle.promises.proofs.Cases.{not-one-to-ten, event-cases, batch-cases, back-cases, empty-cases, create-cases, transmit-cases, receive-cases}
 use Rattle.promises.proofs.Steps.{at-flag-cases, concluded-cases}
 
 -- ---- the adapter
@@ -29,6 +34,18 @@ module _ (s : List ℕ) (j : List ℕ) (e : Event) (o : List ℕ) where
   event-unchanged =
       event-cases s j e o (λ x. isRefusal (x .answer .number) ≡ true → x ≡ outcome (plain (x .answer .number)) s j o) (λ n r h. refl)
       (λ q h. absurd (not-one-to-ten _ (number-given (stateIn s) e) h))
+
+-- a batch that is done gives 0 or 17
+pub batch-answer : (P : ℕ → Type 0) → P 0 → P 17 → (port : ℕ) (bodies : List (List ℕ)) → P (batches.answered port bodies .number)
+batch-answer P p q port bodies = either (λ (b : Batch). P (b .number)) (eqb (length bodies) 0) _ _ q p
+
+-- a batch: the state, the journal and the output as they came
+module _ (s j : List ℕ) (list : List Sample) (o : List ℕ) where
+  pub batch-unchanged : isRefusal (batches.called s j list o .answer .number) ≡ true
+      → batches.called s j list o ≡ batches.outcome (batches.bare (batches.called s j list o .answer .number)) s j o
+  batch-unchanged =
+      batch-cases s j list o (λ x. isRefusal (x .answer .number) ≡ true → x ≡ batches.outcome (batches.bare (x .answer .number)) s j o) (λ n r h. refl)
+      (λ q h. absurd (batch-answer (λ n. isRefusal n ≡ true → ⊥) false≢true false≢true (linkOf s .port) (batches.oneByOne s j list .bodies) h))
 
 -- a step back
 pub back-unchanged : (s j : List ℕ) → isRefusal (steppedBack s j .number) ≡ true → steppedBack s j ≡ stepped (steppedBack s j .number) s j

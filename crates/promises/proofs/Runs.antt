@@ -3,7 +3,7 @@
 use Prim.Native.Nat.{ℕ, zero, suc, _+_, _-_, min, _≤_, _<_}
 use mathlib.Core.Path.{_≡_, refl, sym, ap, ap₂, _∙_}
 use mathlib.Core.List.{List, [], _∷_, foldl}
-use mathlib.Core.Bool.{Bool, true, false, not, cond, _||_, true≢false}
+use mathlib.Core.Bool.{Bool, true, false, not, cond, true≢false}
 use mathlib.Core.Logic.{_⊎_, inl, inr, ⊎-elim}
 use native.Mathlib.Nat.{eq-zero-or-pos}
 use native.Mathlib.Omega.{arith}
@@ -28,19 +28,26 @@ use Rattle.journal.specs.Record.{restored, sound}
 use Rattle.bits.proofs.Tests.{either, both}
 use Rattle.commands.specs.Channels.{isMaster}
 use Rattle.journal.proofs.Ring.{Well, well-of, emptied-well, emptied-slots, emptied-kept, lowered-well, lowered-slots, lowered-kept, lowered-past}
+use Rattle.adapter.specs.declared.Verdict.{Verdict}
 use Rattle.adapter.specs.declared.Verdict.the-variants.{Refused, Passed}
 use Rattle.adapter.specs.declared.KeptNumber.{KeptNumber}
 use Rattle.adapter.specs.Refusals.{wrongArgument, wrongBody, inOrder, verdict}
 use Rattle.adapter.specs.Calls.{Made, made, created, keptIn, Outcome, outcome, plain, shown, recorded, done, called, Stepped, stepped, steppedBack}
 use Rattle.adapter.proofs.Laws.{called-refused, called-done, own-refusals, recorded-well, recorded-slots, recorded-kept, newest-restores}
 use Rattle.adapter.proofs.Laws.{newest-sound, older-stay, back-refused, back-done, empty-done}
-use Rattle.promises.specs.Runs.{Call, event, back, empty, Given, OfItsTypes, AllOfTheirTypes, Run, left, refusal, refused, Standing, atStart}
-use Rattle.promises.specs.Runs.{keeps, standing, stateAfter, dueState, bare, due, refuses, lent, Demand3}
+use Rattle.batch.specs.declared.Sample.{Sample}
+use Rattle.batch.specs.Batch.{eventOf, Course, oneByOne, someWrong, wrongList}
+use Rattle.batch.specs.Batch as batches
+use Rattle.batch.proofs.Course.{port-back}
+use Rattle.promises.specs.Runs.{Call, event, batch, back, empty, Given, SamplesOfTypes, OfItsTypes, AllOfTheirTypes, Run, left, refusal, refused}
+use Rattle.promises.specs.Runs.{batchRefusal, batchRefused, Standing, atStart, keepsEvent, keepsSample}
+use Rattle.promises.specs.Runs.{keeps, standing, stateAfter, dueState, bare, due, dueFrames, batchGiven, dueBatch, refuses, lent, Demand3}
 use Rattle.promises.specs.Ours.{Handed, handed, given, givesOurs, leavesOurs, ours}
 use Rattle.promises.proofs.Formats.{always-64}
 pub use Rattle.promises.proofs.Cases.{not-one-to-ten}
-use Rattle.promises.proofs.Cases.{refusal-most, create-cases}
-use Rattle.promises.proofs.Refused.{event-unchanged, back-unchanged, empty-unchanged}
+use Rattle.promises.proofs.Cases.{refusal-most, neither, create-cases}
+use Rattle.promises.proofs.Refused.{event-unchanged, batch-answer, batch-unchanged, back-unchanged, empty-unchanged}
+use Rattle.promises.proofs.Samples.{adapterAfter, journalAfter, along}
 use Rattle.promises.proofs.Steps.{split}
 
 -- ---- what refuses an event's own arguments
@@ -58,10 +65,6 @@ both-right true argument body h = absurd (true≢false h)
 both-right false true body h = absurd (true≢false h)
 both-right false false true h = absurd (true≢false h)
 both-right false false false h = (refl, refl)
-
-neither : (a b : Bool) → (a || b) ≡ false → (a ≡ false) × (b ≡ false)
-neither true b h = absurd (true≢false h)
-neither false b h = (refl, h)
 
 -- an event of its types that is not refused is one that fits
 pub fits : (e : Event) (output : List ℕ) → OfItsTypes (event e output) → refused e output ≡ false → EventFits e
@@ -89,10 +92,29 @@ module _ (a : Adapter) (g : Good a) (j : List ℕ) (w : Well j) (e : Event) (o :
   is-refused : refused e o ≡ true → called (stateBytes a) j e o ≡ outcome (plain (refusal e o)) (stateBytes a) j o
   is-refused h = called-refused (stateBytes a) j e o (refusal e o) (own ∙ rw h refl)
 
-  is-done : refused e o ≡ false → called (stateBytes a) j e o
+  pub is-done : refused e o ≡ false → called (stateBytes a) j e o
       ≡ outcome (shown (response (reaction a e))) (stateBytes (reaction a e .adapter)) (recorded (stateBytes a) e j) (laid (reaction a e .frames) o)
   unfolding done
   is-done h = called-done (stateBytes a) j e o (own ∙ rw h refl) ∙ rw (state-back a (g .registers .fits .long)) refl
+
+module _ (a : Adapter) (g : Good a) (j : List ℕ) (w : Well j) (list : List Sample) (o : List ℕ) where
+  own-batch : batches.verdict (stateBytes a) j list o ≡ cond (batchRefused list o) (Refused (batchRefusal list o)) Passed
+  own-batch = rw (state-bytes a g, well-of w) (by-order (ltb (length o) 2560) (wrongList list) false)
+
+  batch-is-refused : batchRefused list o ≡ true
+      → batches.called (stateBytes a) j list o ≡ batches.outcome (batches.bare (batchRefusal list o)) (stateBytes a) j o
+  unfolding batches.called
+  batch-is-refused h =
+      let q : batches.verdict (stateBytes a) j list o ≡ Refused (batchRefusal list o) = own-batch ∙ rw h refl in
+      ap (λ (v : Verdict). batches.judged v (stateBytes a) j list o) q
+
+  batch-is-done : batchRefused list o ≡ false
+      → batches.called (stateBytes a) j list o ≡ batches.done (a .link .port) (oneByOne (stateBytes a) j list) o
+  unfolding batches.called
+  batch-is-done h =
+      let q : batches.verdict (stateBytes a) j list o ≡ Passed = own-batch ∙ rw h refl in
+      ap (λ (v : Verdict). batches.judged v (stateBytes a) j list o) q
+      ∙ ap (λ (port : ℕ). batches.done port (oneByOne (stateBytes a) j list) o) (port-back a)
 
 -- ---- the states of runs of only the standing events
 
@@ -108,6 +130,22 @@ AllFine (e ∷ es) = Fine e × AllFine es
 fine : (e : Event) (o : List ℕ) → OfItsTypes (event e o) → refused e o ≡ false → Fine e
 fine e o t h = let b = both-right (ltb (length o) 16) (wrongArgument e) (wrongBody e) h in record { passes = simp (b .0, b .1); typed = t }
 
+-- the samples of a batch that is not refused
+abbrev FineSamples : List Sample → Type 0
+FineSamples [] = Unit
+FineSamples (x ∷ list) = Fine (eventOf x) × FineSamples list
+
+fine-samples : (list : List Sample) → SamplesOfTypes list → someWrong list ≡ false → FineSamples list
+unfolding someWrong
+fine-samples [] t h = tt
+fine-samples (x ∷ list) t h =
+    let n = neither (ltb 2 (x .kind)) (someWrong list) h in (record { passes = simp (n .0); typed = t .0 }, fine-samples list (t .1) (n .1))
+
+fine-batch : (list : List Sample) (o : List ℕ) → SamplesOfTypes list → batchRefused list o ≡ false → FineSamples list
+fine-batch list o t h =
+    let right = both-right (ltb (length o) 2560) (wrongList list) false h .0 in
+    fine-samples list t (neither (ltb 256 (length list)) (someWrong list) right .1)
+
 fitting : (e : Event) → Fine e → EventFits e
 fitting e f = fits e (replicate 16 0) (f .typed) (f .passes)
 
@@ -118,6 +156,7 @@ drop-fine (e ∷ es) f = f .1
 -- what the text says that a call gives
 abbrev pub told : ℕ → Standing → Call → Given
 told id s (event e o) = due (stateAfter id (s .events)) e o
+told id s (batch list o) = dueBatch (stateAfter id (s .events)) list o
 told id s back = cond (eqb (s .number) 0) (bare 5 []) (bare 17 [])
 told id s empty = bare 17 []
 
@@ -179,7 +218,7 @@ module _ (id : ℕ) (small : id ≤ number.idMost) where
         let l′ : suc k < min (slotsOf j) (keptOf j + 1) = rw (more, other) at l in
         rw (older-stay (bytesAfter (s .events)) e j (i .well) other k l′) (i .records k (omega arith))
 
-    recorded-inv : Inv (record { events = e ∷ s .events; number = cond (acceptedReset e) 0 (min (s .most) (s .number + 1)); most = s .most }) after
+    recorded-inv : Inv (keepsEvent s e) after
     recorded-inv =
         record {
           fit = (f, i .fit);
@@ -189,6 +228,17 @@ module _ (id : ℕ) (small : id ≤ number.idMost) where
           enough = either (λ n. n ≤ suc (length (s .events))) (acceptedReset e) _ _ (omega arith) (omega (arith, i .enough));
           records = split (acceptedReset e) (λ r k l. let l′ : k < 0 = rw (more, r) at l in absurd (omega arith)) kept-records;
         }
+
+  -- ---- a batch, sample by sample
+
+  after-samples : (list : List Sample) (s : Standing) → adapterAfter (stateAfter id (s .events)) list ≡ stateAfter id (foldl keepsSample s list .events)
+  after-samples [] s = refl
+  after-samples (x ∷ list) s = after-samples list (keepsSample s x)
+
+  samples-inv : (list : List Sample) (s : Standing) (j : List ℕ) → Inv s j → FineSamples list
+      → Inv (foldl keepsSample s list) (journalAfter (stateAfter id (s .events)) j list)
+  samples-inv [] s j i f = i
+  samples-inv (x ∷ list) s j i f = samples-inv list (keepsSample s x) _ (recorded-inv s j i (eventOf x) (f .0)) (f .1)
 
   -- ---- a journal made empty
 
@@ -261,6 +311,20 @@ module _ (id : ℕ) (small : id ≤ number.idMost) where
         turns (event e o) _ _ (ap (λ (y : Outcome). given (y .answer) (y .output)) x ∙ rw h refl) (rw h refl)
         (ap (λ (y : Outcome). handed (y .state) (y .journal)) x) (λ t. recorded-inv s j i e (fine e o t h)))
 
+    batch-turn : (list : List Sample) (o : List ℕ) → Turn s j (batch list o)
+    batch-turn list o =
+        split (batchRefused list o)
+        (λ h.
+        let x = batch-is-refused now is-good j (i .well) list o h in
+        turns (batch list o) s j (ap (λ (y : batches.Outcome). batchGiven (y .answer) (y .output)) x ∙ rw h refl) (rw h refl)
+        (ap (λ (y : batches.Outcome). handed (y .state) (y .journal)) x) (λ t. i))
+        (λ h.
+        let x = batch-is-done now is-good j (i .well) list o h ∙ ap (λ (c : Course). batches.done (now .link .port) c o) (along list now j [] is-good) in
+        turns (batch list o) _ _ (ap (λ (y : batches.Outcome). batchGiven (y .answer) (y .output)) x ∙ rw h refl) (rw h refl)
+        (ap (λ (y : batches.Outcome). handed (y .state) (y .journal)) x
+        ∙ ap (λ (a : Adapter). handed (stateBytes a) (journalAfter now j list)) (after-samples list s))
+        (λ t. samples-inv list s j i (fine-batch list o t h)))
+
     back-turn : Turn s j back
     back-turn =
         let n : keptOf j ≡ s .number = i .number in
@@ -284,6 +348,7 @@ module _ (id : ℕ) (small : id ≤ number.idMost) where
 
     turn : (k : Call) → Turn s j k
     turn (event e o) = event-turn e o
+    turn (batch list o) = batch-turn list o
     turn back = back-turn
     turn empty = empty-turn
 
@@ -318,6 +383,9 @@ refused-same : (p : Handed) (k : Call) → refuses (givesOurs p k) ≡ true → 
 refused-same p (event e o) h =
     let x = event-unchanged (p .state) (p .journal) e o h in
     (ap (λ (y : Outcome). handed (y .state) (y .journal)) x, ap (λ (y : Outcome). y .output) x)
+refused-same p (batch list o) h =
+    let x = batch-unchanged (p .state) (p .journal) list o h in
+    (ap (λ (y : batches.Outcome). handed (y .state) (y .journal)) x, ap (λ (y : batches.Outcome). y .output) x)
 refused-same p back h = (ap (λ (y : Stepped). handed (y .state) (y .journal)) (back-unchanged (p .state) (p .journal) h), refl)
 refused-same p empty h = (ap (handed (p .state)) (empty-unchanged (p .journal) h), refl)
 
@@ -368,6 +436,10 @@ module _ (r : Run) where
       (either Undamaged (ltb (length o) 16) _ _ (omega arith)
       (either Undamaged (wrongArgument e) _ _ (omega arith) (either Undamaged (wrongBody e) _ _ (omega arith) (omega arith))))
       (undamaged _ (number-given (dueState r) e))
+  never (batch list o) =
+      either (λ (g : Given). Undamaged (g .number)) (batchRefused list o) _ _
+      (either Undamaged (ltb (length o) 2560) _ _ (omega arith) (either Undamaged (wrongList list) _ _ (omega arith) (omega arith)))
+      (batch-answer Undamaged (omega arith) (omega arith) (dueState r .link .port) (dueFrames (dueState r) list))
   never back = either (λ (g : Given). Undamaged (g .number)) (eqb (standing r .number) 0) _ _ (omega arith) (omega arith)
   never empty = omega arith
 
@@ -399,6 +471,7 @@ demand3 =
       undamaged = λ r k. rw (gives-end r k) (never r k);
       state = λ r. ap (λ (p : Handed). stateIn (p .state)) (at-end r) ∙ spelled (r .id) (r .id-fits) (standing r .events) (inv-end r .fit);
       reply = λ r e output. gives-end r (event e output);
+      batch-reply = λ r list output. gives-end r (batch list output);
       takes-back = λ r. some-back r;
       refused-at-zero = λ r. zero-back r;
       kept = λ r. kept-end r;
@@ -416,8 +489,13 @@ pub enough-standing : (r : Run) → standing r .number ≤ length (standing r .e
 enough-standing r = inv-end r .enough
 
 -- the slots stay those of the bytes of the start
+samples-most : (list : List Sample) (s : Standing) → foldl keepsSample s list .most ≡ s .most
+samples-most [] s = refl
+samples-most (x ∷ list) s = samples-most list (keepsSample s x)
+
 keeps-most : (s : Standing) (k : Call) → keeps s k .most ≡ s .most
 keeps-most s (event e o) = either (λ (x : Standing). x .most ≡ s .most) (refused e o) _ _ refl refl
+keeps-most s (batch list o) = either (λ (x : Standing). x .most ≡ s .most) (batchRefused list o) _ _ refl (samples-most list s)
 keeps-most s back = either (λ (x : Standing). x .most ≡ s .most) (eqb (s .number) 0) _ _ refl refl
 keeps-most s empty = refl
 

@@ -17,7 +17,7 @@ use Rattle.chip.specs.Event.{Event, frame, upset}
 use Rattle.chip.specs.Frame.{isResetFrame, commanded, addressed, onFrame}
 use Rattle.chip.specs.Chip.{reaction, onUpset, acceptedReset}
 use Rattle.adapter.specs.declared.KeptNumber.{KeptNumber}
-use Rattle.promises.specs.Runs.{Call, event, back, empty, Given, Calls, AllOfTheirTypes, Run, left, Standing, atStart, keeps, standing}
+use Rattle.promises.specs.Runs.{Call, event, batch, back, empty, Given, Calls, AllOfTheirTypes, Run, left, Standing, atStart, keeps, standing}
 use Rattle.promises.specs.Runs.{stateAfter, bare, lent, Demand3}
 use Rattle.promises.specs.Ours.{Handed, handed, givesOurs, leavesOurs, ours}
 use Rattle.promises.proofs.Formats.{slots-64, any-17408}
@@ -163,6 +163,7 @@ refuses-everything n h d = refuses-all (refusing n) d (λ p e o. h)
 -- ONE WITH A FIXED REPLY, whichever.
 fixed : Given → Handed → Call → Given
 fixed g p (event e o) = g
+fixed g p (batch list o) = givesOurs p (batch list o)
 fixed g p back = givesOurs p back
 fixed g p empty = givesOurs p empty
 
@@ -176,6 +177,7 @@ fixed-reply g d = one-reply (replying g) d g (λ p e o. refl)
 -- ONE THAT LEAVES THE STATE AS IT CAME; its journal is ours.
 unmoved : Handed → Call → Handed
 unmoved p (event e o) = handed (p .state) (leavesOurs p (event e o) .journal)
+unmoved p (batch list o) = leavesOurs p (batch list o)
 unmoved p back = leavesOurs p back
 unmoved p empty = leavesOurs p empty
 
@@ -198,11 +200,13 @@ firstOr (x ∷ xs) g = x
 
 copying-gives : Copying → Call → Given
 copying-gives p (event e o) = firstOr (p .first) (givesOurs (p .pair) (event e o))
+copying-gives p (batch list o) = givesOurs (p .pair) (batch list o)
 copying-gives p back = givesOurs (p .pair) back
 copying-gives p empty = givesOurs (p .pair) empty
 
 copying-leaves : Copying → Call → Copying
 copying-leaves p (event e o) = record { pair = leavesOurs (p .pair) (event e o); first = copying-gives p (event e o) ∷ [] }
+copying-leaves p (batch list o) = record { pair = leavesOurs (p .pair) (batch list o); first = p .first }
 copying-leaves p back = record { pair = leavesOurs (p .pair) back; first = p .first }
 copying-leaves p empty = record { pair = leavesOurs (p .pair) empty; first = p .first }
 
@@ -224,6 +228,7 @@ copies-the-first-reply d = copied-reply copying d (λ e e′ o. refl)
 -- A STEP BACK THAT ONLY LOWERS THE NUMBER.
 lowering : Handed → Call → Handed
 lowering p (event e o) = leavesOurs p (event e o)
+lowering p (batch list o) = leavesOurs p (batch list o)
 lowering p back = handed (p .state) (leavesOurs p back .journal)
 lowering p empty = leavesOurs p empty
 
@@ -257,6 +262,7 @@ record Counting : Type 0 where
 
 counting-leaves : Counting → Call → Counting
 counting-leaves p (event e o) = record { pair = leavesOurs (p .pair) (event e o); count = p .count + 1 }
+counting-leaves p (batch list o) = record { pair = leavesOurs (p .pair) (batch list o); count = p .count + length list }
 counting-leaves p back = record { pair = leavesOurs (p .pair) back; count = p .count }
 counting-leaves p empty = record { pair = leavesOurs (p .pair) empty; count = 0 }
 
@@ -282,6 +288,7 @@ record Doubting : Type 0 where
 
 resets : Call → Bool
 resets (event e o) = acceptedReset e
+resets (batch list o) = false
 resets back = false
 resets empty = false
 

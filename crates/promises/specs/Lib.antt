@@ -4,3 +4,4 @@ pub mod Runs
 pub mod Ours
 pub mod Text
 pub mod Table
+pub mod Batches

@@ -1,14 +1,16 @@
--- The delivered adapter as its calls show it: nothing but the functions that the contracts of crate `adapter` state, and, of the exports that C
--- and Rust link, those that the contracts of crate `sca` state. An export differs in what it gives alone: one packed number.
-use Prim.Native.Nat.{ℕ, _/_, _%_}
+-- The delivered adapter as its calls show it: nothing but the functions that the contracts of crate `adapter` state, for a batch the one of crate
+-- `batch` that the contract of its export states, and, of the exports that C and Rust link, those that the contracts of crate `sca` state. An export
+-- differs in what it gives alone: one packed number.
+use Prim.Native.Nat.{ℕ, _/_, _%_, _^_}
 use mathlib.Core.List.{List, []}
 use lib.ListN.{replicate}
 use Rattle.state.specs.Bytes.{stateSize, stateIn}
 use Rattle.adapter.specs.declared.Answer.{Answer}
 use Rattle.adapter.specs.declared.KeptNumber.{KeptNumber}
 use Rattle.adapter.specs.Calls.{created, madeEmpty, keptIn, called, steppedBack}
-use Rattle.sca.specs.Adapter.{packKept, packed}
-use Rattle.promises.specs.Runs.{Call, event, back, empty, Given, bare, Calls}
+use Rattle.batch.specs.Batch as batches
+use Rattle.sca.specs.Adapter.{packKept, packed, packedBatch}
+use Rattle.promises.specs.Runs.{Call, event, batch, back, empty, Given, bare, batchGiven, Calls}
 
 -- the pair that is handed on: a state and a journal, as bytes
 pub record Handed : Type 0 where
@@ -24,16 +26,18 @@ starts id bytes = handed (created (replicate stateSize 0) id .bytes) (madeEmpty 
 
 abbrev pub leavesOurs : Handed → Call → Handed
 leavesOurs p (event e output) = let x = called (p .state) (p .journal) e output in handed (x .state) (x .journal)
+leavesOurs p (batch list output) = let x = batches.called (p .state) (p .journal) list output in handed (x .state) (x .journal)
 leavesOurs p back = let x = steppedBack (p .state) (p .journal) in handed (x .state) (x .journal)
 leavesOurs p empty = handed (p .state) (madeEmpty (p .journal) .bytes)
 
 -- ---- crate `adapter`
 
 abbrev pub given : Answer → List ℕ → Given
-given x output = record { number = x .number; port = x .port; length = x .length; output = output }
+given x output = record { number = x .number; port = x .port; length = x .length; frames = 0; sum = 0; output = output }
 
 abbrev pub givesOurs : Handed → Call → Given
 givesOurs p (event e output) = let x = called (p .state) (p .journal) e output in given (x .answer) (x .output)
+givesOurs p (batch list output) = let x = batches.called (p .state) (p .journal) list output in batchGiven (x .answer) (x .output)
 givesOurs p back = bare (steppedBack (p .state) (p .journal) .number) []
 givesOurs p empty = bare (madeEmpty (p .journal) .number) []
 
@@ -50,13 +54,20 @@ ours =
 
 -- ---- the exports
 
--- results as include/sca.h reads them: the number in bits 7 to 0; above it the length, then the port; or the kept number
+-- results as include/sca.h reads them: the number in bits 7 to 0; above it the length, the port, how many frames, the sum; or the kept number
 abbrev pub resultNumber : ℕ → ℕ
 resultNumber result = result % 256
 
 abbrev pub unpacked : ℕ → List ℕ → Given
 unpacked result output =
-    record { number = resultNumber result; port = result / 65536 % 256; length = result / 256 % 256; output = output }
+    record {
+      number = resultNumber result;
+      port = result / 2 ^ 16 % 256;
+      length = result / 2 ^ 8 % 256;
+      frames = result / 2 ^ 24 % 2 ^ 16;
+      sum = result / 2 ^ 40;
+      output = output;
+    }
 
 abbrev pub unpackedKept : ℕ → KeptNumber
 unpackedKept result = record { number = resultNumber result; kept = result / 256 % 256 }
@@ -64,6 +75,8 @@ unpackedKept result = record { number = resultNumber result; kept = result / 256
 abbrev pub givesExported : Handed → Call → Given
 givesExported p (event e output) =
     let x = packed (called (p .state) (p .journal) e output) in unpacked (x .result) (x .output)
+givesExported p (batch list output) =
+    let x = packedBatch (batches.called (p .state) (p .journal) list output) in unpacked (x .result) (x .output)
 givesExported p back = unpacked (steppedBack (p .state) (p .journal) .number) []
 givesExported p empty = unpacked (madeEmpty (p .journal) .number) []
 

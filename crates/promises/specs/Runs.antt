@@ -4,10 +4,11 @@
 use Prim.Native.Nat.{ℕ, _+_, _-_, _≤_, _<_, _^_, min}
 use mathlib.Core.Path.{_≡_}
 use mathlib.Core.Bool.{Bool, true, false, not, cond, _&&_}
-use mathlib.Core.List.{List, [], _∷_, foldl}
+use mathlib.Core.List.{List, [], _∷_, _++_, foldl, flatten}
 use lib.ListN.{length, drop, getD}
 use lib.Dec.{eqb, ltb, leb}
 use Rattle.numbers.specs.Numbers as number
+use Rattle.parts.specs.Parts.{put}
 use Rattle.state.specs.State.{Adapter, powerOn}
 use Rattle.chip.specs.Answer.{Reaction, frontLength, laid}
 use Rattle.chip.specs.Event.{Completion, spi, i2c, Event, frame, completion, sample, upset}
@@ -15,20 +16,28 @@ use Rattle.chip.specs.Chip.{reaction, acceptedReset}
 use Rattle.journal.specs.Layout.{slotsOf, wrongLength}
 use Rattle.adapter.specs.declared.KeptNumber.{KeptNumber}
 use Rattle.adapter.specs.Refusals.{wrongArgument, wrongBody}
+use Rattle.batch.specs.declared.Sample.{Sample}
+use Rattle.batch.specs.declared.Batch.{Batch}
+use Rattle.batch.specs.Batch.{eventOf, wrongList}
+use Rattle.batch.specs.Batch as batches
 
 -- ---- the calls
 
--- an event with its arguments and the bytes of the output that is lent to it; a step back; the emptying call
+-- an event with its arguments and the bytes of the output that is lent to it; a batch of pin samples, with its output; a step back; the emptying call
 pub data Call : Type 0 where
   event : (e : Event) (output : List ℕ) → Call
+  batch : (list : List Sample) (output : List ℕ) → Call
   back : Call
   empty : Call
 
--- what a call gives, and the output's bytes afterwards; a step back and an emptying are lent no output
+-- What a call gives, and the output's bytes afterwards. A batch alone gives how many frames it sent, and a sum; with any other call both are 0. A step
+-- back and an emptying are lent no output.
 pub record Given : Type 0 where
   pub number : ℕ
   pub port : ℕ
   pub length : ℕ
+  pub frames : ℕ
+  pub sum : ℕ
   pub output : List ℕ
 
 -- An adapter as its calls show it.
@@ -55,8 +64,13 @@ EventOfTypes (completion c) = CompletionOfTypes c
 EventOfTypes (sample levels kind) = levels < 2 ^ 32
 EventOfTypes upset = Unit
 
+abbrev pub SamplesOfTypes : List Sample → Type 0
+SamplesOfTypes [] = Unit
+SamplesOfTypes (x ∷ list) = EventOfTypes (eventOf x) × SamplesOfTypes list
+
 abbrev pub OfItsTypes : Call → Type 0
 OfItsTypes (event e output) = EventOfTypes e
+OfItsTypes (batch list output) = SamplesOfTypes list
 OfItsTypes back = Unit
 OfItsTypes empty = Unit
 
@@ -89,6 +103,15 @@ refusal e output =
 abbrev pub refused : Event → List ℕ → Bool
 refused e output = not (eqb (refusal e output) 0)
 
+-- and a batch: document 02's order 1, 3
+abbrev pub batchRefusal : List Sample → List ℕ → ℕ
+batchRefusal list output =
+    cond (ltb (length output) number.batchLeast) number.shortOutput
+    (cond (wrongList list) number.badArgument 0)
+
+abbrev pub batchRefused : List Sample → List ℕ → Bool
+batchRefused list output = not (eqb (batchRefusal list output) 0)
+
 -- the standing events, "not refused, not taken back", the newest first; the kept number, and how far it goes up
 pub record Standing : Type 0 where
   pub events : List Event
@@ -99,13 +122,19 @@ pub record Standing : Type 0 where
 abbrev pub atStart : ℕ → Standing
 atStart most = record { events = []; number = 0; most = most }
 
--- after the emptying call and after an accepted RESET, goes up by one with each other event not refused, to at most 64, and down by one
--- with each step granted"; "a step back takes back the newest standing event; it is refused, taking nothing back, exactly when the kept
--- number is zero". 64 are the slots of a journal of 17,408 bytes (`slots-64`).
+-- after the emptying call and after an accepted RESET, goes up by one with each other event not refused, to at most 64,
+abbrev pub keepsEvent : Standing → Event → Standing
+keepsEvent s e = record { events = e ∷ s .events; number = cond (acceptedReset e) 0 (min (s .most) (s .number + 1)); most = s .most }
+
+-- [each sample of a batch is an event of its own,]
+abbrev pub keepsSample : Standing → Sample → Standing
+keepsSample s x = keepsEvent s (eventOf x)
+
+-- and down by one with each step granted"; "a step back takes back the newest standing event; it is refused, taking nothing back, exactly when the
+-- kept number is zero". 64 are the slots of a journal of 17,408 bytes (`slots-64`).
 abbrev pub keeps : Standing → Call → Standing
-keeps s (event e output) =
-    cond (refused e output) s
-    (record { events = e ∷ s .events; number = cond (acceptedReset e) 0 (min (s .most) (s .number + 1)); most = s .most })
+keeps s (event e output) = cond (refused e output) s (keepsEvent s e)
+keeps s (batch list output) = cond (batchRefused list output) s (foldl keepsSample s list)
 keeps s back = cond (eqb (s .number) 0) s (record { events = drop 1 (s .events); number = s .number - 1; most = s .most })
 keeps s empty = record { events = s .events; number = 0; most = s .most }
 
@@ -122,15 +151,33 @@ dueState r = stateAfter (r .id) (standing r .events)
 
 -- a number alone, the output as it came
 abbrev pub bare : ℕ → List ℕ → Given
-bare n output = record { number = n; port = 0; length = 0; output = output }
+bare n output = record { number = n; port = 0; length = 0; frames = 0; sum = 0; output = output }
 
 -- the chip's answer, its frames in the output
 abbrev pub answered : Reaction → List ℕ → Given
-answered r output = record { number = r .number; port = r .port; length = frontLength (r .frames); output = laid (r .frames) output }
+answered r output =
+    record { number = r .number; port = r .port; length = frontLength (r .frames); frames = 0; sum = 0; output = laid (r .frames) output }
 
 -- "the one due" to an event that happens to a state
 abbrev pub due : Adapter → Event → List ℕ → Given
 due a e output = cond (refused e output) (bare (refusal e output) output) (answered (reaction a e) output)
+
+-- The frames due to samples given one by one: to each after those before it.
+abbrev pub dueFrames : Adapter → List Sample → List (List ℕ)
+dueFrames a [] = []
+dueFrames a (x ∷ list) = let r = reaction a (eventOf x) in r .frames ++ dueFrames (r .adapter) list
+
+-- a batch's answer, its frames one behind the other in the output
+abbrev pub batchGiven : Batch → List ℕ → Given
+batchGiven b output =
+    record { number = b .number; port = b .port; length = b .length; frames = b .frames; sum = b .sum; output = output }
+
+-- the one due to a batch: the active port's, for these frames
+abbrev pub dueBatch : Adapter → List Sample → List ℕ → Given
+dueBatch a list output =
+    let frames = dueFrames a list in
+    cond (batchRefused list output) (bare (batchRefusal list output) output)
+    (batchGiven (batches.answered (a .link .port) frames) (put 0 (flatten frames) output))
 
 -- ---- the promise
 
@@ -144,6 +191,7 @@ refuses g = isRefusal (g .number)
 -- the output lent to a call
 abbrev pub lent : Call → List ℕ
 lent (event e output) = output
+lent (batch list output) = output
 lent back = []
 lent empty = []
 
@@ -156,6 +204,8 @@ pub record Demand3 (c : Calls) : Type 0 where
   pub state : (r : Run) → c .state (left c r) ≡ dueState r
   -- "Each event's reply is the one due after the events standing at that moment." Number, port, length and every output byte.
   pub reply : (r : Run) (e : Event) (output : List ℕ) → c .gives (left c r) (event e output) ≡ due (dueState r) e output
+  -- Of a batch, the replies due to its samples, each after those before it.
+  pub batch-reply : (r : Run) (list : List Sample) (output : List ℕ) → c .gives (left c r) (batch list output) ≡ dueBatch (dueState r) list output
   -- "A step back takes back the newest standing event;
   pub takes-back : (r : Run) → (c .kept (left c r) .kept ≡ 0 → ⊥)
       → (c .gives (left c r) back ≡ bare number.noFrame []) × (c .state (c .leaves (left c r) back) ≡ stateAfter (r .id) (drop 1 (standing r .events)))

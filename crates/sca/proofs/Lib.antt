@@ -1,2 +1,4 @@
 pub mod Spelling
 pub mod Packing
+pub mod Lending
+pub mod Test

@@ -3,6 +3,9 @@ mod receiving;
 
 use adapter::Answer;
 use adapter::KeptNumber;
+use batch::Batch;
+use batch::Pass;
+use batch::Sample;
 use numbers::BAD_STATE;
 use numbers::NO_FRAME;
 use receiver::Received;
@@ -12,10 +15,12 @@ ghost use Prim.Native.Nat.{_≤_, _<_};
 ghost use Rattle.chip.specs.Event.{Completion, Event};
 ghost use Rattle.sca.specs.Link as calls;
 ghost use Rattle.adapter.specs.Calls as adapters;
-ghost use Rattle.sca.specs.Adapter.{packAnswer, packKept, isSet, left, packed};
+ghost use Rattle.batch.specs.Batch as batches;
+ghost use Rattle.batch.specs.Inner.{finished};
+ghost use Rattle.sca.specs.Adapter.{packAnswer, packKept, packBatch, isSet, left, packed, packedBatch};
 ghost use Rattle.sca.specs.Version.{version};
 
-const VERSION: u64 = 0x010201;
+const VERSION: u64 = 0x010300;
 
 // A number, in a result of 64 bits.
 fn wide(number: u8) -> u64
@@ -89,6 +94,18 @@ fn pack_kept(k: KeptNumber) -> u64
     ensures { λ r. ⌜ r ≡ packKept k ⌝ }
 {
     wide(k.number) + 256 * wide(k.kept)
+}
+
+// The number in bits 7 to 0, the length of each frame in bits 15 to 8, their port in bits 23 to 16, how many they are in bits 39 to 24, the sum
+// above.
+fn pack_batch(b: Batch) -> u64
+    ensures { λ r. ⌜ r ≡ packBatch b ⌝ }
+{
+    wide(b.number)
+        + 256 * wide(b.length)
+        + 65536 * wide(b.port)
+        + 16777216 * (b.frames as u64)
+        + 1099511627776 * (b.sum as u64)
 }
 
 // A new adapter for a chip of this ID.
@@ -178,6 +195,31 @@ pub extern "C" fn sca_sample(
     ensures { λ r. ⌜ left r (now (state .exit)) (now (journal .exit)) (now (output .exit)) ≡ packed (adapters.called (now (state .entry)) (now (journal .entry)) (Event.sample levels kind) (now (output .entry))) ⌝ }
 {
     pack_answer(adapter::sample(state, journal, levels, kind, output))
+}
+
+// What a batch gives that has come to its end.
+fn batch_result(p: Pass) -> u64
+    ensures { λ r. ⌜ r ≡ packBatch (finished p) ⌝ }
+{
+    pack_batch(batch::finish(p))
+}
+
+// Pin samples by the batch: the list is walked here, once to look at it and once to do it.
+#[no_mangle]
+pub extern "C" fn sca_samples(
+    state: &mut [u8],
+    journal: &mut [u8],
+    list: &[Sample],
+    output: &mut [u8],
+) -> u64
+    ensures { λ r. ⌜ left r (now (state .exit)) (now (journal .exit)) (now (output .exit)) ≡ packedBatch (batches.called (now (state .entry)) (now (journal .entry)) (now (list .entry)) (now (output .entry))) ⌝ }
+{
+    let many = list.len();
+    let mut pass = batch::begin(state, journal, many, output.len());
+    while pass.at < many {
+        pass = batch::step(state, journal, output, many, pass, list[pass.at]);
+    }
+    batch_result(pass)
 }
 
 // An upset.

@@ -6,4 +6,6 @@ use Rattle.batch.proofs.step.Statement.{statement}
 use Rattle.batch.proofs.step.Tie as tie
 
 pub step-spec : {M : Type 1} → statement M
-step-spec = tie.close (three (tie.spec (λ c κs. search (when-doing, needs))) (search needs) (λ c. search moves-on) (λ c κs. search needs) (λ c. search looks-on))
+step-spec =
+    let gives = tie.spec (λ c κs. search (when-doing, needs)) in
+    tie.close (three gives (search needs) (λ c. search moves-on) (λ c κs. search needs) (λ c. search looks-on))
