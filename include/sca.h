@@ -618,9 +618,13 @@ uint64_t sca_sample(uint8_t *state, size_t state_length, uint8_t *journal, size_
 /*
  * sca_samples - the pins are sampled, many times in a row
  *
- * list holds count samples, the first one first. State, journal and bodies are
- * those of as many calls of sca_sample, one after the other: each sample is an
- * event of its own, kept and taken back by itself, and with GPIO disabled too.
+ * list holds count samples, the first one first, aligned as C aligns the struct.
+ * State, journal and bodies are those of as many calls of sca_sample, one after
+ * the other: each sample is an event of its own, kept and taken back by itself.
+ * To take a batch back, call sca_step_back count times; of over SCA_KEPT_MOST
+ * samples the newest SCA_KEPT_MOST can be taken back. With GPIO disabled each
+ * sample is dropped, and kept all the same.
+ *
  * The bodies stand one after the other from the front of output on,
  * SCA_REPLY_BYTES each, in the order in which they are to leave; no other byte
  * of output changes. An empty list changes nothing.
@@ -635,7 +639,8 @@ uint64_t sca_sample(uint8_t *state, size_t state_length, uint8_t *journal, size_
  *     0   sca_frames interrupts of sca_length bytes are to leave on port sca_port,
  *         and sca_sum lines fired, added up over them; lines that fired with
  *         INTENABLE 0 are not counted
- *     17  done, and nothing is to be sent; with GPIO disabled too
+ *     17  done, and nothing is to be sent; with GPIO disabled too, where
+ *         sca_sample gives 16
  * or refused, before anything is done:
  *     6   as by the events
  *     4   as by the events

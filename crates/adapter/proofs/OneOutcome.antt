@@ -32,9 +32,9 @@ upset-one κs a x y s t p q = p ∙ sym q
 pub step-back-one : One 2 this.step_back.Kinds.ps this.step_back.Kinds.r this.step_back.Reads.Post (λ κs x s. stepped x (now (s .0)) (now (s .1 .0)))
 step-back-one κs a x y s t p q = p ∙ sym q
 
--- what crate `batch` calls: the order of refusals, and a sample that nothing refused
-pub in-order-one : One 0 this.in_order.Kinds.ps this.in_order.Kinds.r this.in_order.Reads.Post (λ κs x s. x)
-in-order-one κs a x y s t p q = p ∙ sym q
+-- what crate `batch` calls: the first refusal, and a sample that nothing refused
+pub judge-one : One 2 this.judge.Kinds.ps this.judge.Kinds.r this.judge.Reads.Post (λ κs x s. x)
+judge-one κs a x y s t p q = p ∙ sym q
 
 pub events-sample-one : One 3 this.events.sample.Kinds.ps this.events.sample.Kinds.r this.events.sample.Reads.Post
     (λ κs x s. outcome x (now (s .0)) (now (s .1 .0)) (now (s .1 .1 .1 .1 .0)))

@@ -93,7 +93,7 @@ pub fn kept(journal: &[u8]) -> KeptNumber
 }
 
 // The first refusal that applies, in document 01's order.
-pub fn in_order(state: bool, journal: bool, output: bool, argument: bool, body: bool) -> Verdict
+fn in_order(state: bool, journal: bool, output: bool, argument: bool, body: bool) -> Verdict
     ensures { λ r. ⌜ r ≡ inOrder state journal output argument body ⌝ }
 {
     if state {
@@ -114,13 +114,14 @@ pub fn in_order(state: bool, journal: bool, output: bool, argument: bool, body: 
     Verdict::Passed
 }
 
-// The first refusal of an event that is handed this state, journal and room for output.
-fn judge(state: &[u8], journal: &[u8], room: usize, argument: bool, body: bool) -> Verdict
-    ensures { λ r. ⌜ r ≡ inOrder (not (isState (now (state .entry)))) (not (wellFormed (now (journal .entry)))) (ltb room outputLeast) argument body ⌝ }
+// The first refusal of a call that is handed this state and journal, and of which is known whether its output is too short, and whether an argument or
+// the body is wrong.
+pub fn judge(state: &[u8], journal: &[u8], short: bool, argument: bool, body: bool) -> Verdict
+    ensures { λ r. ⌜ r ≡ inOrder (not (isState (now (state .entry)))) (not (wellFormed (now (journal .entry)))) short argument body ⌝ }
 {
     let spelled = state::is_state(state);
     let formed = journal::is_well_formed(journal);
-    in_order(!spelled, !formed, room < OUTPUT_LEAST, argument, body)
+    in_order(!spelled, !formed, short, argument, body)
 }
 
 // A number with no frame.
@@ -148,7 +149,7 @@ pub fn frame(
     let verdict = judge(
         state,
         journal,
-        output.len(),
+        output.len() < OUTPUT_LEAST,
         1 < port,
         (count < BODY_LEAST) | (BODY_MOST < count),
     );
@@ -162,7 +163,7 @@ pub fn frame(
 pub fn upset(state: &mut [u8], journal: &mut [u8], output: &mut [u8]) -> Answer
     ensures { λ r. ⌜ outcome r (now (state .exit)) (now (journal .exit)) (now (output .exit)) ≡ called (now (state .entry)) (now (journal .entry)) Event.upset (now (output .entry)) ⌝ }
 {
-    let verdict = judge(state, journal, output.len(), false, false);
+    let verdict = judge(state, journal, output.len() < OUTPUT_LEAST, false, false);
     match verdict {
         Verdict::Refused(number) => alone(number),
         Verdict::Passed => events::upset(state, journal),
@@ -181,7 +182,7 @@ pub fn completion(
     let verdict = judge(
         state,
         journal,
-        output.len(),
+        output.len() < OUTPUT_LEAST,
         received.len() != TRANSFER_BYTES,
         false,
     );
@@ -212,7 +213,7 @@ pub fn i2c_completion(
     let verdict = judge(
         state,
         journal,
-        output.len(),
+        output.len() < OUTPUT_LEAST,
         !named | (I2C_MOST < received.len()),
         false,
     );
@@ -240,7 +241,7 @@ pub fn sample(
 ) -> Answer
     ensures { λ r. ⌜ outcome r (now (state .exit)) (now (journal .exit)) (now (output .exit)) ≡ called (now (state .entry)) (now (journal .entry)) (Event.sample levels kind) (now (output .entry)) ⌝ }
 {
-    let verdict = judge(state, journal, output.len(), 2 < kind, false);
+    let verdict = judge(state, journal, output.len() < OUTPUT_LEAST, 2 < kind, false);
     match verdict {
         Verdict::Refused(number) => alone(number),
         Verdict::Passed => events::sample(state, journal, levels, kind as u8, output),

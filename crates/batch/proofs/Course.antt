@@ -37,7 +37,7 @@ pub data Shape (port : ℕ) : Reaction → Type 0 where
   quiet : (b : Adapter) (n : ℕ) → (n ≡ 0 → ⊥) → b .link .port ≡ port → Shape port (gives b n)
   interrupt : (b : Adapter) (control trn ch err len d : ℕ) → b .link .port ≡ port → Shape port (sends b port (replyBody control trn ch err len d))
 
-not-0 : (n : ℕ) → 1 ≤ n → n ≡ 0 → ⊥
+pub not-0 : (n : ℕ) → 1 ≤ n → n ≡ 0 → ⊥
 not-0 n h z = let y : ⊥ = omega (arith, z) in y
 
 chosen : (port : ℕ) (t u : Bool) (x y z : Reaction) → Shape port x → Shape port y → Shape port z → Shape port (cond t x (cond u y z))
@@ -147,7 +147,7 @@ module _ (active : ℕ) (out s j o : List ℕ) (p : Pass) (bodies : List (List �
         along _ (subst (λ (k : ℕ). Shape k (reaction (stateIn s) (eventOf x))) (port-in s ∙ h .stays) (sample-shape (stateIn s) (x .levels) (x .kind))) refl
 
 -- a sample sends one frame at most
-few : (port : ℕ) (r : Reaction) → Shape port r → length (r .frames) ≤ 1
+pub few : (port : ℕ) (r : Reaction) → Shape port r → length (r .frames) ≤ 1
 few port r (quiet b n z q) = omega arith
 few port r (interrupt b control trn ch err len d q) = omega arith
 

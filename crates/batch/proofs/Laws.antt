@@ -23,19 +23,19 @@ use Rattle.batch.specs.declared.Sample.{Sample}
 use Rattle.batch.specs.declared.Pass.{Pass}
 use Rattle.batch.specs.declared.Batch.{Batch}
 use Rattle.batch.specs.Batch.{eventOf, bare}
-use Rattle.batch.specs.Inner.{stopped, begun, Going, going, silent, counted, sampledAt, given, Given, looked, moved, Moved, finished}
+use Rattle.batch.specs.Inner.{nothingDone, begun, Going, going, silent, counted, sampledAt, given, Given, looked, moved, Moved, finished}
 
 -- ---- the start
 
 module _ (s j : List ℕ) (many room : ℕ) (v : Verdict)
-    (x y : Bool) (k : x ≡ isState s) (l : y ≡ wellFormed j) (h : v ≡ inOrder (not x) (not y) (ltb room 2560) (ltb 256 many) false) (r : Pass) where
-  pub begins-refused : (number : ℕ) → v ≡ Refused number → r ≡ stopped many false number → r ≡ begun s j many room
+    (h : v ≡ inOrder (not (isState s)) (not (wellFormed j)) (ltb room 2560) (ltb 256 many) false) (r : Pass) where
+  pub begins-refused : (number : ℕ) → v ≡ Refused number → r ≡ nothingDone many false number → r ≡ begun s j many room
   unfolding begun
-  begins-refused number q e = rw (← k, ← l, ← h, q) e
+  begins-refused number q e = rw (← h, q) e
 
-  pub begins-well : v ≡ Passed → r ≡ stopped 0 false 0 → r ≡ begun s j many room
+  pub begins-well : v ≡ Passed → r ≡ nothingDone 0 false 0 → r ≡ begun s j many room
   unfolding begun
-  begins-well q e = rw (← k, ← l, ← h, q) e
+  begins-well q e = rw (← h, q) e
 
 -- ---- a sample of the second pass
 
@@ -75,15 +75,15 @@ module _ (s j o : List ℕ) (p : Pass) (x : Sample) (a : Answer) (s′ j′ o′
 -- ---- a sample of the first pass
 
 module _ (many at kind : ℕ) (r : Pass) where
-  pub kind-wrong : 2 < kind → r ≡ stopped many false 3 → r ≡ looked many at kind
+  pub kind-wrong : 2 < kind → r ≡ nothingDone many false 3 → r ≡ looked many at kind
   unfolding looked
   kind-wrong h e = rw (lt-ltb _ _ h) e
 
-  pub kind-last : kind ≤ 2 → at + 1 ≡ many → r ≡ stopped 0 true 0 → r ≡ looked many at kind
+  pub kind-last : kind ≤ 2 → at + 1 ≡ many → r ≡ nothingDone 0 true 0 → r ≡ looked many at kind
   unfolding looked
   kind-last h k e = rw (le-ltb _ _ h, eq-eqb _ _ k) e
 
-  pub kind-good : kind ≤ 2 → (at + 1 ≡ many → ⊥) → r ≡ stopped (at + 1) false 0 → r ≡ looked many at kind
+  pub kind-good : kind ≤ 2 → (at + 1 ≡ many → ⊥) → r ≡ nothingDone (at + 1) false 0 → r ≡ looked many at kind
   unfolding looked
   kind-good h k e = rw (le-ltb _ _ h, ne-eqb _ _ k) e
 
@@ -92,7 +92,8 @@ pub none-counted : (many at kind : ℕ) → (looked many at kind .frames ≡ 0) 
 unfolding looked
 none-counted many at kind = by (ltb 2 kind) (eqb (at + 1) many)
   where
-    by : (t u : Bool) → let q = cond t (stopped many false 3) (cond u (stopped 0 true 0) (stopped (at + 1) false 0)) in (q .frames ≡ 0) × (q .sum ≡ 0)
+    by : (t u : Bool) → let q = cond t (nothingDone many false 3) (cond u (nothingDone 0 true 0) (nothingDone (at + 1) false 0)) in
+        (q .frames ≡ 0) × (q .sum ≡ 0)
     by true u = (refl, refl)
     by false true = (refl, refl)
     by false false = (refl, refl)

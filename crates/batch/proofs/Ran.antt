@@ -28,8 +28,8 @@ use Rattle.batch.specs.declared.Sample.{Sample}
 use Rattle.batch.specs.declared.Pass.{Pass}
 use Rattle.batch.specs.Batch.{eventOf, outset, oneByOne, someWrong, linesIn, bare, answered, verdict, outcome, called}
 use Rattle.batch.specs.Batch as batch
-use Rattle.batch.specs.Inner.{stopped, begun, Going, going, Ready, silent, counted, sampledAt, given, looked, moved, Moved, finished}
-use Rattle.batch.proofs.Course.{Stands, stands}
+use Rattle.batch.specs.Inner.{nothingDone, begun, Going, going, Ready, silent, counted, sampledAt, given, looked, moved, Moved, finished}
+use Rattle.batch.proofs.Course.{not-0, Stands, stands}
 
 -- a sample of no list
 abbrev pub dark : Sample
@@ -48,7 +48,7 @@ some-more (s ∷ l) (suc i) h g k = more (ltb 2 (s .kind)) g (λ e. some-more l 
     more true e f = e
     more false e f = f e
 
-wrong-one : (l : List Sample) (i : ℕ) → i < length l → ltb 2 (getD l i dark .kind) ≡ true → someWrong l ≡ true
+pub wrong-one : (l : List Sample) (i : ℕ) → i < length l → ltb 2 (getD l i dark .kind) ≡ true → someWrong l ≡ true
 unfolding someWrong
 wrong-one [] i h k = absurd (not-suc-le-zero h)
 wrong-one (s ∷ l) zero h k = rw k refl
@@ -102,7 +102,7 @@ module _ (g : Going) (x : Sample) where
   given-journal = refl
 
 -- before the first sample
-at-outset : (s j o : List ℕ) (at : ℕ) (on : Bool) → Stands (linkOf s .port) o (outset s j) (going s j o (stopped at on 0))
+at-outset : (s j o : List ℕ) (at : ℕ) (on : Bool) → Stands (linkOf s .port) o (outset s j) (going s j o (nothingDone at on 0))
 unfolding flatten linesIn
 at-outset s j o at on =
     record {
@@ -115,9 +115,6 @@ at-outset s j o at on =
       frames = refl;
       sum = refl;
     }
-
-not-0 : (n : ℕ) → 1 ≤ n → n ≡ 0 → ⊥
-not-0 n h z = let y : ⊥ = omega (arith, z) in y
 
 module _ (s₀ j₀ o₀ : List ℕ) (list : List Sample) where
   abbrev pub many : ℕ
@@ -133,14 +130,14 @@ module _ (s₀ j₀ o₀ : List ℕ) (list : List Sample) where
   -- the first pass: nothing is done, and the kinds before this one are right
   pub record Looking (s j o : List ℕ) (p : Pass) : Type 0 where
     pub sized : Sized
-    pub is : going s j o p ≡ going s₀ j₀ o₀ (stopped (p .at) false 0)
+    pub is : going s j o p ≡ going s₀ j₀ o₀ (nothingDone (p .at) false 0)
     pub kinds : someWrong (take (p .at) list) ≡ false
     pub last : p .at ≡ many → many ≡ 0
     pub within : p .at ≤ many
 
   -- the start of the second
   abbrev pub outgoing : Going
-  outgoing = going s₀ j₀ o₀ (stopped 0 true 0)
+  outgoing = going s₀ j₀ o₀ (nothingDone 0 true 0)
 
   -- the second: all kinds are right, and the samples before this one are done
   pub record Doing (s j o : List ℕ) (p : Pass) : Type 0 where
@@ -155,7 +152,7 @@ module _ (s₀ j₀ o₀ : List ℕ) (list : List Sample) where
     pub within : p .at ≤ many
 
   pub record Over (s j o : List ℕ) (p : Pass) : Type 0 where
-    pub is : going s j o p ≡ going s₀ j₀ o₀ (stopped many false (p .number))
+    pub is : going s j o p ≡ going s₀ j₀ o₀ (nothingDone many false (p .number))
     pub why : verdict s₀ j₀ list o₀ ≡ Refused (p .number)
     pub some : p .number ≡ 0 → ⊥
 
@@ -373,7 +370,7 @@ module _ (s₀ j₀ o₀ : List ℕ) (list : List Sample) where
   passes z k = rw (z .spelled, z .formed, le-ltb _ _ (z .roomy), le-ltb _ _ (z .few), k) refl
 
   -- a refused one
-  ends : (s j o : List ℕ) (p : Pass) → going s j o p ≡ going s₀ j₀ o₀ (stopped many false (p .number)) → (p .number ≡ 0 → ⊥)
+  ends : (s j o : List ℕ) (p : Pass) → going s j o p ≡ going s₀ j₀ o₀ (nothingDone many false (p .number)) → (p .number ≡ 0 → ⊥)
       → outcome (finished p) s j o ≡ outcome (bare (p .number)) s₀ j₀ o₀
   unfolding finished
   ends s j o p e n = ap (λ (g : Going). outcome (finished (g .pass)) (g .state) (g .journal) (g .output)) e ∙ rw (ne-eqb _ _ n) refl
@@ -384,7 +381,7 @@ module _ (s₀ j₀ o₀ : List ℕ) (list : List Sample) where
     | looking c ↦
         let none : list ≡ [] = nil-of list (c .last (omega (arith, c .within))) in
         let h : Stands active o₀ (oneByOne s₀ j₀ list) (going (a .s) (a .j) (a .o) (a .p)) = subst (Stands active o₀ (oneByOne s₀ j₀ list)) (sym (c .is))
-        (subst (λ (l : List Sample). Stands active o₀ (oneByOne s₀ j₀ l) (going s₀ j₀ o₀ (stopped (a .p .at) false 0))) (sym none)
+        (subst (λ (l : List Sample). Stands active o₀ (oneByOne s₀ j₀ l) (going s₀ j₀ o₀ (nothingDone (a .p .at) false 0))) (sym none)
         (at-outset s₀ j₀ o₀ (a .p .at) false)) in
         rw (passes (c .sized) (ap someWrong none ∙ nothing-wrong))
         (closes (a .s) (a .j) (a .o) (a .p) (ap (λ (g : Going). g .pass .number) (c .is)) h)

@@ -57,11 +57,15 @@ linesIn (body ∷ more) = ones (dataOf body) + linesIn more
 abbrev pub bare : ℕ → Batch
 bare number = record { number = number; port = 0; length = 0; frames = 0; sum = 0 }
 
--- "The answer is 0 when a frame was sent, else 17, with GPIO disabled too." Frames leave on the active port, which no sample changes.
+-- "The answer is 0 when a frame was sent, else 17, with GPIO disabled too."
+abbrev pub reported : ℕ → ℕ → ℕ → Batch
+reported port frames sum =
+    cond (eqb frames 0) (bare noFrame)
+    (record { number = hasFrame; port = port; length = replyBytes; frames = frames; sum = sum })
+
+-- for these bodies; they leave on the active port, which no sample changes
 abbrev pub answered : ℕ → List (List ℕ) → Batch
-answered port bodies =
-    cond (eqb (length bodies) 0) (bare noFrame)
-    (record { number = hasFrame; port = port; length = replyBytes; frames = length bodies; sum = linesIn bodies })
+answered port bodies = reported port (length bodies) (linesIn bodies)
 
 -- ---- the call
 

@@ -6,7 +6,7 @@ use mathlib.Core.List.{List}
 use lib.ListN.{length}
 use lib.Dec.{eqb, ltb}
 use lib.Count.{ones}
-use Rattle.numbers.specs.Numbers.{hasFrame, noFrame, badArgument, replyBytes, samplesMost, batchLeast}
+use Rattle.numbers.specs.Numbers.{hasFrame, badArgument, replyBytes, samplesMost, batchLeast}
 use Rattle.parts.specs.Parts.{part, put}
 use Rattle.packets.specs.Packets.{dataOf}
 use Rattle.state.specs.Bytes.{stateSize, isState}
@@ -18,15 +18,15 @@ use Rattle.adapter.specs.Calls.{Outcome, outcome, done}
 use Rattle.batch.specs.declared.Sample.{Sample}
 use Rattle.batch.specs.declared.Pass.{Pass}
 use Rattle.batch.specs.declared.Batch.{Batch}
-use Rattle.batch.specs.Batch.{eventOf, bare}
+use Rattle.batch.specs.Batch.{eventOf, bare, reported}
 
 -- a batch with nothing done
-abbrev pub stopped : ℕ → Bool → ℕ → Pass
-stopped at doing number = record { at = at; doing = doing; number = number; port = 0; frames = 0; sum = 0 }
+abbrev pub nothingDone : ℕ → Bool → ℕ → Pass
+nothingDone at doing number = record { at = at; doing = doing; number = number; port = 0; frames = 0; sum = 0 }
 
 abbrev pub begins : Verdict → ℕ → Pass
-begins (Refused number) many = stopped many false number
-begins Passed many = stopped 0 false 0
+begins (Refused number) many = nothingDone many false number
+begins Passed many = nothingDone 0 false 0
 
 unfoldable pub begun : List ℕ → List ℕ → ℕ → ℕ → Pass
 begun s journal many room =
@@ -42,6 +42,10 @@ pub record Going : Type 0 where
 abbrev pub going : List ℕ → List ℕ → List ℕ → Pass → Going
 going s journal output p = record { state = s; journal = journal; output = output; pass = p }
 
+-- the most lines of all samples but the last: the sum before that one
+abbrev pub mostBefore : ℕ
+mostBefore = 32 * 255
+
 -- what a sample can rely on
 pub record Ready (s journal output : List ℕ) (p : Pass) : Type 0 where
   pub spelled : length s ≡ stateSize
@@ -49,7 +53,7 @@ pub record Ready (s journal output : List ℕ) (p : Pass) : Type 0 where
   pub room : replyBytes * p .frames + replyBytes ≤ length output
   pub early : p .at < samplesMost
   pub few : p .frames < samplesMost
-  pub small : p .sum ≤ 8160
+  pub small : p .sum ≤ mostBefore
 
 -- a sample counted, without a frame and with one
 abbrev pub silent : Pass → Pass
@@ -83,9 +87,9 @@ pub record Given (s journal output : List ℕ) (p : Pass) (x : Sample) (s′ jou
 -- the first pass at a sample
 unfoldable pub looked : ℕ → ℕ → ℕ → Pass
 looked many at kind =
-    cond (ltb 2 kind) (stopped many false badArgument)
-    (cond (eqb (at + 1) many) (stopped 0 true 0)
-    (stopped (at + 1) false 0))
+    cond (ltb 2 kind) (nothingDone many false badArgument)
+    (cond (eqb (at + 1) many) (nothingDone 0 true 0)
+    (nothingDone (at + 1) false 0))
 
 -- either pass
 unfoldable pub moved : ℕ → Going → Sample → Going
@@ -100,6 +104,4 @@ pub record Moved (many : ℕ) (s journal output : List ℕ) (p : Pass) (x : Samp
 
 unfoldable pub finished : Pass → Batch
 finished p =
-    cond (not (eqb (p .number) 0)) (bare (p .number))
-    (cond (eqb (p .frames) 0) (bare noFrame)
-    (record { number = hasFrame; port = p .port; length = replyBytes; frames = p .frames; sum = p .sum }))
+    cond (not (eqb (p .number) 0)) (bare (p .number)) (reported (p .port) (p .frames) (p .sum))

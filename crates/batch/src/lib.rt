@@ -21,7 +21,7 @@ ghost use Rattle.state.specs.Bytes.{stateSize};
 ghost use Rattle.journal.specs.Layout.{wellFormed};
 ghost use Rattle.adapter.specs.Calls.{outcome};
 ghost use Rattle.batch.specs.Batch.{bare};
-ghost use Rattle.batch.specs.Inner.{stopped, begun, silent, counted, sampledAt, Ready, Given, looked, Moved, finished};
+ghost use Rattle.batch.specs.Inner.{nothingDone, mostBefore, begun, silent, counted, sampledAt, Ready, Given, looked, Moved, finished};
 
 // What a logic probe saw: the levels of the 32 lines, and the edge kind.
 #[repr(C)]
@@ -50,9 +50,9 @@ pub struct Batch {
     pub sum: u16,
 }
 
-// A batch with nothing done that goes on at this sample, or, refused by a number, at none.
-fn stop(at: usize, doing: bool, number: u8) -> Pass
-    ensures { λ r. ⌜ r ≡ stopped at doing number ⌝ }
+// A batch with nothing done, that goes on at this sample; one that a number refused has come to its end.
+fn nothing_done(at: usize, doing: bool, number: u8) -> Pass
+    ensures { λ r. ⌜ r ≡ nothingDone at doing number ⌝ }
 {
     Pass {
         at: at,
@@ -68,18 +68,16 @@ fn stop(at: usize, doing: bool, number: u8) -> Pass
 pub fn begin(state: &[u8], journal: &[u8], many: usize, room: usize) -> Pass
     ensures { λ r. ⌜ r ≡ begun (now (state .entry)) (now (journal .entry)) many room ⌝ }
 {
-    let spelled = state::is_state(state);
-    let formed = journal::is_well_formed(journal);
-    let verdict = adapter::in_order(
-        !spelled,
-        !formed,
+    let verdict = adapter::judge(
+        state,
+        journal,
         room < BATCH_LEAST,
         SAMPLES_MOST < many,
         false,
     );
     match verdict {
-        Verdict::Refused(number) => stop(many, false, number),
-        Verdict::Passed => stop(0, false, 0),
+        Verdict::Refused(number) => nothing_done(many, false, number),
+        Verdict::Passed => nothing_done(0, false, 0),
     }
 }
 
@@ -108,7 +106,7 @@ fn pass_over(p: Pass) -> Pass
 }
 
 fn count(p: Pass, port: u8, lines: u16) -> Pass
-    requires { ⌜ (p .at < samplesMost) × (p .frames < samplesMost) × (p .sum ≤ 8160) × (lines ≤ 32) ⌝ }
+    requires { ⌜ (p .at < samplesMost) × (p .frames < samplesMost) × (p .sum ≤ mostBefore) × (lines ≤ 32) ⌝ }
     ensures { λ r. ⌜ r ≡ counted p port lines ⌝ }
 {
     Pass {
@@ -162,12 +160,12 @@ fn look(many: usize, at: usize, kind: u32) -> Pass
     ensures { λ r. ⌜ r ≡ looked many at kind ⌝ }
 {
     if 2 < kind {
-        return stop(many, false, BAD_ARGUMENT);
+        return nothing_done(many, false, BAD_ARGUMENT);
     }
     if at + 1 == many {
-        return stop(0, true, 0);
+        return nothing_done(0, true, 0);
     }
-    stop(at + 1, false, 0)
+    nothing_done(at + 1, false, 0)
 }
 
 // One sample of either pass.

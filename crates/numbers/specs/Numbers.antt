@@ -1,5 +1,5 @@
--- The numbers that calls give back: document 01, "Numbers given back". A call is refused when it gives 1 to 10. Then the sizes that
--- document 01 asks of what a call is handed.
+-- The numbers that calls give back: document 01, "Numbers given back". A call is refused when it gives 1 to 10. Then the sizes of
+-- what a call is handed, and of what it writes, as documents 01 and 02 have them.
 use Prim.Native.Nat.{ℕ}
 
 -- A frame was read or sent.
@@ -119,7 +119,7 @@ outputLeast = 16
 abbrev pub samplesMost : ℕ
 samplesMost = 256
 
--- The least output of a batch: a body for each of its samples.
+-- The least output of a batch, however few its samples: room for the most bodies.
 abbrev pub batchLeast : ℕ
 batchLeast = 2560
 

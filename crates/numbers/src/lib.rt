@@ -1,5 +1,5 @@
-// The numbers that calls give back: document 01, "Numbers given back". A call is refused when it gives 1 to 10. Then the sizes that
-// document 01 asks of what a call is handed.
+// The numbers that calls give back: document 01, "Numbers given back". A call is refused when it gives 1 to 10. Then the sizes of
+// what a call is handed, and of what it writes, as documents 01 and 02 have them.
 
 // A frame was read or sent.
 pub const HAS_FRAME: u8 = 0;
@@ -61,7 +61,7 @@ pub const INPUT_MOST: usize = 65536;
 pub const OUTPUT_LEAST: usize = 16;
 // The most pin samples of a batch.
 pub const SAMPLES_MOST: usize = 256;
-// The least output of a batch: a body for each of its samples.
+// The least output of a batch, however few its samples: room for the most bodies.
 pub const BATCH_LEAST: usize = 2560;
 // The bytes received in an SPI transfer.
 pub const TRANSFER_BYTES: usize = 16;

@@ -39,23 +39,19 @@ use Rattle.promises.proofs.Runs.{demand3}
 use Rattle.promises.proofs.Samples.{its-frames, few-due}
 use Rattle.promises.proofs.ShutOut.{zeros, as-long, ran}
 
--- ---- from a new adapter: GPIO enabled, then all lines selected, on rising
+-- ---- from a new adapter: CONNECT on port 1, GPIO enabled, then all lines selected, on rising
 
 abbrev selecting : List Call
 selecting =
-    F 0 (0x00 ∷ 0x00 ∷ 0x01 ∷ 0x00 ∷ 0x04 ∷ 0x02 ∷ 0x00 ∷ 0x04 ∷ 0x00 ∷ 0x00 ∷ [])
-    ∷ F 0 (0x00 ∷ 0x02 ∷ 0x02 ∷ 0x02 ∷ 0x04 ∷ 0x30 ∷ 0xFF ∷ 0xFF ∷ 0xFF ∷ 0xFF ∷ [])
-    ∷ F 0 (0x00 ∷ 0x04 ∷ 0x03 ∷ 0x02 ∷ 0x04 ∷ 0x40 ∷ 0xFF ∷ 0xFF ∷ 0xFF ∷ 0xFF ∷ [])
+    F 1 (0x00 ∷ 0x2F ∷ [])
+    ∷ F 1 (0x00 ∷ 0x00 ∷ 0x01 ∷ 0x00 ∷ 0x04 ∷ 0x02 ∷ 0x00 ∷ 0x04 ∷ 0x00 ∷ 0x00 ∷ [])
+    ∷ F 1 (0x00 ∷ 0x02 ∷ 0x02 ∷ 0x02 ∷ 0x04 ∷ 0x30 ∷ 0xFF ∷ 0xFF ∷ 0xFF ∷ 0xFF ∷ [])
+    ∷ F 1 (0x00 ∷ 0x04 ∷ 0x03 ∷ 0x02 ∷ 0x04 ∷ 0x40 ∷ 0xFF ∷ 0xFF ∷ 0xFF ∷ 0xFF ∷ [])
     ∷ []
 
 -- and INTENABLE 1 besides
 abbrev interrupting : List Call
-interrupting =
-    F 0 (0x00 ∷ 0x00 ∷ 0x01 ∷ 0x00 ∷ 0x04 ∷ 0x02 ∷ 0x00 ∷ 0x04 ∷ 0x00 ∷ 0x00 ∷ [])
-    ∷ F 0 (0x00 ∷ 0x02 ∷ 0x02 ∷ 0x02 ∷ 0x04 ∷ 0x30 ∷ 0xFF ∷ 0xFF ∷ 0xFF ∷ 0xFF ∷ [])
-    ∷ F 0 (0x00 ∷ 0x04 ∷ 0x03 ∷ 0x02 ∷ 0x04 ∷ 0x40 ∷ 0xFF ∷ 0xFF ∷ 0xFF ∷ 0xFF ∷ [])
-    ∷ F 0 (0x00 ∷ 0x06 ∷ 0x04 ∷ 0x02 ∷ 0x04 ∷ 0x60 ∷ 0x00 ∷ 0x00 ∷ 0x01 ∷ 0x00 ∷ [])
-    ∷ []
+interrupting = selecting ++ (F 1 (0x00 ∷ 0x06 ∷ 0x04 ∷ 0x02 ∷ 0x04 ∷ 0x60 ∷ 0x00 ∷ 0x00 ∷ 0x01 ∷ 0x00 ∷ []) ∷ [])
 
 -- Lines 0 and 1 rise; nothing changes; a strobe, which no line takes; line 0 falls, lines 16 and 31 rise.
 abbrev probe : List Sample
@@ -80,7 +76,7 @@ selected = ran selecting typed-selecting
 abbrev ready : Run
 ready = ran interrupting typed-interrupting
 
--- Four requests came and four replies went before: control is twice 4, then twice 5, plus 32 times 4.
+-- CONNECT zeroed the numbers, and four requests came and four replies went after it: control is twice 4, then twice 5, plus 32 times 4.
 abbrev first : List ℕ
 first = 0x00 ∷ 0x88 ∷ 0xFF ∷ 0x02 ∷ 0x00 ∷ 0x04 ∷ 0x00 ∷ 0x00 ∷ 0x03 ∷ 0x00 ∷ []
 
@@ -93,11 +89,11 @@ unfolding
     channelOf codeOf read store zeroed held heldAll interrupts sampled datainAfter firingLines word part number digits bank masterControl masterBit marked
 two-frames = refl
 
-port-0 : dueState ready .link .port ≡ 0
+port-1 : dueState ready .link .port ≡ 1
 unfolding
     reaction onFrame addressed commanded carried numbered requested replied performed decoded replies onSample poweredOn isResetFrame put
     channelOf codeOf read store zeroed held heldAll interrupts sampled datainAfter firingLines word part number digits bank masterControl masterBit marked
-port-0 = refl
+port-1 = refl
 
 -- the ones in 3 and in 0x80010000
 one : ones 1 ≡ 1
@@ -124,9 +120,9 @@ right-kinds = refl
 
 pub worked : (c : Calls) → Demand3 c → (o : List ℕ) → 2560 ≤ length o
     → c .gives (left c ready) (batch probe o)
-    ≡ record { number = 0; port = 0; length = 10; frames = 2; sum = 4; output = put 0 (first ++ second) o }
+    ≡ record { number = 0; port = 1; length = 10; frames = 2; sum = 4; output = put 0 (first ++ second) o }
 unfolding flatten
-worked c d o h = d .batch-reply ready probe o ∙ rw (le-ltb (length o) 2560 h, right-kinds, port-0, two-frames, four-lines) refl
+worked c d o h = d .batch-reply ready probe o ∙ rw (le-ltb (length o) 2560 h, right-kinds, port-1, two-frames, four-lines) refl
 
 -- ---- what no calls can do that meet the demand
 

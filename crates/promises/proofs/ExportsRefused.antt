@@ -31,7 +31,7 @@ use Rattle.promises.proofs.Refused.{reading-number, receive-unchanged}
 
 -- ---- the adapter's calls
 
--- sca_frame, sca_completion, sca_sample, sca_upset
+-- sca_frame, sca_completion, sca_i2c_completion, sca_sample, sca_upset
 pub event-keeps : (s journal : List ℕ) (e : Event) (output : List ℕ) → let x = packed (called s journal e output) in
     isRefusal (resultNumber (x .result)) ≡ true → x ≡ left (x .result) s journal output
 event-keeps s journal e output h =

@@ -22,7 +22,7 @@ use Rattle.receiver.proofs as receiver
 use Rattle.sca.proofs as sca
 use Rattle.adapter.specs.Calls.{made, stepped}
 use Rattle.sca.specs.Adapter.{Left, left}
--- the adapter's eight calls
+-- the adapter's nine calls
 pub use Rattle.adapter.proofs.OneOutcome.{create-one, empty-one, kept-one, frame-one, completion-one, i2c-completion-one, sample-one, upset-one, step-back-one}
 
 -- ---- the link: a result and the output's bytes

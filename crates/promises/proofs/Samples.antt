@@ -34,11 +34,13 @@ use Rattle.chip.specs.Request.{replies}
 use Rattle.chip.specs.Chip.{reaction, onSample}
 use Rattle.chip.proofs.Bodies.{Every}
 use Rattle.chip.proofs.Laws.{sample-good}
+use Rattle.journal.proofs.Ring.{Well}
 use Rattle.adapter.specs.Calls.{recorded}
+use Rattle.adapter.proofs.Laws.{recorded-well}
 use Rattle.batch.specs.declared.Sample.{Sample}
 use Rattle.batch.specs.declared.Batch.{Batch}
 use Rattle.batch.specs.Batch.{eventOf, Course, onward, linesIn, answered}
-use Rattle.batch.proofs.Course.{Shape, quiet, interrupt, sample-shape}
+use Rattle.batch.proofs.Course.{Shape, quiet, interrupt, sample-shape, few}
 use Rattle.promises.specs.Runs.{dueFrames}
 use Rattle.promises.specs.Batches.{bodiesIn, firingAt, firingIn}
 
@@ -70,6 +72,32 @@ along (x ∷ list) a j bodies g =
     ∙ along list (r .adapter) _ (bodies ++ r .frames) (sample-good a (x .levels) (x .kind) g)
     ∙ ap (course (adapterAfter (r .adapter) list) (journalAfter a j (x ∷ list))) (append-assoc bodies (r .frames) (dueFrames (r .adapter) list))
 
+pub good-after : (list : List Sample) (a : Adapter) → Good a → Good (adapterAfter a list)
+good-after [] a g = g
+good-after (x ∷ list) a g = good-after list (reaction a (eventOf x) .adapter) (sample-good a (x .levels) (x .kind) g)
+
+pub well-after : (list : List Sample) (a : Adapter) (j : List ℕ) → Well j → Well (journalAfter a j list)
+well-after [] a j w = w
+well-after (x ∷ list) a j w = well-after list (reaction a (eventOf x) .adapter) _ (recorded-well (stateBytes a) (eventOf x) j w)
+
+-- the active port stays
+port-shape : (port : ℕ) (r : Reaction) → Shape port r → r .adapter .link .port ≡ port
+port-shape port r (quiet b n z q) = q
+port-shape port r (interrupt b control trn ch err len d q) = q
+
+pub port-after : (list : List Sample) (a : Adapter) → adapterAfter a list .link .port ≡ a .link .port
+port-after [] a = refl
+port-after (x ∷ list) a =
+    let r = reaction a (eventOf x) in
+    port-after list (r .adapter) ∙ port-shape (a .link .port) r (sample-shape a (x .levels) (x .kind))
+
+pub due-append : (xs ys : List Sample) (a : Adapter) → dueFrames a (xs ++ ys) ≡ dueFrames a xs ++ dueFrames (adapterAfter a xs) ys
+due-append [] ys a = refl
+due-append (x ∷ xs) ys a =
+    let r = reaction a (eventOf x) in
+    ap (λ (l : List (List ℕ)). r .frames ++ l) (due-append xs ys (r .adapter))
+    ∙ sym (append-assoc (r .frames) (dueFrames (r .adapter) xs) (dueFrames (adapterAfter (r .adapter) xs) ys))
+
 -- ---- the bodies: ten bytes each
 
 abbrev pub Ten : List (List ℕ) → Type 0
@@ -86,16 +114,12 @@ ten-shape port r (interrupt b control trn ch err len d q) = (refl, tt)
 ten-one : (a : Adapter) (x : Sample) → Ten (reaction a (eventOf x) .frames)
 ten-one a x = ten-shape (a .link .port) _ (sample-shape a (x .levels) (x .kind))
 
-few-shape : (port : ℕ) (r : Reaction) → Shape port r → length (r .frames) ≤ 1
-few-shape port r (quiet b n z q) = omega arith
-few-shape port r (interrupt b control trn ch err len d q) = omega arith
-
 -- no more than there are samples
 pub few-due : (list : List Sample) (a : Adapter) → length (dueFrames a list) ≤ length list
 few-due [] a = omega arith
 few-due (x ∷ list) a =
     let r = reaction a (eventOf x) in
-    let one = few-shape (a .link .port) r (sample-shape a (x .levels) (x .kind)) in
+    let one = few (a .link .port) r (sample-shape a (x .levels) (x .kind)) in
     omega (arith, length-append (r .frames) (dueFrames (r .adapter) list), one, few-due list (r .adapter))
 
 pub ten-due : (list : List Sample) (a : Adapter) → Ten (dueFrames a list)

@@ -167,12 +167,12 @@ abbrev pub dueFrames : Adapter → List Sample → List (List ℕ)
 dueFrames a [] = []
 dueFrames a (x ∷ list) = let r = reaction a (eventOf x) in r .frames ++ dueFrames (r .adapter) list
 
--- a batch's answer, its frames one behind the other in the output
+-- a batch's answer, with the output's bytes
 abbrev pub batchGiven : Batch → List ℕ → Given
 batchGiven b output =
     record { number = b .number; port = b .port; length = b .length; frames = b .frames; sum = b .sum; output = output }
 
--- the one due to a batch: the active port's, for these frames
+-- "the one due" to a batch: the answer for these frames, on the active port, and the frames one behind the other in the output
 abbrev pub dueBatch : Adapter → List Sample → List ℕ → Given
 dueBatch a list output =
     let frames = dueFrames a list in

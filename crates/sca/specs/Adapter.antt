@@ -1,4 +1,5 @@
--- The adapter's calls as C and Rust programs link them: the call of crate `adapter`, with what it gives packed into one number.
+-- The adapter's calls as C and Rust programs link them: the call of crate `adapter`, or a batch of crate `batch`, with what it gives packed into one
+-- number.
 use Prim.Native.Nat.{ℕ, _+_, _*_}
 use mathlib.Core.Bool.{Bool, not}
 use mathlib.Core.List.{List}

@@ -1,4 +1,4 @@
-// What C and Rust link: every call on numbers and byte slices. include/sca.h is its manual.
+// What C and Rust programs link: every call on numbers, byte slices and, for a batch, a slice of sample structs, its result packed into one number.
 mod receiving;
 
 use adapter::Answer;

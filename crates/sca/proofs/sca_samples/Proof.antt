@@ -86,7 +86,7 @@ stayed = (
   ),
 )
 
--- a pass, and what the three slices that `step` is lent are at its end
+-- what the three slices that `step` is lent hold at its end
 abbrev Lasts : Type 0
 Lasts = List ℕ × (List ℕ × (List ℕ × (Unit {0} × (Unit {0} × (Unit {0} × Unit {0})))))
 
