@@ -412,6 +412,7 @@ fn main() {
     compare_transactions();
     let (ours, theirs) = (ready::<Ours>(), ready::<Theirs>());
     compare("step back", || steps_back(&ours), || steps_back(&theirs));
+    println!();
     println!("The library alone, as many samples by the batch and one by one. A ratio over 1: the batch is faster.");
     title("batch", "one by one", "one by one/batch");
     compare_with_single_calls();
