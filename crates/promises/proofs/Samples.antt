@@ -1,6 +1,6 @@
 -- SAMPLES GIVEN ONE BY ONE to a good state: what they leave, and the bodies that they send. Assumes nothing.
 use Prim.Native.Nat.{ℕ, _+_, _*_, _≤_, _<_, _^_}
-use mathlib.Core.Path.{_≡_, refl, sym, ap, _∙_}
+use mathlib.Core.Path.{_≡_, refl, sym, ap, ap₂, _∙_}
 use mathlib.Core.Bool.{Bool, true, false}
 use mathlib.Core.List.{List, [], _∷_, _++_, foldl, flatten, append-nil, append-assoc}
 use native.Mathlib.Nat.{mod-eq-of-lt}
@@ -136,8 +136,9 @@ bodies-front : (bodies : List (List ℕ)) (rest : List ℕ) → Ten bodies → b
 unfolding bodiesIn flatten
 bodies-front [] rest t = refl
 bodies-front (b ∷ bodies) rest t =
-    rw (append-assoc b (flatten bodies) rest, take-at b (flatten bodies ++ rest) 10 (t .0), drop-at b (flatten bodies ++ rest) 10 (t .0))
-    (ap (λ (l : List (List ℕ)). b ∷ l) (bodies-front bodies rest (t .1)))
+    let more : List ℕ = flatten bodies ++ rest in
+    rw (append-assoc b (flatten bodies) rest)
+    (ap₂ _∷_ (take-at b more 10 (t .0)) (ap (bodiesIn (length bodies)) (drop-at b more 10 (t .0)) ∙ bodies-front bodies rest (t .1)))
 
 pub bodies-back : (bodies : List (List ℕ)) (o : List ℕ) → Ten bodies → bodiesIn (length bodies) (put 0 (flatten bodies) o) ≡ bodies
 unfolding put
