@@ -15,13 +15,14 @@ test_proofs() {
 # A must-fail edit shows something only where a fact was refused. Where its first error says that the proof no longer fits
 # the code, any edit of that shape would be refused, a right one too.
 each_edit_shows_a_fact() {
+    unfit='has no field|that can be named from here|expected type .(tie\.Need|[^ ]*Lts\.Closed)|on the face .κs|no occurrence of the path'
     for edit in crates/*/must-fail/*.edit; do
         [ -f "$edit" ] || continue
         label=$(basename "$edit" .edit) crate=$(basename "$(dirname "$(dirname "$edit")")")
         log=target/must-fail/$crate/$label/.log
         if [ ! -f "$log" ]; then
             bad "$edit: it was not tried"
-        elif first_error "$log" | grep -qE 'has no field|that can be named from here|expected type .(tie\.Need|[^ ]*Lts\.Closed)|on the face .κs'; then
+        elif first_error "$log" | grep -qE "$unfit"; then
             bad "$edit: refused only because the proof no longer fits the code"
             first_error "$log" | head -n 3 | cut -c 1-300
         fi
