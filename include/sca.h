@@ -18,7 +18,8 @@
  *     The library keeps nothing: whatever lasts from call to call stands in
  *     bytes that the caller lends. It allocates nothing, opens nothing and
  *     holds no lock, so that calls on different buffers may run side by side.
- *     No call takes more than 768 bytes of stack.
+ *     No call takes more than 768 bytes of stack, arguments and return
+ *     address among them.
  *
  *     A buffer is a pointer and its length in bytes; a list of samples is a
  *     pointer and how many they are. A pointer whose length or count is 0 is not

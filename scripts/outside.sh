@@ -8,7 +8,7 @@ test_outside() {
     test_c link
     test_c adapter
     test_c guards
-    test_c stack
+    test_stack
     test_symbols
     step "build the crate" build_crate || return
     step "build the Rust tests" build_rust_tests || return
@@ -29,6 +29,14 @@ archive=target/staticlib/libsca.a
 test_c() {
     step "build tests/c/$1.c" c_build "$built/c_$1" "tests/c/$1.c" "$archive" && tally "C, $1" run "$built/c_$1"
 }
+
+# How much stack each call takes, by painting it and by its machine code, against the table of docs/STACK.md.
+test_stack() {
+    step "what the code takes of the stack" bounds_of_stack || return
+    step "build tests/c/stack.c" c_build "$built/c_stack" tests/c/stack.c "$archive" &&
+        tally "C, stack" run "$built/c_stack" docs/STACK.md "$logs/bounds"
+}
+bounds_of_stack() { c_code "$archive" >"$logs/code" && awk -f scripts/deepest.awk "$logs/code" >"$logs/bounds"; }
 
 # The archive has the calls that the header declares and no other name, and needs of the C library what the header says.
 test_symbols() {

@@ -8,10 +8,10 @@ built=target/outside
 probe=$built/probe
 
 if [ "$(uname -m)" = x86_64 ]; then
-    cc=cc nm=nm emulator=''
+    cc=cc nm=nm objdump=objdump emulator=''
     c_packages='gcc libc6-dev' rust_packages='rustc gcc libc6-dev'
 else
-    cc=x86_64-linux-gnu-gcc nm=x86_64-linux-gnu-nm emulator=qemu-x86_64
+    cc=x86_64-linux-gnu-gcc nm=x86_64-linux-gnu-nm objdump=x86_64-linux-gnu-objdump emulator=qemu-x86_64
     c_packages='gcc-x86-64-linux-gnu libc6-dev-amd64-cross qemu-user libc6:amd64'
     rust_packages="$c_packages rustc libstd-rust-dev:amd64 libgcc-s1:amd64"
 fi
@@ -38,6 +38,9 @@ c_build() {
 
 # c_names WORD..: nm, for what was built
 c_names() { "$nm" "$@"; }
+
+# c_code FILE: its machine code as text
+c_code() { "$objdump" -dr --no-show-raw-insn "$1"; }
 
 # rust_build WORD..: rustc for x86-64, with the libraries that were built before at hand.
 rust_build() {

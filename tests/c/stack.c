@@ -1,227 +1,416 @@
-/* How much stack each call takes, on a stack of its own that was painted before: the deepest byte that is no longer paint. */
-#define _XOPEN_SOURCE 700
+/*
+ * How much stack each call takes: it is made on a stack of its own that was painted before, and the deepest byte that is no longer paint tells.
+ *     stack TABLE BOUNDS    checks every call against docs/STACK.md and against what its machine code may take (scripts/deepest.awk)
+ *     stack                 prints the figures
+ */
+#include <stdarg.h>
 #include <stdint.h>
 #include <stdio.h>
 #include <string.h>
-#include <ucontext.h>
 
 #include "check.h"
 #include "sca.h"
 
-enum { STACK = 1 << 16, PAINT = 0xA5, MOST = 768 };
+enum { STACK = 1 << 14, MOST = 768, ANY = -1 };
 
-static uint8_t state[SCA_STATE_BYTES], journal[SCA_JOURNAL_BYTES], output[SCA_CABLE_MOST], receiver[SCA_RECEIVER_BYTES];
-static uint8_t batch_output[SCA_BATCH_LEAST];
+static uint8_t state[SCA_STATE_BYTES], journal[SCA_JOURNAL_BYTES], output[SCA_OUTPUT_LEAST], receiver[SCA_RECEIVER_BYTES];
+static uint8_t cable[SCA_CABLE_MOST], batch_output[SCA_BATCH_LEAST];
 static struct sca_pin_sample list[SCA_SAMPLES_MOST];
-static uint8_t cable[SCA_CABLE_MOST];
-static unsigned char stack[STACK];
-static ucontext_t here, there;
 
-static void frame(const uint8_t *body, size_t length) {
+/* ---- a call on the painted stack */
+
+/* Its arguments as the calling convention has them, a word each: six go in registers. */
+struct call {
+    void (*function)(void);
+    uint64_t words[12];
+    size_t many;
+};
+
+static struct call it;
+
+#define CALL(function, ...) \
+    (it = (struct call){(void (*)(void))(function), {__VA_ARGS__}, sizeof((uint64_t[]){__VA_ARGS__}) / sizeof(uint64_t)})
+#define LENT(buffer) (uint64_t)(uintptr_t)(buffer), sizeof(buffer)
+
+static size_t words_on_the_stack(void) { return it.many > 6 ? it.many - 6 : 0; }
+
+/*
+ * on_stack(top, function, words, more): calls the function with the stack pointer at top, the first six words in registers, the `more` words
+ * behind them on that stack.
+ */
+uint64_t on_stack(unsigned char *top, void (*function)(void), const uint64_t *words, size_t more);
+__asm__(".text\n"
+        ".type on_stack, @function\n"
+        "on_stack:\n"
+        "    push %rbp\n"
+        "    mov %rsp, %rbp\n"
+        "    mov %rdi, %rsp\n"
+        "    mov %rsi, %rax\n"
+        "    mov %rdx, %r10\n"
+        "1:  test %rcx, %rcx\n"
+        "    je 2f\n"
+        "    push 40(%r10, %rcx, 8)\n"
+        "    dec %rcx\n"
+        "    jmp 1b\n"
+        "2:  mov (%r10), %rdi\n"
+        "    mov 8(%r10), %rsi\n"
+        "    mov 16(%r10), %rdx\n"
+        "    mov 24(%r10), %rcx\n"
+        "    mov 32(%r10), %r8\n"
+        "    mov 40(%r10), %r9\n"
+        "    call *%rax\n"
+        "    mov %rbp, %rsp\n"
+        "    pop %rbp\n"
+        "    ret\n"
+        ".size on_stack, . - on_stack\n"
+        ".section .note.GNU-stack, \"\", @progbits\n"
+        ".text\n");
+
+static uint64_t result;
+
+/* The bytes of stack from the arguments on it down, by one paint: a byte written that has its colour goes unseen. */
+static size_t painted(int paint) {
+    static unsigned char stack[STACK] __attribute__((aligned(16)));
+    /* The convention wants the stack pointer at a multiple of 16 behind the arguments. */
+    unsigned char *top = stack + STACK - 64 - 8 * (words_on_the_stack() % 2);
+    size_t untouched = 0;
+    memset(stack, paint, sizeof stack);
+    result = on_stack(top, it.function, it.words, words_on_the_stack());
+    while (stack[untouched] == paint)
+        untouched++;
+    return (size_t)(top - (stack + untouched));
+}
+
+static size_t deepest_of(void (*prepare)(void)) {
+    size_t dark, light;
+    /* Once before, so that nothing of the C library is still to be found. */
+    prepare();
+    painted(0xA5);
+    prepare();
+    dark = painted(0xA5);
+    prepare();
+    light = painted(0x5A);
+    return dark > light ? dark : light;
+}
+
+/* ---- states */
+
+static void send(const uint8_t *body, size_t length) {
     sca_frame(state, sizeof state, journal, sizeof journal, SCA_PRIMARY, body, length, output, sizeof output);
 }
 
-/* ---- what each call is handed */
+/* The number that the next request has to have. */
+static uint8_t number;
+
+/* D goes out as D[23:16], D[31:24], D[7:0], D[15:8]. */
+static size_t request_body(uint8_t *to, uint8_t channel, uint8_t length, uint8_t command, uint32_t data) {
+    to[0] = 0x00, to[1] = (uint8_t)(number << 1), to[2] = 0x01, to[3] = channel, to[4] = length, to[5] = command;
+    to[6] = (uint8_t)(data >> 16), to[7] = (uint8_t)(data >> 24), to[8] = (uint8_t)data, to[9] = (uint8_t)(data >> 8);
+    return 10;
+}
+
+static void request(uint8_t channel, uint8_t length, uint8_t command, uint32_t data) {
+    uint8_t next[SCA_BODY_MOST];
+    send(next, request_body(next, channel, length, command, data));
+    number = (number + 1) % 8;
+}
 
 static void fresh(void) {
     sca_create(state, sizeof state, 0x00000A);
     sca_empty(journal, sizeof journal);
+    number = 0;
 }
 
-static void enabled(void) {
-    static const uint8_t crb[] = {0x00, 0x00, 0x01, 0x00, 0x04, 0x02, 0x00, 0x06, 0x00, 0x00};
-    fresh();
-    frame(crb, sizeof crb);
-}
-
+/* All channels on, SPI and all masters at work; every line interrupts on rising; the journal is full. */
 static void busy(void) {
-    static const uint8_t go[] = {0x00, 0x02, 0x02, 0x01, 0x02, 0x72, 0x00, 0x00, 0x00, 0x00};
-    enabled();
-    frame(go, sizeof go);
-}
-
-static void requests(const uint8_t bodies[3][10]) {
-    for (size_t at = 0; at < 3; at++) frame(bodies[at], 10);
-}
-
-/* INTSEL, INTTRIG, INTENABLE: all lines interrupt on rising. */
-static void waiting(void) {
-    static const uint8_t bodies[3][10] = {{0x00, 0x02, 0x02, 0x02, 0x04, 0x30, 0xFF, 0xFF, 0xFF, 0xFF},
-                                          {0x00, 0x04, 0x03, 0x02, 0x04, 0x40, 0xFF, 0xFF, 0xFF, 0xFF},
-                                          {0x00, 0x06, 0x04, 0x02, 0x04, 0x60, 0x00, 0x00, 0x01, 0x00}};
-    enabled();
-    requests(bodies);
-}
-
-/* The journal is full, all masters are on, and of a batch of 256 samples every one interrupts: at each, one line falls and another rises. */
-static void probing(void) {
-    static const uint8_t bodies[3][10] = {{0x00, 0x08, 0x05, 0x00, 0x04, 0x02, 0x00, 0xFE, 0x00, 0x00},
-                                          {0x00, 0x0A, 0x06, 0x00, 0x04, 0x04, 0x00, 0xFF, 0x00, 0x00},
-                                          {0x00, 0x0C, 0x07, 0x00, 0x04, 0x06, 0x00, 0x1F, 0x00, 0x00}};
-    waiting();
-    requests(bodies);
+    fresh();
+    request(0x00, 4, 0x02, 0xFE000000);
+    request(0x00, 4, 0x04, 0xFF000000);
+    request(0x00, 4, 0x06, 0x1F000000);
+    request(0x01, 2, 0x72, 0);
+    for (uint8_t master = 0x03; master <= 0x12; master++) {
+        request(master, 1, 0x30, 0x40000000);
+        request(master, 4, 0xDE, 0x50000000);
+    }
+    request(0x02, 4, 0x30, 0xFFFFFFFF);
+    request(0x02, 4, 0x40, 0xFFFFFFFF);
+    request(0x02, 4, 0x60, 0x00000001);
     while (sca_kept_in(sca_kept(journal, sizeof journal)) < SCA_KEPT_MOST)
         sca_upset(state, sizeof state, journal, sizeof journal, output, sizeof output);
-    for (size_t at = 0; at < SCA_SAMPLES_MOST; at++) list[at].levels = at % 2 + 1, list[at].kind = SCA_SYSTEM_CLOCK;
 }
 
-/* The last kind of the batch is wrong. */
-static void misprobing(void) {
-    probing();
-    list[SCA_SAMPLES_MOST - 1].kind = SCA_STROBE_FALLING + 1;
+/* ---- the ways: what stands ready, and the call. In `busy` 6 looks at the open start of every master. */
+
+#define ADAPTER LENT(state), LENT(journal)
+
+static void version(void) { CALL(sca_version, 0); it.many = 0; }
+
+static void create(void) { CALL(sca_create, LENT(state), 0x00000A); }
+
+static void empty(void) { CALL(sca_empty, LENT(journal)); }
+
+static void kept(void) { CALL(sca_kept, LENT(journal)); }
+
+static uint8_t body[SCA_BODY_MOST];
+static size_t body_length;
+
+static void frame(void) { CALL(sca_frame, ADAPTER, SCA_PRIMARY, (uint64_t)(uintptr_t)body, body_length, LENT(output)); }
+
+static void frame_with(uint8_t channel, uint8_t length, uint8_t command, uint32_t data) {
+    busy();
+    body_length = request_body(body, channel, length, command, data);
+    frame();
 }
 
-/* The lines are disabled. */
-static void unwatched(void) {
-    probing();
-    fresh();
+static void disabling_crb(void) { frame_with(0x00, 4, 0x02, 0); }
+
+static void disabling_crc(void) { frame_with(0x00, 4, 0x04, 0); }
+
+static void disabling_crd(void) { frame_with(0x00, 4, 0x06, 0); }
+
+static void writing_data(void) { frame_with(0x02, 4, 0x10, 0x12345678); }
+
+static void starting(void) {
+    frame_with(0x08, 4, 0x86, 0x50000000);
+    /* The master is at rest. */
+    sca_i2c_completion(state, sizeof state, journal, sizeof journal, 0x08, 1, 0, NULL, 0, output, sizeof output);
 }
 
-/* All masters of CRC on; a read of 16 bytes is open. */
-static void transacting(void) {
-    static const uint8_t bodies[3][10] = {{0x00, 0x00, 0x01, 0x00, 0x04, 0x04, 0x00, 0xFF, 0x00, 0x00},
-                                          {0x00, 0x02, 0x02, 0x0F, 0x01, 0x30, 0x00, 0x40, 0x00, 0x00},
-                                          {0x00, 0x04, 0x03, 0x0F, 0x04, 0xDE, 0x00, 0x50, 0x00, 0x00}};
-    fresh();
-    requests(bodies);
+static void unknown_channel(void) { frame_with(0x20, 1, 0x00, 0); }
+
+static void resetting(void) {
+    busy();
+    body[0] = 0x00, body[1] = 0x8F, body_length = 2;
+    frame();
 }
 
-/* A link number of the newest record is out of range. */
-static void damaged(void) {
-    enabled();
-    journal[1024 + 1] = 0xFF;
+static void out_of_order(void) {
+    frame_with(0x00, 1, 0x03, 0);
+    body[1] ^= 0x02;
 }
 
-static void hunting(void) {
-    static const uint8_t body[SCA_BODY_MOST];
-    sca_transmit(body, sizeof body, cable, sizeof cable);
-    sca_receiver_new(receiver, sizeof receiver);
-}
-
-/* ---- the calls */
-
-static void create(void) { sca_create(state, sizeof state, 0x00000A); }
-
-static void empty(void) { sca_empty(journal, sizeof journal); }
-
-static void kept(void) { sca_kept(journal, sizeof journal); }
-
-/* Both channels are disabled: their registers are filled with zeros. */
-static void write_crb(void) {
-    static const uint8_t body[] = {0x00, 0x02, 0x02, 0x00, 0x04, 0x02, 0x00, 0x00, 0x00, 0x00};
-    frame(body, sizeof body);
-}
-
-static void write_data(void) {
-    static const uint8_t body[] = {0x00, 0x02, 0x02, 0x01, 0x06, 0x00, 0x34, 0x12, 0x78, 0x56};
-    frame(body, sizeof body);
-}
-
-/* Eight masters are disabled, one of them busy. */
-static void write_crc(void) {
-    static const uint8_t body[] = {0x00, 0x06, 0x04, 0x00, 0x04, 0x04, 0x00, 0x00, 0x00, 0x00};
-    frame(body, sizeof body);
-}
-
-static void start_i2c(void) {
-    static const uint8_t body[] = {0x00, 0x06, 0x04, 0x08, 0x04, 0x86, 0x00, 0x50, 0x00, 0x00};
-    frame(body, sizeof body);
-}
-
-static void reset(void) {
-    static const uint8_t body[] = {0x00, 0x8F};
-    frame(body, sizeof body);
+/* The longest body, sent back by a port in loopback. */
+static void looping(void) {
+    static const uint8_t test[] = {0x00, 0xE3};
+    busy();
+    send(test, sizeof test);
+    memset(body, 0, sizeof body);
+    body_length = sizeof body;
+    frame();
 }
 
 static void completion(void) {
     static const uint8_t received[SCA_TRANSFER_BYTES];
-    sca_completion(state, sizeof state, journal, sizeof journal, received, sizeof received, output, sizeof output);
+    busy();
+    CALL(sca_completion, ADAPTER, LENT(received), LENT(output));
 }
 
 static void i2c_completion(void) {
     static const uint8_t received[SCA_I2C_MOST];
-    sca_i2c_completion(state, sizeof state, journal, sizeof journal, 0x0F, 1, 0, received, sizeof received, output, sizeof output);
+    busy();
+    CALL(sca_i2c_completion, ADAPTER, 0x0F, 1, 0, LENT(received), LENT(output));
 }
 
-static void transacted(void) {
-    transacting();
+static void interrupting(void) {
+    busy();
+    CALL(sca_sample, ADAPTER, 1, SCA_SYSTEM_CLOCK, LENT(output));
+}
+
+static void unwatched(void) {
+    busy();
+    request(0x00, 4, 0x02, 0xFA000000);
+    CALL(sca_sample, ADAPTER, 1, SCA_SYSTEM_CLOCK, LENT(output));
+}
+
+/* At each sample one line falls and another rises: every one interrupts. */
+static void batch(void) {
+    busy();
+    for (size_t at = 0; at < SCA_SAMPLES_MOST; at++) list[at].levels = at % 2 + 1, list[at].kind = SCA_SYSTEM_CLOCK;
+    CALL(sca_samples, ADAPTER, (uint64_t)(uintptr_t)list, SCA_SAMPLES_MOST, LENT(batch_output));
+}
+
+static void wrong_batch(void) {
+    batch();
+    list[SCA_SAMPLES_MOST - 1].kind = SCA_STROBE_FALLING + 1;
+}
+
+static void upset(void) {
+    busy();
+    CALL(sca_upset, ADAPTER, LENT(output));
+}
+
+static void back(void) {
+    busy();
+    CALL(sca_step_back, ADAPTER);
+}
+
+static void back_over_crc(void) {
+    disabling_crc();
+    send(body, body_length);
+    CALL(sca_step_back, ADAPTER);
+}
+
+static void back_over_completion(void) {
     i2c_completion();
+    sca_i2c_completion(state, sizeof state, journal, sizeof journal, 0x0F, 1, 0, NULL, 0, output, sizeof output);
+    CALL(sca_step_back, ADAPTER);
 }
 
-static void sample(void) { sca_sample(state, sizeof state, journal, sizeof journal, 1, 0, output, sizeof output); }
-
-static uint64_t batch;
-
-static void samples(void) {
-    batch = sca_samples(state, sizeof state, journal, sizeof journal, list, SCA_SAMPLES_MOST, batch_output, sizeof batch_output);
+/* The newest record's second byte, the send number, is out of range. */
+static void back_damaged(void) {
+    back();
+    journal[1024 + 256 * ((journal[5] + journal[6] - 1) % SCA_KEPT_MOST) + 1] = 0xFF;
 }
 
-static void upset(void) { sca_upset(state, sizeof state, journal, sizeof journal, output, sizeof output); }
-
-static void step_back(void) { sca_step_back(state, sizeof state, journal, sizeof journal); }
+static void receiver_new(void) { CALL(sca_receiver_new, LENT(receiver)); }
 
 static void transmit(void) {
-    static const uint8_t body[SCA_BODY_MOST];
+    memset(body, 0xFF, sizeof body);
+    CALL(sca_transmit, LENT(body), LENT(cable));
+}
+
+static void receive(void) {
+    memset(cable, 0xFF, sizeof cable);
     sca_transmit(body, sizeof body, cable, sizeof cable);
+    sca_receiver_new(receiver, sizeof receiver);
+    CALL(sca_receive, LENT(receiver), LENT(cable), 0, LENT(output));
 }
 
-static void receive(void) { sca_receive(receiver, sizeof receiver, cable, sizeof cable, 0, output, sizeof output); }
-
-/* ---- */
-
-static void (*call)(void);
-static size_t took;
-
-/* On the painted stack. Looks before anything else is called: the way back takes some stack of its own. */
-static void measured(void) {
-    volatile unsigned char top = 0;
-    size_t untouched = 0;
-    call();
-    while (stack[untouched] == PAINT)
-        untouched++;
-    took = (size_t)((const volatile unsigned char *)&top - (stack + untouched));
+static void receive_aborted(void) {
+    receive();
+    memset(cable + 8, 0xFF, sizeof cable - 8);
 }
 
-static void flat(void (*prepare)(void), void (*function)(void), const char *name) {
-    static char text[120];
-    /* Once before, so that nothing of the C library is still to be found. */
-    prepare();
-    function();
-    prepare();
-    call = function;
-    memset(stack, PAINT, sizeof stack);
-    getcontext(&there);
-    there.uc_stack.ss_sp = stack;
-    there.uc_stack.ss_size = sizeof stack;
-    there.uc_link = &here;
-    makecontext(&there, measured, 0);
-    swapcontext(&here, &there);
-    snprintf(text, sizeof text, "%s takes %zu bytes of stack, at most %d", name, took, MOST);
-    check(took <= MOST, text);
+static const struct way {
+    const char *call, *what;
+    void (*prepare)(void);
+    /* What it must give, so that it is known to go this way. */
+    int number;
+} ways[] = {
+    {"sca_version", "the version", version, ANY},
+    {"sca_transmit", "the longest body, all ones", transmit, SCA_HAS_FRAME},
+    {"sca_receiver_new", "a new receiver", receiver_new, SCA_NO_FRAME},
+    {"sca_receive", "the longest body", receive, SCA_HAS_FRAME},
+    {"sca_receive", "a frame that is broken off", receive_aborted, SCA_ABORTED},
+    {"sca_create", "a new adapter", create, SCA_NO_FRAME},
+    {"sca_empty", "a full journal", empty, SCA_NO_FRAME},
+    {"sca_kept", "a full journal", kept, SCA_NO_FRAME},
+    {"sca_frame", "CRB disables SPI, GPIO and five masters", disabling_crb, SCA_HAS_FRAME},
+    {"sca_frame", "CRC disables eight masters", disabling_crc, SCA_HAS_FRAME},
+    {"sca_frame", "CRD disables three masters", disabling_crd, SCA_HAS_FRAME},
+    {"sca_frame", "a register is written", writing_data, SCA_HAS_FRAME},
+    {"sca_frame", "a master is started", starting, SCA_NO_FRAME},
+    {"sca_frame", "an unknown channel", unknown_channel, SCA_HAS_FRAME},
+    {"sca_frame", "RESET", resetting, SCA_HAS_FRAME},
+    {"sca_frame", "SREJ", out_of_order, SCA_HAS_FRAME},
+    {"sca_frame", "the longest body sent back", looping, SCA_HAS_FRAME},
+    {"sca_completion", "a transfer ends", completion, SCA_HAS_FRAME},
+    {"sca_i2c_completion", "a read of 16 bytes ends", i2c_completion, SCA_HAS_FRAME},
+    {"sca_sample", "an interrupt", interrupting, SCA_HAS_FRAME},
+    {"sca_sample", "the lines are disabled", unwatched, SCA_LINES_DISABLED},
+    {"sca_samples", "256 interrupts", batch, SCA_HAS_FRAME},
+    {"sca_samples", "the last kind is wrong", wrong_batch, SCA_BAD_ARGUMENT},
+    {"sca_upset", "an upset", upset, SCA_NO_FRAME},
+    {"sca_step_back", "over an upset", back, SCA_NO_FRAME},
+    {"sca_step_back", "over a write of CRC", back_over_crc, SCA_NO_FRAME},
+    {"sca_step_back", "over an I2C completion", back_over_completion, SCA_NO_FRAME},
+    {"sca_step_back", "over a damaged record", back_damaged, SCA_BAD_JOURNAL},
+};
+
+enum { WAYS = sizeof ways / sizeof ways[0], CALLS = 32 };
+
+/* ---- each call: the deepest of its ways, its row of the table, and what its machine code may take */
+
+static struct figure {
+    char call[32];
+    /* Bytes of arguments on the stack; below them, in all; of the table the same. */
+    size_t arguments, most, row_arguments, row_below, row_all, bound;
+    int measured, rows, bounds;
+} figures[CALLS];
+
+/* The last place is for whatever there is no room for, and fails. */
+static struct figure *figure_of(const char *call) {
+    size_t at = 0;
+    while (at < CALLS - 2 && figures[at].call[0] && strcmp(figures[at].call, call) != 0)
+        at++;
+    snprintf(figures[at].call, sizeof figures[at].call, "%s", call);
+    return &figures[at];
 }
 
-int main(void) {
-    flat(fresh, create, "sca_create");
-    flat(fresh, empty, "sca_empty");
-    flat(fresh, kept, "sca_kept");
-    flat(enabled, write_crb, "sca_frame with a write of CRB");
-    flat(enabled, write_data, "sca_frame with a write of DATA");
-    flat(enabled, reset, "sca_frame with a RESET");
-    flat(transacting, write_crc, "sca_frame with a write of CRC");
-    flat(transacting, start_i2c, "sca_frame with an I2C start");
-    flat(busy, completion, "sca_completion");
-    flat(transacting, i2c_completion, "sca_i2c_completion");
-    flat(waiting, sample, "sca_sample with an interrupt");
-    check(output[2] == 0xFF, "it was sent");
-    flat(probing, samples, "sca_samples with 256 interrupts");
-    check(sca_frames(batch) == SCA_SAMPLES_MOST && sca_kept_in(sca_kept(journal, sizeof journal)) == SCA_KEPT_MOST, "all were sent");
-    flat(unwatched, samples, "sca_samples with GPIO disabled");
-    flat(misprobing, samples, "sca_samples refused for its last kind");
-    flat(fresh, upset, "sca_upset");
-    flat(enabled, step_back, "sca_step_back");
-    flat(transacted, step_back, "sca_step_back over an I2C completion");
-    flat(damaged, step_back, "sca_step_back over a damaged record");
-    flat(fresh, transmit, "sca_transmit");
-    flat(hunting, receive, "sca_receive");
+static size_t took[WAYS];
+
+static void check_that(int holds, const char *format, ...) {
+    char text[200];
+    va_list words;
+    va_start(words, format);
+    vsnprintf(text, sizeof text, format, words);
+    va_end(words);
+    check(holds, text);
+}
+
+static void measure(void) {
+    for (size_t at = 0; at < WAYS; at++) {
+        struct figure *figure = figure_of(ways[at].call);
+        took[at] = deepest_of(ways[at].prepare);
+        figure->arguments = 8 * words_on_the_stack();
+        figure->measured++;
+        if (took[at] > figure->most) figure->most = took[at];
+        if (ways[at].number != ANY && (int)sca_number(result) != ways[at].number) check_that(0, "%s, %s: it goes this way", ways[at].call, ways[at].what);
+    }
+}
+
+/* Rows '| `sca_..` | arguments | below | in all | ..', and lines 'sca_.. bytes'. */
+static int read_file(const char *name, int rows) {
+    char line[512], call[32];
+    FILE *file = fopen(name, "r");
+    if (!file) return 0;
+    while (fgets(line, sizeof line, file)) {
+        size_t arguments, below, all;
+        if (rows && sscanf(line, "| `%31[a-z0-9_]` | %zu | %zu | %zu |", call, &arguments, &below, &all) == 4) {
+            struct figure *figure = figure_of(call);
+            figure->rows++, figure->row_arguments = arguments, figure->row_below = below, figure->row_all = all;
+        }
+        if (!rows && sscanf(line, "%31[a-z0-9_] %zu", call, &below) == 2) {
+            struct figure *figure = figure_of(call);
+            figure->bounds++, figure->bound = below;
+        }
+    }
+    return fclose(file) == 0;
+}
+
+static void check_all(void) {
+    for (size_t at = 0; at < WAYS; at++) {
+        size_t row = figure_of(ways[at].call)->row_all;
+        check_that(took[at] <= row, "%s, %s: %zu bytes, %zu in the table", ways[at].call, ways[at].what, took[at], row);
+    }
+    for (size_t at = 0; figures[at].call[0]; at++) {
+        const struct figure *f = &figures[at];
+        check_that(f->bounds == 1 && f->rows == 1 && f->measured > 0, "%s: in the archive, in the table and measured", f->call);
+        check_that(f->row_arguments == f->arguments && f->row_arguments + f->row_below == f->row_all && f->row_all <= MOST,
+                   "%s: its row has %zu bytes of arguments, adds up, and says at most %d", f->call, f->arguments, MOST);
+        check_that(f->bound <= f->row_below, "%s: no way through its code takes more than %zu below them, %zu in the table", f->call, f->bound, f->row_below);
+        check_that(f->most == f->arguments + f->bound, "%s: one of the ways takes all of it", f->call);
+    }
+}
+
+static void print_all(void) {
+    printf("%-20s %10s %6s  %s\n", "bytes of stack", "arguments", "in all", "of these ways the deepest");
+    for (size_t at = 0; figures[at].call[0]; at++) {
+        size_t way = 0;
+        while (strcmp(ways[way].call, figures[at].call) != 0 || took[way] != figures[at].most)
+            way++;
+        printf("%-20s %10zu %6zu  %s\n", figures[at].call, figures[at].arguments, figures[at].most, ways[way].what);
+    }
+}
+
+int main(int count, char **words) {
+    measure();
+    if (count != 3) {
+        print_all();
+    } else if (read_file(words[1], 1) && read_file(words[2], 0)) {
+        check_all();
+    } else {
+        check(0, "the table and the bounds can be read");
+    }
     return failures != 0;
 }

@@ -259,10 +259,18 @@ module _ (s j : List ℕ) where
           by true = refl
           by false = refl
 
-module _ (s j t : List ℕ) (x : Bool) (judged : x ≡ sound s (past j 0)) (tried : t ≡ cond x (restored s (past j 0)) s) where
-  pub back-damaged : x ≡ false → stepped 4 t j ≡ cond (sound s (past j 0)) (stepped 17 (restored s (past j 0)) (lowered j)) (stepped 4 s j)
-  back-damaged d = rw (← judged, tried, d) refl
+-- a record tried, from a journal that stays as it is
+module _ (j i : List ℕ) (same : i ≡ j) where
+  pub still-formed : wellFormed j ≡ true → wellFormed i ≡ true
+  still-formed h = rw same h
 
-  pub back-restored : (k : List ℕ) → x ≡ true → k ≡ lowered j
-      → stepped 17 t k ≡ cond (sound s (past j 0)) (stepped 17 (restored s (past j 0)) (lowered j)) (stepped 4 s j)
-  back-restored k d f = rw (← judged, tried, d, f) refl
+  pub still-kept : 0 < keptOf j → 0 < keptOf i
+  still-kept h = rw same h
+
+  module _ (s t : List ℕ) (x : Bool) (judged : x ≡ sound s (past j 0)) (tried : t ≡ cond x (restored s (past j 0)) s) where
+    pub back-damaged : x ≡ false → stepped 4 t i ≡ cond (sound s (past j 0)) (stepped 17 (restored s (past j 0)) (lowered j)) (stepped 4 s j)
+    back-damaged d = rw (← judged, tried, d, same) refl
+
+    pub back-restored : (k : List ℕ) → x ≡ true → k ≡ lowered i
+        → stepped 17 t k ≡ cond (sound s (past j 0)) (stepped 17 (restored s (past j 0)) (lowered j)) (stepped 4 s j)
+    back-restored k d f = rw (← judged, tried, d, f, same) refl

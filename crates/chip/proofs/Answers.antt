@@ -6,7 +6,7 @@ use lib.ListN.{length}
 use Rattle.commands.specs.declared.request.Request.{Request}
 use Rattle.commands.specs.declared.request.Reply.{Reply}
 use Rattle.commands.specs.declared.request.Reply.the-variants.{Sent, Later}
-use Rattle.numbers.specs.Numbers.{noFrame}
+use Rattle.numbers.specs.Numbers.{noFrame, replyBytes}
 use Rattle.parts.specs.Parts.{put}
 use Rattle.packets.specs.Packets.{requestOf, replyBody}
 use Rattle.channels.specs.Perform as channels
@@ -24,12 +24,12 @@ pub laid-out : (l : Link) (port : ℕ) (s o p rs : List ℕ) (r : Response) → 
 laid-out l port s o p rs r e f = rw (e, f) refl
 
 module _ (l : Link) (trn ch err len d : ℕ) (o p : List ℕ) (r : Response) where
-  pub replied : (m : Link) (k : ℕ) (s : List ℕ) → m ≡ sendUp l → k ≡ replyControl l → s ≡ replyBody k trn ch err len d
-      → r ≡ sent m (l .port) (length s) → p ≡ put 0 s o → (rs : List ℕ) → said r rs p ≡ says (replies (adapter l rs) trn ch err len d) o
+  pub replied : (m : Link) (k : ℕ) → m ≡ sendUp l → k ≡ replyControl l → r ≡ sent m (l .port) replyBytes → p ≡ put 0 (replyBody k trn ch err len d) o
+      → (rs : List ℕ) → said r rs p ≡ says (replies (adapter l rs) trn ch err len d) o
   unfolding replies
-  replied m k s f g b e w rs =
-      laid-out m (l .port) s o p rs r e w ∙ ap₂ (λ (n : Link) (t : List ℕ). says (sends (adapter n rs) (l .port) t) o) f
-      (b ∙ ap (λ (c : ℕ). replyBody c trn ch err len d) g)
+  replied m k f g e w rs =
+      laid-out m (l .port) (replyBody k trn ch err len d) o p rs r e w
+      ∙ ap₂ (λ (n : Link) (c : ℕ). says (sends (adapter n rs) (l .port) (replyBody c trn ch err len d)) o) f g
 
 module _ (l : Link) (trn ch : ℕ) (t : Reply) (o : List ℕ) (r : Response) where
   pub told : (p : List ℕ) (err len d : ℕ) → t ≡ Sent err len d

@@ -30,6 +30,9 @@ const TEST_POLL: u8 = 0xF3;
 // Bit 0 of a control that carries no request.
 const UNNUMBERED: u8 = 0x01;
 
+// Bytes of a frame's body that has no information: address and control.
+const NO_INFORMATION: usize = 2;
+
 // Bytes of a request's information.
 const INFORMATION: usize = 8;
 
@@ -83,8 +86,8 @@ fn acknowledge(link: Link, port: u8, control: u8, output: &mut [u8]) -> Response
     requires { ⌜ outputLeast ≤ length (now output) ⌝ }
     ensures { λ r. ⌜ ((rs : List ℕ) → said r rs (now (output .exit)) ≡ says (acknowledges (adapter link rs) port control) (now (output .entry))) ⌝ }
 {
-    let body = [packets::ADDRESS, link::acknowledge_control(control)];
-    answer::send(link, port, &body, output)
+    packets::put_control(output, link::acknowledge_control(control));
+    answer::send(link, port, NO_INFORMATION)
 }
 
 // A command that leaves another link, unless it carries information. The registers stay.
@@ -133,8 +136,8 @@ fn in_order(
     if link::number_in(control) == link::receive_number(link) {
         request::request(link::receive_up(link), registers, info, output)
     } else {
-        let reject = [packets::ADDRESS, link::reject_control(link)];
-        answer::send(link, port, &reject, output)
+        packets::put_control(output, link::reject_control(link));
+        answer::send(link, port, NO_INFORMATION)
     }
 }
 
@@ -146,7 +149,8 @@ fn carry(link: Link, registers: &mut [u8], port: u8, body: &[u8], output: &mut [
     ensures { λ r. ⌜ said r (now (registers .exit)) (now (output .exit)) ≡ says (carried (adapter link (now (registers .entry))) port (now (body .entry))) (now (output .entry)) ⌝ }
 {
     if link::in_loopback(link, port) {
-        return answer::send(link, port, body, output);
+        parts::store(output, 0, body);
+        return answer::send(link, port, body.len());
     }
     if port != link.port {
         return answer::give(link, numbers::OTHER_PORT);

@@ -26,8 +26,8 @@ pub(crate) fn reply(
     requires { ⌜ replyBytes ≤ length (now output) ⌝ }
     ensures { λ r. ⌜ ((rs : List ℕ) → said r rs (now (output .exit)) ≡ says (replies (adapter link rs) trn ch err len value) (now (output .entry))) ⌝ }
 {
-    let body = packets::reply_body(link::reply_control(link), trn, ch, err, len, value);
-    answer::send(link::send_up(link), link.port, &body, output)
+    packets::put_reply(output, link::reply_control(link), trn, ch, err, len, value);
+    answer::send(link::send_up(link), link.port, numbers::REPLY_BYTES)
 }
 
 // A reply that is sent, or none yet.

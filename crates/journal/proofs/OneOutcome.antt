@@ -22,11 +22,13 @@ pub keep-one : One 2 this.keep.Kinds.ps this.keep.Kinds.r this.keep.Reads.Post (
 keep-one κs a x y s t p q = p ∙ sym q
 
 -- the state is chosen by what is given
-pub restore-one : One {B = Bool × List ℕ} 2 this.restore.Kinds.ps this.restore.Kinds.r this.restore.Reads.Post (λ κs x s. (x, now (s .1 .0)))
+pub restore-one : One {B = Bool × List ℕ × List ℕ} 2 this.restore.Kinds.ps this.restore.Kinds.r this.restore.Reads.Post
+    (λ κs x s. (x, now (s .1 .0), now (s .0)))
 restore-one κs a x y s t p q =
     let same = p .0 ∙ sym (q .0) in
-    ap₂ (λ (b : Bool) (l : List ℕ). (b, l)) same
-    (p .1 ∙ ap (λ (b : Bool). cond b (restored (now (a .1 .0)) (past (now (a .0)) 0)) (now (a .1 .0))) same ∙ sym (q .1))
+    let state =
+    p .1 ∙ ap (λ (b : Bool). cond b (restored (now (a .1 .0)) (past (now (a .0)) 0)) (now (a .1 .0))) same ∙ sym (q .1) in
+    ap₂ (λ (b : Bool) (l : List ℕ × List ℕ). (b, l .0, l .1)) same (ap₂ (λ (l m : List ℕ). (l, m)) state (p .2 ∙ sym (q .2)))
 
 pub lower-one : One 1 this.lower.Kinds.ps this.lower.Kinds.r this.lower.Reads.Post (λ κs x s. now (s .0))
 lower-one κs a x y s t p q = p ∙ sym q

@@ -1,10 +1,12 @@
--- Two pieces of one list of bytes over those of another that is the same elsewhere: the first list. Assumes nothing.
-use Prim.Native.Nat.{ℕ, _+_, _≤_}
+-- Two pieces of one list of bytes over those of another that is the same elsewhere: the first list. What a lent part that has come back leaves.
+-- Assumes nothing.
+use Prim.Native.Nat.{ℕ, _+_, _-_, _≤_}
 use mathlib.Core.Path.{_≡_, sym, ap, _∙_}
-use mathlib.Core.List.{List, _++_}
+use mathlib.Core.List.{List, _++_, append-assoc}
 use native.Mathlib.Omega.{arith}
-use lib.ListN.{length, take, drop}
-use lib.Seq.{take-add, take-all, drop-drop}
+use borrow.Rule.Slice.PartMut.{putMid}
+use lib.ListN.{length, take, drop, length-drop, take-append-drop}
+use lib.Seq.{take-add, take-all, drop-drop, drop-append-le, length-take-le}
 use Rattle.parts.specs.Parts.{part, put}
 use Rattle.parts.proofs.Laws.{length-part, length-put, part-put-before, part-put-after, part-put-same}
 
@@ -12,13 +14,32 @@ front : (n : ℕ) (d : List ℕ) → length d ≤ n → part 0 n d ≡ d
 unfolding part
 front n d h = take-all n d h
 
-joined : (d : List ℕ) (p k n : ℕ) → part p k d ++ part (p + k) n d ≡ part p (k + n) d
+pub joined : (d : List ℕ) (p k n : ℕ) → part p k d ++ part (p + k) n d ≡ part p (k + n) d
 unfolding part
 joined d p k n = ap (λ (l : List ℕ). take k (drop p d) ++ take n l) (sym (drop-drop k p d)) ∙ sym (take-add k n (drop p d))
 
-joined-front : (d : List ℕ) (k n : ℕ) → part 0 k d ++ part k n d ≡ part 0 (k + n) d
+pub joined-front : (d : List ℕ) (k n : ℕ) → part 0 k d ++ part k n d ≡ part 0 (k + n) d
 unfolding part
 joined-front d k n = sym (take-add k n d)
+
+-- a lent part that has come back as it was
+pub came-back : (a n : ℕ) (j x : List ℕ) → x ≡ take n (drop a j) → putMid a n j x ≡ j
+came-back a n j x e = rw e (ap (λ (l : List ℕ). take a j ++ l) (take-append-drop n (drop a j)) ∙ take-append-drop a j)
+
+-- one with bytes put at its front
+pub front-written : (a n : ℕ) (j r x : List ℕ) → a + n ≤ length j → length r ≤ n → x ≡ put 0 r (take (a + n - a) (drop a j))
+    → putMid a (a + n - a) j x ≡ put a r j
+unfolding put
+front-written a n j r x h l e =
+    let m : a + n - a ≡ n = omega arith in
+    let z : 0 + length r ≡ length r = omega arith in
+    let d : List ℕ = drop a j in
+    let k : length (take n d) ≡ n = length-take-le n d (simp length-drop (omega arith)) in
+    rw (e, m, z)
+    (ap (λ (q : List ℕ). take a j ++ q)
+    (append-assoc r (drop (length r) (take n d)) (drop n d)
+    ∙ ap (λ (q : List ℕ). r ++ q)
+    (sym (drop-append-le (length r) (take n d) (drop n d) (omega arith)) ∙ ap (drop (length r)) (take-append-drop n d) ∙ drop-drop (length r) a j)))
 
 module _ (c x m y : ℕ) where
   abbrev inPieces : List ℕ → List ℕ

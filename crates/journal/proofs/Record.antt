@@ -9,11 +9,12 @@ use mathlib.Core.Logic.{inl, inr}
 use native.Mathlib.Omega.{arith}
 use borrow.Author.Tests.{leb-true, le-leb, lt-leb}
 use lib.Dec.{leb, lit≤, lit<}
-use lib.ListN.{length, take, drop, getD, length-append, length-take}
-use lib.Seq.{take-at, drop-at, drop-append-add, getD-take, length-take-le}
+use lib.ListN.{length, take, drop, getD, set, length-append, length-take, length-drop, take-append-drop}
+use lib.Seq.{take-add, take-at, drop-at, drop-append-add, getD-take, length-take-le}
+use borrow.Rule.Slice.PartMut.{putMid}
 use Rattle.bits.proofs.Rows.{none-of}
 use Rattle.parts.specs.Parts.{part, put}
-use Rattle.parts.proofs.Laws.{Apart, length-part, length-put, part-put-after, part-put-apart, part-part, put-put}
+use Rattle.parts.proofs.Laws.{Apart, length-part, length-put, part-put-before, part-put-after, part-put-apart, part-put-same, part-part, put-put, put-mid}
 use Rattle.commands.specs.declared.command.Control.{Control}
 use Rattle.commands.specs.declared.command.Control.the-variants.{B, C, D}
 use Rattle.channels.specs.declared.groups.Group.{Group}
@@ -30,11 +31,12 @@ use Rattle.chip.specs.Chip.{reaction, acceptedReset}
 use Rattle.chip.specs.Group.{groupOf}
 use Rattle.chip.proofs.EventFits.{EventFits}
 use Rattle.chip.proofs.Laws.{outside, good-stays}
-use Rattle.journal.specs.Layout.{slotsOf, firstOf, keptOf, wellFormed, placeOf, past, pushed}
+use Rattle.journal.specs.declared.Format.{Format}
+use Rattle.journal.specs.Layout.{formatOf, slotsOf, firstOf, keptOf, wellFormed, placeOf, past, firstAfter, keptUp, pushed}
 use Rattle.journal.specs.Record.{coreBytes, startOf, manyOf, tagOf, lastTag, tagged, groupIn, recordOf, keptFor, before, restored, sound}
 use Rattle.journal.specs.Inner.{recordMost}
-use Rattle.journal.proofs.Pieces.{over-pieces}
-use Rattle.journal.proofs.Ring.{newest-front, length-past}
+use Rattle.journal.proofs.Pieces.{joined, front-written, over-pieces}
+use Rattle.journal.proofs.Ring.{room-in, pushed-by, newest-slot}
 
 -- ---- so many bytes of a state from a place on: behind the core, inside, and not more than a record has room for
 
@@ -188,40 +190,103 @@ module _ (a : Adapter) (e : Event) (rest : List ℕ) (g : Good a) (typed : Event
 
 -- ---- what the code makes and puts back
 
-pub makes : (s r r₁ r₂ r₃ : List ℕ) (tag first many : ℕ) → length s ≡ stateSize → recordMost ≤ length r → r₁ ≡ put 0 (tag ∷ []) r
-    → r₂ ≡ put 1 (take (coreBytes - 0) (drop 0 s)) r₁ → r₃ ≡ put (1 + coreBytes) (take (first + many - first) (drop first s)) r₂
+-- a part as it is lent
+pub lent-part : (first many : ℕ) (s : List ℕ) → take (first + many - first) (drop first s) ≡ part first many s
+unfolding part
+lent-part first many s = let m : first + many - first ≡ many = omega arith in rw m refl
+
+pub makes : (s c r r₁ r₂ r₃ : List ℕ) (tag first many : ℕ) → length s ≡ stateSize → recordMost ≤ length r → c ≡ part 0 coreBytes s
+    → r₁ ≡ put 0 (tag ∷ []) r → r₂ ≡ put 1 c r₁ → r₃ ≡ put (1 + coreBytes) (take (first + many - first) (drop first s)) r₂
     → r₃ ≡ put 0 (recordOf tag first many s) r
 unfolding recordOf part
-makes s r r₁ r₂ r₃ tag first many n l e f h =
-    let c = length-take-le coreBytes s (omega arith) in
-    let w : first + many - first ≡ many = omega arith in
+makes s c r r₁ r₂ r₃ tag first many n l g e f h =
+    let d = length-take-le coreBytes s (omega arith) in
     let p : 1 + coreBytes ≡ 0 + suc (length (take coreBytes s)) = omega arith in
-    rw (h, f, e, w, put-put 0 (tag ∷ []) (take coreBytes s) r 1 refl (omega arith))
+    rw (h, f, e, g, lent-part first many s, put-put 0 (tag ∷ []) (take coreBytes s) r 1 refl (omega arith))
     (put-put 0 (tag ∷ take coreBytes s) (take many (drop first s)) r (1 + coreBytes) p (omega arith))
 
 -- ---- a tag's group, or none
 
 module _ (tag first many : ℕ) where
-  placed : (g : Group) → groupIn tag ≡ g → first ≡ startOf g → many ≡ manyOf g
-      → ((first ≡ startOf (groupIn tag)) × (many ≡ manyOf (groupIn tag))) × ((first + many ≤ stateSize) × (1 + coreBytes + many ≤ recordMost))
-  placed g e f m = rw (e, f, m) ((refl, refl), (fits g .inside, fits g .short))
+  abbrev Placed : Type 0
+  Placed =
+      ((first ≡ startOf (groupIn tag)) × (many ≡ manyOf (groupIn tag)))
+      × ((coreBytes ≤ first) × (first + many ≤ stateSize) × (1 + coreBytes + many ≤ recordMost))
 
-  pub place-at : (code : ℕ) → tag ≡ code → first ≡ startOf (groupIn code) → many ≡ manyOf (groupIn code)
-      → ((first ≡ startOf (groupIn tag)) × (many ≡ manyOf (groupIn tag))) × ((first + many ≤ stateSize) × (1 + coreBytes + many ≤ recordMost))
+  placed : (g : Group) → groupIn tag ≡ g → first ≡ startOf g → many ≡ manyOf g → Placed
+  placed g e f m = rw (e, f, m) ((refl, refl), (fits g .behind, fits g .inside, fits g .short))
+
+  pub place-at : (code : ℕ) → tag ≡ code → first ≡ startOf (groupIn code) → many ≡ manyOf (groupIn code) → Placed
   place-at code e f m = placed (groupIn code) (ap groupIn e) f m
 
-  pub no-place : (tag ≡ 1 → ⊥) → (tag ≡ 2 → ⊥) → (tag ≡ 3 → ⊥) → first ≡ startOf Nothing → many ≡ manyOf Nothing
-      → ((first ≡ startOf (groupIn tag)) × (many ≡ manyOf (groupIn tag))) × ((first + many ≤ stateSize) × (1 + coreBytes + many ≤ recordMost))
+  pub no-place : (tag ≡ 1 → ⊥) → (tag ≡ 2 → ⊥) → (tag ≡ 3 → ⊥) → first ≡ startOf Nothing → many ≡ manyOf Nothing → Placed
   unfolding groupIn
   no-place b c d f m = placed Nothing (sym (none-of tagged Nothing tag (((tt, b), c), d))) f m
 
-pub puts-back : (r s s₁ s₂ : List ℕ) (first many : ℕ) → first ≡ startOf (groupIn (getD r 0 0)) → many ≡ manyOf (groupIn (getD r 0 0))
-    → s₁ ≡ put 0 (take (1 + coreBytes - 1) (drop 1 r)) s → s₂ ≡ put first (take (1 + coreBytes + many - (1 + coreBytes)) (drop (1 + coreBytes) r)) s₁
-    → s₂ ≡ restored s r
-unfolding restored part
-puts-back r s s₁ s₂ first many f m h i =
-    let w : 1 + coreBytes + many - (1 + coreBytes) ≡ many = omega arith in
-    rw (i, h, w, f, m) refl
+-- ---- a record exchanged with what it stands for
+
+own-first : (r : List ℕ) → 0 < length r → r ≡ put 0 (getD r 0 0 ∷ []) r
+unfolding put
+own-first [] h = absurd (omega arith)
+own-first (x ∷ r) h = refl
+
+module _ (r s : List ℕ) (first many : ℕ) (l : recordMost ≤ length r) (n : length s ≡ stateSize)
+    (f : (coreBytes ≤ first) × (first + many ≤ stateSize) × (1 + coreBytes + many ≤ recordMost)) (x y u v : List ℕ) (e : x ≡ part 0 coreBytes s)
+    (g : y ≡ part 1 coreBytes r) (h : u ≡ put 1 x r) (k : v ≡ put 0 y s) where
+  core-left : length x ≡ coreBytes
+  core-left = ap length e ∙ length-part 0 coreBytes s (omega arith)
+
+  core-taken : length y ≡ coreBytes
+  core-taken = ap length g ∙ length-part 1 coreBytes r (omega arith)
+
+  module _ (z w : List ℕ) (i : z ≡ take (first + many - first) (drop first v))
+      (j : w ≡ take (1 + coreBytes + many - (1 + coreBytes)) (drop (1 + coreBytes) u)) where
+    group-left : z ≡ part first many s
+    group-left =
+        let b = f .0 in
+        let c = core-taken in
+        i ∙ lent-part first many v ∙ ap (part first many) k ∙ part-put-after 0 y s first many (omega arith) (omega arith)
+
+    group-taken : w ≡ part (1 + coreBytes) many r
+    group-taken =
+        let c = core-left in
+        j ∙ lent-part (1 + coreBytes) many u ∙ ap (part (1 + coreBytes) many) h
+        ∙ part-put-after 1 x r (1 + coreBytes) many (omega arith) (omega arith)
+
+    pub state-exchanged : putMid first (first + many - first) v w ≡ put first (part (1 + coreBytes) many r) (put 0 (part 1 coreBytes r) s)
+    state-exchanged =
+        let b = f .2 in
+        let q : length w ≡ many = ap length group-taken ∙ length-part (1 + coreBytes) many r (omega arith) in
+        put-mid first many v w q ∙ rw (group-taken, k, g) refl
+
+    pub record-exchanged : putMid (1 + coreBytes) (1 + coreBytes + many - (1 + coreBytes)) u z ≡ put 0 (recordOf (getD r 0 0) first many s) r
+    record-exchanged =
+        let b = f .1 in
+        let q : length z ≡ many = ap length group-left ∙ length-part first many s (omega arith) in
+        put-mid (1 + coreBytes) many u z q
+        ∙ makes s x r r u _ (getD r 0 0) first many n l e (own-first r (omega arith)) h
+        (ap (λ (t : List ℕ). put (1 + coreBytes) t u) (group-left ∙ sym (lent-part first many s)))
+
+-- a list's first number, and so many behind it
+first-and : (n : ℕ) (r : List ℕ) → 0 < length r → getD r 0 0 ∷ part 1 n r ≡ take (1 + n) r
+unfolding part
+first-and n [] h = absurd (omega arith)
+first-and n (x ∷ r) h = sym (take-add 1 n (x ∷ r))
+
+front-part : (s : List ℕ) → take coreBytes s ≡ part 0 coreBytes s
+unfolding part
+front-part s = refl
+
+sum-assoc : (n : ℕ) → 1 + coreBytes + n ≡ 1 + (coreBytes + n)
+sum-assoc n = omega arith
+
+record-long : (tag first many : ℕ) (s : List ℕ) → length s ≡ stateSize → first + many ≤ stateSize → length (recordOf tag first many s) ≡ 1 + coreBytes + many
+unfolding recordOf
+record-long tag first many s n h =
+    let c = length-take-le coreBytes s (omega arith) in
+    let g = length-part first many s (omega arith) in
+    let l = length-append (take coreBytes s) (part first many s) in
+    omega arith
 
 -- ---- a record that is tried: what it restores stands, or is taken back
 
@@ -272,67 +337,102 @@ module _ (s r : List ℕ) (n : length s ≡ stateSize) (l : recordMost ≤ lengt
     unfolding sound
     judged b x k f h = sym h ∙ simp (le-leb (getD r 0 0) 3 k, f, e)
 
-    pub undone : (first many : ℕ) (was z u : List ℕ) → first ≡ startOf (groupIn (getD r 0 0)) → many ≡ manyOf (groupIn (getD r 0 0))
-        → was ≡ put 0 (recordOf (getD r 0 0) first many s) z → u ≡ restored t was → u ≡ s
+    -- what the record went over stands in its place: exchanged again, the state is as it was
+    pub undone : (first many : ℕ) (was u : List ℕ) → first ≡ startOf its → many ≡ manyOf its → was ≡ put 0 (recordOf (getD r 0 0) first many s) r
+        → u ≡ put first (part (1 + coreBytes) many was) (put 0 (part 1 coreBytes was) t) → u ≡ s
     unfolding put
-    undone first many was z u f m w v =
-        let w₁ : was ≡ put 0 (recordOf (getD r 0 0) (startOf its) (manyOf its) s) z = w ∙ rw (f, m) refl in
-        v ∙ ap (restored t) w₁
-        ∙ kept-restores its (getD r 0 0) refl s _ t n (ap length e ∙ length-restored)
-        (subst (λ (x : List ℕ). Agree (startOf its) (manyOf its) (fits its) x s) (sym e) restored-elsewhere)
+    undone first many was u f m w v =
+        let f' = fits its in
+        let kept : List ℕ = recordOf (getD r 0 0) (startOf its) (manyOf its) s in
+        let w' : was ≡ kept ++ drop (0 + length kept) r = w ∙ rw (f, m) refl in
+        v
+        ∙ rw (
+          f,
+          m,
+          its-core (startOf its) (manyOf its) f' s n (getD r 0 0) was _ w',
+          its-group (startOf its) (manyOf its) f' s n (getD r 0 0) was _ w',
+        ) (put-back (startOf its) (manyOf its) f' s t n (ap length e ∙ length-restored)
+        (subst (λ (l : List ℕ). Agree (startOf its) (manyOf its) f' l s) (sym e) restored-elsewhere))
+
+    -- and of the state that it made, the record is made again
+    core-there : part 0 coreBytes t ≡ part 1 coreBytes r
+    unfolding restored
+    core-there =
+        let k = length-part 1 coreBytes r (omega arith) in
+        let b = fits its .behind in
+        ap (part 0 coreBytes) e
+        ∙ part-put-before (startOf its) _ cored 0 coreBytes group-room b
+        ∙ ap (λ (w : ℕ). part 0 w cored) (sym k)
+        ∙ part-put-same 0 (part 1 coreBytes r) s (omega arith)
+
+    group-there : part (startOf its) (manyOf its) t ≡ part (1 + coreBytes) (manyOf its) r
+    unfolding restored
+    group-there =
+        let k = group-kept in
+        let h = group-room in
+        ap (part (startOf its) (manyOf its)) e
+        ∙ ap (λ (w : ℕ). part (startOf its) w (put (startOf its) (part (1 + coreBytes) (manyOf its) r) cored)) (sym k)
+        ∙ part-put-same (startOf its) (part (1 + coreBytes) (manyOf its) r) cored (omega arith)
+
+    again : recordOf (getD r 0 0) (startOf its) (manyOf its) t ≡ take (1 + coreBytes + manyOf its) r
+    unfolding recordOf
+    again =
+        ap (λ (l : List ℕ). getD r 0 0 ∷ l) (ap₂ (λ (a b : List ℕ). a ++ b) (front-part t ∙ core-there) group-there ∙ joined r 1 coreBytes (manyOf its))
+        ∙ first-and (coreBytes + manyOf its) r (omega arith)
+        ∙ ap (λ (k : ℕ). take k r) (sym (sum-assoc (manyOf its)))
+
+    pub remade : (first many : ℕ) (was u : List ℕ) → first ≡ startOf its → many ≡ manyOf its → was ≡ put 0 (recordOf (getD r 0 0) first many s) r
+        → u ≡ put 0 (recordOf (getD r 0 0) first many t) was → u ≡ r
+    unfolding put
+    remade first many was u f m w v =
+        let h = fits its .short in
+        let i = fits its .inside in
+        let x : ℕ = 1 + coreBytes + manyOf its in
+        let a : length (recordOf (getD r 0 0) (startOf its) (manyOf its) s) ≡ x = record-long (getD r 0 0) (startOf its) (manyOf its) s n i in
+        let b : length (take x r) ≡ x = length-take-le x r (omega arith) in
+        let z : 0 + x ≡ x = omega arith in
+        let d : drop x was ≡ drop x r = ap (drop x) w ∙ rw (f, m, a, z) (drop-at (recordOf (getD r 0 0) (startOf its) (manyOf its) s) (drop x r) x a) in
+        v ∙ rw (f, m, again, b, z) (ap (λ (l : List ℕ). take x r ++ l) d ∙ take-append-drop x r)
+
+    same-tag : (first many : ℕ) (was : List ℕ) → was ≡ put 0 (recordOf (getD r 0 0) first many s) r → getD was 0 0 ≡ getD r 0 0
+    unfolding put recordOf
+    same-tag first many was w = rw w refl
+
+    pub remade-too : (first many : ℕ) (was u : List ℕ) → first ≡ startOf its → many ≡ manyOf its → was ≡ put 0 (recordOf (getD r 0 0) first many s) r
+        → u ≡ put 0 (recordOf (getD was 0 0) first many t) was → u ≡ r
+    remade-too first many was u f m w v =
+        remade first many was u f m w (v ∙ ap (λ (tag : ℕ). put 0 (recordOf tag first many t) was) (same-tag first many was w))
+
+  pub tried : (first many : ℕ) (t : List ℕ) → first ≡ startOf its → many ≡ manyOf its
+      → t ≡ put first (part (1 + coreBytes) many r) (put 0 (part 1 coreBytes r) s) → t ≡ restored s r
+  unfolding restored
+  tried first many t f m h = rw (h, f, m) refl
 
 -- ---- what the journal keeps, and tries
 
-pub short-enough : (n : ℕ) (r : List ℕ) → n ≤ recordMost → length (take (n - 0) (drop 0 r)) ≤ 256
-short-enough n r h = rw (length-take (n - 0) (drop 0 r)) (omega arith)
+pub keeps-record : (tag first many : ℕ) (s j x : List ℕ) (f : Format) (at next kept : ℕ) → wellFormed j ≡ true → length s ≡ stateSize
+    → (first + many ≤ stateSize) × (1 + coreBytes + many ≤ recordMost) → f ≡ formatOf (length j) → at ≡ placeOf (f .slots) (firstOf j) (keptOf j)
+    → next ≡ firstAfter (f .slots) (firstOf j) (keptOf j) → kept ≡ keptUp (f .slots) (keptOf j)
+    → x ≡ put 0 (recordOf tag first many s) (take (at + recordMost - at) (drop at j))
+    → set (set (putMid at (at + recordMost - at) j x) 5 next) 6 kept ≡ pushed (recordOf tag first many s) j
+keeps-record tag first many s j x f at next kept w n i e q g h p =
+    let m = record-long tag first many s n (i .0) in
+    let b = i .1 in
+    pushed-by (recordOf tag first many s) j _ f at next kept e q g h
+    (front-written at recordMost j (recordOf tag first many s) x (room-in j f w e at (keptOf j) recordMost q (lit≤ tt)) (omega arith) p)
 
-pub keeps-record : (tag first many : ℕ) (s z r j k : List ℕ) → length s ≡ stateSize → first + many ≤ stateSize → r ≡ put 0 (recordOf tag first many s) z
-    → k ≡ pushed (take (1 + coreBytes + many - 0) (drop 0 r)) j → k ≡ pushed (recordOf tag first many s) j
-unfolding put recordOf part
-keeps-record tag first many s z r j k n i f h =
-    let c = length-take-le coreBytes s (omega arith) in
-    let m = length-part first many s (omega arith) in
-    let l = length-append (take coreBytes s) (take many (drop first s)) in
-    h ∙ ap (λ (x : List ℕ). pushed x j) (rw f (take-at (recordOf tag first many s) _ (1 + coreBytes + many - 0) (omega arith)))
+pub kept-for : (g : Group) (tag first many : ℕ) (s i j : List ℕ) → tag ≡ tagOf g → first ≡ startOf (groupIn tag) → many ≡ manyOf (groupIn tag)
+    → j ≡ pushed (recordOf tag first many s) i → j ≡ pushed (keptFor g s) i
+kept-for g tag first many s i j e f m h = rw (h, f, m, e, group-back g) refl
 
-pub kept-at : (g k : Group) (s i j : List ℕ) → g ≡ k → j ≡ pushed (keptFor k s) i → j ≡ pushed (keptFor g s) i
-kept-at g k s i j e h = simp (h, e)
-
-pub kept-by : (g : Group) (c k : Control) (s i j : List ℕ) → g ≡ Switched c → c ≡ k → j ≡ pushed (keptFor (Switched k) s) i → j ≡ pushed (keptFor g s) i
-kept-by g c k s i j e f h = simp (h, e, f)
-
--- a record's bytes are all in the front of its slot
-module _ (s r : List ℕ) (l : recordMost ≤ length r) where
-  tag-front : getD (take recordMost r) 0 0 ≡ getD r 0 0
-  tag-front = getD-take recordMost r 0 0 (lit< tt)
-
-  part-front : (p n : ℕ) → p + n ≤ recordMost → part p n (take recordMost r) ≡ part p n r
-  unfolding part
-  part-front p n h =
-      let z : 0 ≤ p = omega arith in
-      let e : p - 0 ≡ p = omega arith in
-      sym (part-part r 0 recordMost p n z h ∙ ap (λ (k : ℕ). take n (drop k (take recordMost r))) e)
-
-  restored-front : restored s (take recordMost r) ≡ restored s r
-  unfolding restored
-  restored-front =
-      rw (tag-front, part-front 1 coreBytes (lit≤ tt), part-front (1 + coreBytes) (manyOf (groupIn (getD r 0 0))) (fits (groupIn (getD r 0 0)) .short)) refl
-
-  sound-front : sound s (take recordMost r) ≡ sound s r
-  unfolding sound
-  sound-front = rw (tag-front, restored-front) refl
-
--- the newest
+-- the newest, in its slot
 module _ (j : List ℕ) (at : ℕ) (h : wellFormed j ≡ true) (e : at ≡ placeOf (slotsOf j) (firstOf j) (keptOf j - 1)) (r : List ℕ)
-    (f : r ≡ take (at + recordMost - at) (drop at j)) (s : List ℕ) (x : Bool) where
-  its-front : r ≡ take recordMost (past j 0)
-  its-front = f ∙ newest-front j at h e recordMost (lit≤ tt)
-
-  long : recordMost ≤ length (past j 0)
-  long = let n = length-past j h in omega arith
+    (f : r ≡ take (at + 256 - at) (drop at j)) (s : List ℕ) (x : Bool) where
+  in-its-slot : r ≡ past j 0
+  in-its-slot = f ∙ newest-slot j at h e
 
   pub newest-judged : x ≡ sound s r → x ≡ sound s (past j 0)
-  newest-judged g = g ∙ ap (sound s) its-front ∙ sound-front s (past j 0) long
+  newest-judged g = g ∙ ap (sound s) in-its-slot
 
   pub newest-tried : (t : List ℕ) → t ≡ cond x (restored s r) s → t ≡ cond x (restored s (past j 0)) s
-  newest-tried t g = g ∙ ap (λ (u : List ℕ). cond x u s) (ap (restored s) its-front ∙ restored-front s (past j 0) long)
+  newest-tried t g = g ∙ ap (λ (u : List ℕ). cond x u s) (ap (restored s) in-its-slot)

@@ -2,10 +2,7 @@
 // to the state that it went with.
 mod records;
 
-use channels::groups;
 use channels::groups::Group;
-use commands::command::Control;
-use state::LINK;
 ghost use mathlib.Core.Path.{_≡_};
 ghost use mathlib.Core.Bool.{true, false, cond};
 ghost use Prim.Native.Nat.{_+_, _-_, _<_, _≤_};
@@ -124,51 +121,34 @@ fn kept_after(slots: u8, kept: u8) -> u8
     if kept == slots { slots } else { kept + 1 }
 }
 
-// Keeps a record.
-fn push(j: &mut [u8], r: &[u8])
+// Keeps a state's core, and so many of its bytes from a place on: the record is made in its slot.
+fn keep_part(j: &mut [u8], s: &[u8], tag: u8, from: usize, many: usize)
     requires { ⌜ wellFormed (now j) ≡ true ⌝ }
-    requires { ⌜ length (now r) ≤ 256 ⌝ }
-    ensures { λ _. ⌜ now (j .exit) ≡ pushed (now (r .entry)) (now (j .entry)) ⌝ }
+    requires { ⌜ length (now s) ≡ stateSize ⌝ }
+    requires { ⌜ (from + many ≤ stateSize) × (1 + coreBytes + many ≤ recordMost) ⌝ }
+    ensures { λ _. ⌜ now (j .exit) ≡ pushed (recordOf tag from many (now (s .entry))) (now (j .entry)) ⌝ }
 {
     let f = format_of(j.len());
     let first = j[FIRST];
     let kept = j[KEPT];
     let at = place(f.slots, first, kept);
+    let end = at + records::MOST;
     let next = first_after(f.slots, first, kept);
     let k = kept_after(f.slots, kept);
-    parts::store(j, at, r);
+    records::make(s, tag, from, many, &mut j[at..end]);
     j[FIRST] = next;
     j[KEPT] = k;
 }
 
-// Keeps a state's core, and so many of its bytes from a place on.
-fn keep_part(j: &mut [u8], s: &[u8], tag: u8, first: usize, many: usize)
-    requires { ⌜ wellFormed (now j) ≡ true ⌝ }
-    requires { ⌜ length (now s) ≡ stateSize ⌝ }
-    requires { ⌜ (first + many ≤ stateSize) × (1 + coreBytes + many ≤ recordMost) ⌝ }
-    ensures { λ _. ⌜ now (j .exit) ≡ pushed (recordOf tag first many (now (s .entry))) (now (j .entry)) ⌝ }
-{
-    // By way of bytes of its own, which are copied many at a time: the compiler cannot tell two lent slices apart.
-    let mut r = [0u8; records::MOST];
-    let end = records::GROUP + many;
-    records::make(s, tag, first, many, &mut r);
-    push(j, &r[0..end]);
-}
-
-// Keeps of a state what an event of this group may change. Each arm copies a number of bytes that the compiler knows.
+// Keeps of a state what an event of this group may change.
 pub fn keep(j: &mut [u8], s: &[u8], group: Group)
     requires { ⌜ wellFormed (now j) ≡ true ⌝ }
     requires { ⌜ length (now s) ≡ stateSize ⌝ }
     ensures { λ _. ⌜ now (j .exit) ≡ pushed (keptFor group (now (s .entry))) (now (j .entry)) ⌝ }
 {
-    match group {
-        Group::Nothing => keep_part(j, s, 0, LINK + groups::NOTHING.first, groups::NOTHING.many),
-        Group::Switched(control) => match control {
-            Control::B => keep_part(j, s, 1, LINK + groups::OF_B.first, groups::OF_B.many),
-            Control::C => keep_part(j, s, 2, LINK + groups::OF_C.first, groups::OF_C.many),
-            Control::D => keep_part(j, s, 3, LINK + groups::OF_D.first, groups::OF_D.many),
-        },
-    }
+    let tag = records::tag_of(group);
+    let place = records::place_of(tag);
+    keep_part(j, s, tag, place.first, place.many);
 }
 
 // Where the newest record stands.
@@ -183,19 +163,16 @@ fn newest(j: &[u8]) -> usize
     place(f.slots, first, kept - 1)
 }
 
-// Puts the newest record over the bytes of a state, unless it is damaged. Tells whether it is sound.
-pub fn restore(j: &[u8], s: &mut [u8]) -> bool
+// Puts the newest record over the bytes of a state, unless it is damaged. Tells whether it is sound. The journal stays as it is.
+pub fn restore(j: &mut [u8], s: &mut [u8]) -> bool
     requires { ⌜ wellFormed (now j) ≡ true ⌝ }
     requires { ⌜ 0 < keptOf (now j) ⌝ }
     requires { ⌜ length (now s) ≡ stateSize ⌝ }
-    ensures { λ x. ⌜ (x ≡ sound (now (s .entry)) (past (now (j .entry)) 0)) × (now (s .exit) ≡ cond x (restored (now (s .entry)) (past (now (j .entry)) 0)) (now (s .entry))) ⌝ }
+    ensures { λ x. ⌜ (x ≡ sound (now (s .entry)) (past (now (j .entry)) 0)) × (now (s .exit) ≡ cond x (restored (now (s .entry)) (past (now (j .entry)) 0)) (now (s .entry))) × (now (j .exit) ≡ now (j .entry)) ⌝ }
 {
     let at = newest(j);
-    let end = at + records::MOST;
-    // By way of bytes of its own, as `keep` does.
-    let mut bytes = [0u8; records::MOST];
-    parts::over(&mut bytes, &j[at..end]);
-    records::restore(&bytes, s)
+    let end = at + SLOT_BYTES;
+    records::restore(&mut j[at..end], s)
 }
 
 // Gives the newest record up.

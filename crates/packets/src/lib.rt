@@ -1,8 +1,11 @@
 // A request's information read, and the body of a reply or an interrupt written.
 ghost use mathlib.Core.Path.{_≡_};
-ghost use Prim.Native.Nat.{_<_};
+ghost use mathlib.Core.List.{[], _∷_};
+ghost use Prim.Native.Nat.{_<_, _≤_};
 ghost use lib.ListN.{length};
-ghost use Rattle.packets.specs.Packets.{requestOf, dataOf, byteOf, replyBody};
+ghost use Rattle.numbers.specs.Numbers.{replyBytes};
+ghost use Rattle.parts.specs.Parts.{put};
+ghost use Rattle.packets.specs.Packets.{address, requestOf, dataOf, byteOf, replyBody};
 use commands::request::Request;
 
 // The chip's address.
@@ -31,6 +34,15 @@ pub fn data_of(body: &[u8]) -> u32
     parts::word_of(body[8], body[9], body[6], body[7])
 }
 
+// Writes address and control at the front of an output: the whole body of a frame without information.
+pub fn put_control(output: &mut [u8], control: u8)
+    requires { ⌜ 2 ≤ length (now output) ⌝ }
+    ensures { λ _. ⌜ now (output .exit) ≡ put 0 (address ∷ control ∷ []) (now (output .entry)) ⌝ }
+{
+    output[0] = ADDRESS;
+    output[1] = control;
+}
+
 // Byte k of D, byte 0 the lowest.
 fn byte_of(value: u32, k: u32) -> u8
     requires { ⌜ k < 4 ⌝ }
@@ -39,20 +51,19 @@ fn byte_of(value: u32, k: u32) -> u8
     ((value >> (8 * k)) & 0xFF) as u8
 }
 
-// The body of a reply or an interrupt, D in the wire's order.
-pub fn reply_body(control: u8, trn: u8, ch: u8, err: u8, len: u8, value: u32) -> [u8; 10]
-    ensures { λ r. ⌜ r ≡ replyBody control trn ch err len value ⌝ }
+// Writes the body of a reply or an interrupt at the front of an output, D in the wire's order.
+pub fn put_reply(output: &mut [u8], control: u8, trn: u8, ch: u8, err: u8, len: u8, value: u32)
+    requires { ⌜ replyBytes ≤ length (now output) ⌝ }
+    ensures { λ _. ⌜ now (output .exit) ≡ put 0 (replyBody control trn ch err len value) (now (output .entry)) ⌝ }
 {
-    [
-        ADDRESS,
-        control,
-        trn,
-        ch,
-        err,
-        len,
+    put_control(output, control);
+    parts::store_four(output, 2, trn, ch, err, len);
+    parts::store_four(
+        output,
+        6,
         byte_of(value, 2),
         byte_of(value, 3),
         byte_of(value, 0),
         byte_of(value, 1),
-    ]
+    );
 }

@@ -100,6 +100,9 @@ room Word at n h = omega arith
 pub room-half : (w : Width) (at n : ℕ) → at + bytesIn w ≤ n → w ≡ Half → at + 1 < n
 room-half w at n h e = omega (arith, rw e at h)
 
+pub room-four : (w : Width) (at n : ℕ) → at + bytesIn w ≤ n → w ≡ Word → at + 4 ≤ n
+room-four w at n h e = rw e at h
+
 pub room-word : (w : Width) (at n k : ℕ) → at + bytesIn w ≤ n → w ≡ Word → k < 4 → at + k < n
 room-word w at n k h e l = omega (arith, rw e at h)
 
@@ -150,6 +153,14 @@ set-next s d p q x e h =
     let m = length-put p d s l in
     set-put (put p d s) q x (omega arith) ∙ put-put p d (x ∷ []) s q e l
 
+pub set-two : (s : List ℕ) (p a b : ℕ) → p + 2 ≤ length s → set (set s p a) (p + 1) b ≡ put p (a ∷ b ∷ []) s
+set-two s p a b h = rw (set-put s p a (omega arith)) (set-next s (a ∷ []) p (p + 1) b refl h)
+
+pub set-four : (s : List ℕ) (p a b c d : ℕ) → p + 4 ≤ length s
+    → set (set (set (set s p a) (p + 1) b) (p + 2) c) (p + 3) d ≡ put p (a ∷ b ∷ c ∷ d ∷ []) s
+set-four s p a b c d h =
+    rw (set-two s p a b (omega arith), set-next s (a ∷ b ∷ []) p (p + 2) c refl (omega arith)) (set-next s (a ∷ b ∷ c ∷ []) p (p + 3) d refl h)
+
 thirds : (x : ℕ) → x / 256 / 256 ≡ x / 65536
 thirds x = div-div-eq-div-mul x 256 256
 
@@ -165,23 +176,9 @@ module _ (s : List ℕ) (at x : ℕ) (w : Width) (h : at + bytesIn w ≤ length 
   unfolding digits
   stores-half e =
       let l = rw e at h in
-      rw (e, set-put s at (x % 256) (room w at _ h)) (set-next s (x % 256 ∷ []) at (at + 1) (x / 256 % 256) refl l)
+      rw e (set-two s at (x % 256) (x / 256 % 256) l)
 
-  pub stores-word : w ≡ Word
-      → set (set (set (set s at (x % 256)) (at + 1) (x / 256 % 256)) (at + 2) (x / 65536 % 256)) (at + 3) (x / 16777216 % 256)
-      ≡ put at (digits (bytesIn w) x) s
+  pub stores-word : (t : List ℕ) → w ≡ Word → t ≡ put at (x % 256 ∷ x / 256 % 256 ∷ x / 65536 % 256 ∷ x / 16777216 % 256 ∷ []) s
+      → t ≡ put at (digits (bytesIn w) x) s
   unfolding digits
-  stores-word e =
-      let l : at + 4 ≤ length s = rw e at h in
-      let b0 = x % 256 in
-      let b1 = x / 256 % 256 in
-      let b2 = x / 65536 % 256 in
-      rw (
-        e,
-        thirds x,
-        fourths x,
-        set-put s at b0 (room w at _ h),
-        set-next s (b0 ∷ []) at (at + 1) b1 refl (omega arith),
-        set-next s (b0 ∷ b1 ∷ []) at (at + 2) b2 refl (omega arith),
-      )
-      (set-next s (b0 ∷ b1 ∷ b2 ∷ []) at (at + 3) (x / 16777216 % 256) refl l)
+  stores-word t e f = rw (f, e, thirds x, fourths x) refl

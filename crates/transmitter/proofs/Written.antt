@@ -3,9 +3,11 @@ use mathlib.Core.Path.{_≡_, refl, sym, ap, ap₂, _∙_}
 use mathlib.Core.Bool.{Bool, true, false, cond, _&&_}
 use mathlib.Core.List.{List, [], _∷_, _++_, append-assoc, append-nil}
 use Prim.Native.Nat.{ℕ, zero, suc, _+_, _*_, _-_, _/_, _%_, _^_, _≤_, _<_, min}
-use native.Mathlib.Nat.{mul-le-mul-right, suc-mul, mul-comm, add-comm, div-one}
+use native.Mathlib.Nat.{mod-le, mul-le-mul-right, suc-mul, mul-comm, add-comm, div-one}
 use native.Mathlib.Omega.{arith}
-use lib.Dec.{T, eqb, leb, ltb, eqb→eq, leb→le, ltb→lt}
+use borrow.Author.Tests.{eq-eqb, ne-eqb}
+use mir.Val.{boolByte}
+use lib.Dec.{T, eqb, leb, ltb, eqb→eq, leb→le, ltb→lt, lit≤}
 use lib.Arith.{lt-one}
 use lib.Pow.{pow-pos, pow-mono, pow-add, shl-exact, shr-lt, high}
 use lib.ListN.{length, take, drop, getD, set, replicate, length-append, length-take, length-set, take-append-drop}
@@ -202,15 +204,72 @@ stuffs-right k x e t =
       most = leb→le (5 * (4 + e / 32 % 2) + e / 64) (k + 24) (q .4);
     }
 
-abbrev pub entry : List ℕ → ℕ → Bool
-entry l i = stuffs (i / 16) (i % 16) (getD l i 0)
+-- the run of ones at the end of four bits, as it is counted
+abbrev counted : ℕ → ℕ
+counted x = boolByte (ltb 7 x) + boolByte (ltb 11 x) + boolByte (ltb 13 x) + boolByte (ltb 14 x)
 
--- a table that passes the test says it of all
-pub table-right : (l : List ℕ) → T (below (entry l) 80) → (k x : ℕ) → k ≤ 4 → x < 16 → Stuffs k x (getD l (16 * k + x) 0)
-table-right l t k x hk hx =
-    let d : (16 * k + x) / 16 ≡ k = omega arith in
-    let f : (16 * k + x) % 16 ≡ x = omega arith in
-    rw (d, f) at (stuffs-right ((16 * k + x) / 16) ((16 * k + x) % 16) (getD l (16 * k + x) 0) (at-each (entry l) 80 t (16 * k + x) (omega arith)))
+pub one-bit : (b : Bool) → boolByte b ≤ 1
+one-bit true = lit≤ tt
+one-bit false = lit≤ tt
+
+run-test : ℕ → Bool
+run-test x = eqb (counted x) (tail 0 (low 4 x))
+
+pub run-right : (x : ℕ) → x < 16 → counted x ≡ tail 0 (low 4 x)
+unfolding run-test tail low
+run-right x h = eqb→eq (counted x) (tail 0 (low 4 x)) (at-each run-test 16 tt x h)
+
+-- all the ones that are left up to the fifth, after k of them
+abbrev left : ℕ → ℕ
+left k = 32 / 2 ^ k - 1
+
+left-test : ℕ → Bool
+left-test k = leb 1 (32 / 2 ^ k) && leb (32 / 2 ^ k) 32
+
+module _ (k : ℕ) (h : k ≤ 4) where
+  left-tested : T (left-test k)
+  unfolding left-test
+  left-tested = at-each left-test 5 tt k (omega arith)
+
+  pub left-some : 1 ≤ 32 / 2 ^ k
+  unfolding left-test
+  left-some = leb→le 1 (32 / 2 ^ k) (and-left (leb 1 (32 / 2 ^ k)) (leb (32 / 2 ^ k) 32) left-tested)
+
+  pub left-few : 32 / 2 ^ k ≤ 32
+  unfolding left-test
+  left-few = leb→le (32 / 2 ^ k) 32 (and-right (leb 1 (32 / 2 ^ k)) (leb (32 / 2 ^ k) 32) left-tested)
+
+-- the two entries: a zero is inserted, or none
+abbrev longer : (k x : ℕ) → ℕ
+longer k x = x + (x - left k) + 32 + 64 * tail 0 (low 4 ((x + (x - left k)) / 2))
+
+abbrev as-it-is : ℕ → ℕ
+as-it-is x = x + 64 * tail 0 (low 4 x)
+
+pub begins-with : (l x : ℕ) → x % (l + 1) ≡ l → l ≤ x
+begins-with l x e = let h = mod-le x (l + 1) in omega arith
+
+-- x begins with all that are left
+abbrev begins : (k x : ℕ) → Bool
+begins k x = eqb (x % (left k + 1)) (left k)
+
+entry : ℕ → Bool
+entry i = cond (begins (i / 16) (i % 16)) (stuffs (i / 16) (i % 16) (longer (i / 16) (i % 16))) (stuffs (i / 16) (i % 16) (as-it-is (i % 16)))
+
+-- the test, at each of them
+module _ (k x : ℕ) (hk : k ≤ 4) (hx : x < 16) where
+  tested : T (cond (begins k x) (stuffs k x (longer k x)) (stuffs k x (as-it-is x)))
+  unfolding entry stuff tail low
+  tested =
+      let d : (16 * k + x) / 16 ≡ k = omega arith in
+      let f : (16 * k + x) % 16 ≡ x = omega arith in
+      rw (d, f) at (at-each entry 80 tt (16 * k + x) (omega arith))
+
+  pub zero-inserted : (r : ℕ) → x % (left k + 1) ≡ left k → r ≡ tail 0 (low 4 ((x + (x - left k)) / 2)) → Stuffs k x (x + (x - left k) + 32 + 64 * r)
+  zero-inserted r b e = rw e (stuffs-right k x (longer k x) (simp (eq-eqb (x % (left k + 1)) (left k) b) at tested))
+
+  pub none-inserted : (r : ℕ) → (x % (left k + 1) ≡ left k → ⊥) → r ≡ tail 0 (low 4 x) → Stuffs k x (x + 64 * r)
+  none-inserted r b e = rw e (stuffs-right k x (as-it-is x) (simp (ne-eqb (x % (left k + 1)) (left k) b) at tested))
 
 -- ---- a whole frame
 

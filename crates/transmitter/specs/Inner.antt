@@ -40,7 +40,7 @@ pub record Written (o : List ℕ) (n h k : ℕ) (bs r : List ℕ) (n′ h′ k�
   pub short : k′ ≤ 4
   pub most : 5 * n′ + k′ ≤ 5 * n + k + 6 * length bs
 
--- what an entry e of the table says of the four bits x after a run of k ones
+-- what a number e says of the four bits x after a run of k ones
 pub record Stuffs (k x e : ℕ) : Type 0 where
   pub bits : stuff k (low 4 x) ≡ low (4 + e / 32 % 2) (e % 32)
   pub run : e / 64 ≡ tail k (low 4 x)

@@ -5,94 +5,9 @@ ghost use lib.ListN.{length, replicate};
 ghost use Rattle.numbers.specs.Numbers.{bodyMost, cableMost};
 ghost use Rattle.wire.specs.Bits.{low, wire};
 ghost use Rattle.transmitter.specs.Frame.{frame, filled};
-ghost use Rattle.transmitter.specs.Inner.{Inked, Raw, Stuffs, Written};
+ghost use Rattle.transmitter.specs.Inner.{Inked, Raw, Stuffs, Written, tail};
 
 const FLAG: u16 = 0x7E;
-
-// Four bits x of content after a run of k ones, at 16 * k + x: the bits that go out, plus 32 if a zero was
-// inserted (there is room for one only), plus 64 times the run of ones at their end.
-const STUFFED: [u16; 80] = [
-    0,
-    1,
-    2,
-    3,
-    4,
-    5,
-    6,
-    7,
-    72,
-    73,
-    74,
-    75,
-    140,
-    141,
-    206,
-    271,
-    0,
-    1,
-    2,
-    3,
-    4,
-    5,
-    6,
-    7,
-    72,
-    73,
-    74,
-    75,
-    140,
-    141,
-    206,
-    47,
-    0,
-    1,
-    2,
-    3,
-    4,
-    5,
-    6,
-    39,
-    72,
-    73,
-    74,
-    75,
-    140,
-    141,
-    206,
-    119,
-    0,
-    1,
-    2,
-    35,
-    4,
-    5,
-    6,
-    43,
-    72,
-    73,
-    74,
-    115,
-    140,
-    141,
-    206,
-    187,
-    0,
-    33,
-    2,
-    37,
-    4,
-    41,
-    6,
-    45,
-    72,
-    113,
-    74,
-    117,
-    140,
-    185,
-    206,
-    253,
-];
 
 // How far the output is written: its bits, those of them in its last byte as long as it is not whole, and the
 // run of ones at their end.
@@ -118,12 +33,26 @@ fn put(output: &mut [u8], pen: Pen, v: u16, count: usize) -> Pen
     }
 }
 
-// The entry for four bits after a run of ones.
+// The run of ones at the end of four bits.
+fn run_of(x: u16) -> u16
+    requires { ⌜ x < 16 ⌝ }
+    ensures { λ r. ⌜ (r ≡ tail 0 (low 4 x)) × (r ≤ 4) ⌝ }
+{
+    (7 < x) as u16 + (11 < x) as u16 + (13 < x) as u16 + (14 < x) as u16
+}
+
+// Four bits x of content after a run of ones: the bits that go out, plus 32 if a zero was inserted (there is room for one only), plus 64 times the
+// run of ones at their end. It is inserted where x begins with all the ones that are left up to the fifth.
 fn stuffed(ones: u16, x: u16) -> u16
     requires { ⌜ (ones ≤ 4) × (x < 16) ⌝ }
     ensures { λ r. ⌜ Stuffs ones x r ⌝ }
 {
-    STUFFED[(16 * ones + x) as usize]
+    let left = (32 >> ones) - 1;
+    if x % (left + 1) == left {
+        let out = x + (x - left);
+        return out + 32 + 64 * run_of(out / 2);
+    }
+    x + 64 * run_of(x)
 }
 
 // Four bits of content, with a zero after a fifth one.

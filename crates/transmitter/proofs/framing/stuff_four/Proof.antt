@@ -1,4 +1,4 @@
--- What the table's entry says is put.
+-- What is stuffed is put.
 use Rattle.transmitter.proofs.Written.{written-four}
 use borrow.Author.Needs.{needs}
 use Rattle.transmitter.proofs.framing.stuff_four.Statement.{statement}
