@@ -19,7 +19,10 @@
  *     bytes that the caller lends. It allocates nothing, opens nothing and
  *     holds no lock, so that calls on different buffers may run side by side.
  *     No call takes more than 768 bytes of stack, arguments and return
- *     address among them.
+ *     address among them. (In a program that looks names of the C library up at
+ *     their first use, the linker takes some thousands once, in the first call
+ *     that comes to memcpy or memset: link it statically or with -z now where
+ *     that is too much.)
  *
  *     A buffer is a pointer and its length in bytes; a list of samples is a
  *     pointer and how many they are. A pointer whose length or count is 0 is not

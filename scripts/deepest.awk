@@ -1,8 +1,8 @@
 # How much stack each function sca_* may take: the bytes below its caller's stack pointer, over every path through the machine code.
 #   objdump -dr --no-show-raw-insn ARCHIVE | awk -f scripts/deepest.awk
 
-# What is not understood ends the run with status 1 and no answer, for a number too low would pass as a bound. Taken on trust: that code
-# which goes below its stack pointer names the lowest place by a displacement from it, and comes to none lower by an index or a pointer.
+# What is not understood ends the run with status 1 and no answer, for a number too low would pass as a bound. Taken on trust: that what
+# goes by an address in a frame, or by an index from one, stays above the stack pointer.
 BEGIN {
     WORD = 8
     # what these take beyond their return address is the C library's affair
@@ -94,8 +94,8 @@ function taken(at, word, operand) {
     if (word == "add" && operand ~ /^\$0x[0-9a-f]+,%rsp$/) return -number(substr(operand, 2))
     if (word == "lea" && operand ~ /^-?0x[0-9a-f]+\(%rsp\),%rsp$/) return -number(operand)
     if (word ~ /^(call|ret|push|pop$|pop[^c]|enter|leave|iret|l(call|jmp|ret)|sys|into?$|xbegin|hlt|\(bad\)|\.)/) refuse(at, "not understood")
-    if (word == "mov" && operand == "%rsp,%rbp") framed[owner[at]] = 1
-    if (word == "mov") sub(/^%rsp,/, "", operand)
+    if (word == "lea" && operand ~ /^-0x[0-9a-f]+\(%rsp/ || operand ~ /-0x[0-9a-f]+\(%rsp,/)
+        refuse(at, "it does not say how far below the stack pointer it goes")
     if (operand ~ /(^|,)%?([re]?sp|spl)(,|$)|\(%e?sp[,)]/) refuse(at, "not understood, and it has the stack pointer in it")
     return 0
 }
@@ -104,7 +104,6 @@ function taken(at, word, operand) {
 function beyond(at, operand,    down) {
     if (mnemonic[at] == "call") return bytes_of(callee(at))
     if (is_jump(at)) return (at in relocation) ? bytes_of(callee(at)) - WORD : 0
-    if ((owner[at] in framed) && operand ~ /-0x[0-9a-f]+\(%rbp/) refuse(at, "%rbp has been a copy of %rsp")
     if (match(operand, /-?0x[0-9a-f]+\(%rsp/)) down = -number(substr(operand, RSTART))
     return down > 0 ? down : 0
 }
@@ -158,8 +157,10 @@ function find_depths(name,    pass, at) {
     for (pass = 1; pass <= 2; pass++) for (at = first[name]; at <= last[name]; at++)
         if (!(at in depth) && !is_padding(at) && (pass == 2 || nothing_leads_to(at))) {
             if (!(name in table_depth)) refuse(at, "nothing leads here")
+            in_table[name] = 1
             spread(at, table_depth[name])
         }
+    if ((name in table_depth) && !(name in in_table)) fail(name " jumps through a table that leads out of it")
 }
 
 function nothing_leads_to(at,    before) {

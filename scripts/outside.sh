@@ -33,9 +33,9 @@ test_c() {
 # How much stack each call takes, by painting it and by its machine code, against the table of docs/STACK.md.
 test_stack() {
     step "what the code takes of the stack" bounds_of_stack || return
-    step "build tests/c/stack.c" c_build "$built/c_stack" tests/c/stack.c "$archive" &&
-        tally "C, stack" run "$built/c_stack" docs/STACK.md "$logs/bounds"
+    step "build tests/c/stack.c" build_stack && tally "C, stack" run "$built/c_stack" docs/STACK.md "$logs/bounds"
 }
+build_stack() { c_build "$built/c_stack" tests/c/stack.c "$archive" -Wl,-z,now; }
 bounds_of_stack() { c_code "$archive" >"$logs/code" && awk -f scripts/deepest.awk "$logs/code" >"$logs/bounds"; }
 
 # The archive has the calls that the header declares and no other name, and needs of the C library what the header says.

@@ -40,7 +40,7 @@ c_build() {
 c_names() { "$nm" "$@"; }
 
 # c_code FILE: its machine code as text
-c_code() { "$objdump" -dr --no-show-raw-insn "$1"; }
+c_code() { LC_ALL=C "$objdump" -dr --no-show-raw-insn "$1"; }
 
 # rust_build WORD..: rustc for x86-64, with the libraries that were built before at hand.
 rust_build() {
@@ -49,7 +49,7 @@ rust_build() {
 
 # Whether a program of one line can be built and run.
 c_works() {
-    echo 'int main(void) { return 0; }' >"$probe.c" && c_build "$probe" "$probe.c" && run "$probe"
+    echo 'int main(void) { return 0; }' >"$probe.c" && c_build "$probe" "$probe.c" && c_code "$probe" >/dev/null && run "$probe"
 }
 rust_works() {
     echo 'fn main() {}' >"$probe.rs" && rust_build --crate-name probe "$probe.rs" && run "$probe"

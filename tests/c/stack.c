@@ -2,6 +2,7 @@
  * How much stack each call takes: it is made on a stack of its own that was painted before, and the deepest byte that is no longer paint tells.
  *     stack TABLE BOUNDS    checks every call against docs/STACK.md and against what its machine code may take (scripts/deepest.awk)
  *     stack                 prints the figures
+ * It is linked with -z now: else the first use of memcpy or memset has the dynamic linker on the caller's stack.
  */
 #include <stdarg.h>
 #include <stdint.h>
@@ -40,6 +41,7 @@ static size_t words_on_the_stack(void) { return it.many > 6 ? it.many - 6 : 0; }
  */
 uint64_t on_stack(unsigned char *top, void (*function)(void), const uint64_t *words, size_t more);
 __asm__(".text\n"
+        ".globl on_stack\n"
         ".type on_stack, @function\n"
         "on_stack:\n"
         "    push %rbp\n"
@@ -83,9 +85,6 @@ static size_t painted(int paint) {
 
 static size_t deepest_of(void (*prepare)(void)) {
     size_t dark, light;
-    /* Once before, so that nothing of the C library is still to be found. */
-    prepare();
-    painted(0xA5);
     prepare();
     dark = painted(0xA5);
     prepare();
@@ -147,9 +146,15 @@ static void version(void) { CALL(sca_version, 0); it.many = 0; }
 
 static void create(void) { CALL(sca_create, LENT(state), 0x00000A); }
 
-static void empty(void) { CALL(sca_empty, LENT(journal)); }
+static void empty(void) {
+    busy();
+    CALL(sca_empty, LENT(journal));
+}
 
-static void kept(void) { CALL(sca_kept, LENT(journal)); }
+static void kept(void) {
+    busy();
+    CALL(sca_kept, LENT(journal));
+}
 
 static uint8_t body[SCA_BODY_MOST];
 static size_t body_length;
@@ -271,6 +276,7 @@ static void transmit(void) {
 
 static void receive(void) {
     memset(cable, 0xFF, sizeof cable);
+    memset(body, 0x55, sizeof body);
     sca_transmit(body, sizeof body, cable, sizeof cable);
     sca_receiver_new(receiver, sizeof receiver);
     CALL(sca_receive, LENT(receiver), LENT(cable), 0, LENT(output));
@@ -359,23 +365,36 @@ static void measure(void) {
     }
 }
 
-/* Rows '| `sca_..` | arguments | below | in all | ..', and lines 'sca_.. bytes'. */
-static int read_file(const char *name, int rows) {
-    char line[512], call[32];
+/* A row '| `sca_..` | arguments | below | in all | ..'; the table stands among other lines. */
+static int read_row(const char *line) {
+    char call[32];
+    size_t arguments, below, all;
+    if (sscanf(line, "| `%31[a-z0-9_]` | %zu | %zu | %zu |", call, &arguments, &below, &all) == 4) {
+        struct figure *figure = figure_of(call);
+        figure->rows++, figure->row_arguments = arguments, figure->row_below = below, figure->row_all = all;
+    }
+    return 1;
+}
+
+/* A line 'sca_.. bytes', and nothing else. */
+static int read_bound(const char *line) {
+    char call[32], end;
+    size_t bytes;
+    struct figure *figure;
+    if (sscanf(line, "%31[a-z0-9_] %zu%c", call, &bytes, &end) != 3 || end != '\n') return 0;
+    figure = figure_of(call);
+    figure->bounds++, figure->bound = bytes;
+    return 1;
+}
+
+static int read_file(const char *name, int (*read_line)(const char *)) {
+    char line[512];
+    int good = 1;
     FILE *file = fopen(name, "r");
     if (!file) return 0;
-    while (fgets(line, sizeof line, file)) {
-        size_t arguments, below, all;
-        if (rows && sscanf(line, "| `%31[a-z0-9_]` | %zu | %zu | %zu |", call, &arguments, &below, &all) == 4) {
-            struct figure *figure = figure_of(call);
-            figure->rows++, figure->row_arguments = arguments, figure->row_below = below, figure->row_all = all;
-        }
-        if (!rows && sscanf(line, "%31[a-z0-9_] %zu", call, &below) == 2) {
-            struct figure *figure = figure_of(call);
-            figure->bounds++, figure->bound = below;
-        }
-    }
-    return fclose(file) == 0;
+    while (fgets(line, sizeof line, file))
+        good = read_line(line) && good;
+    return fclose(file) == 0 && good;
 }
 
 static void check_all(void) {
@@ -404,13 +423,16 @@ static void print_all(void) {
 }
 
 int main(int count, char **words) {
+    if (count != 1 && count != 3) {
+        fprintf(stderr, "stack [TABLE BOUNDS]\n");
+        return 2;
+    }
     measure();
-    if (count != 3) {
+    if (count == 1) {
         print_all();
-    } else if (read_file(words[1], 1) && read_file(words[2], 0)) {
-        check_all();
     } else {
-        check(0, "the table and the bounds can be read");
+        check(read_file(words[1], read_row) && read_file(words[2], read_bound), "the table and the bounds can be read");
+        check_all();
     }
     return failures != 0;
 }
