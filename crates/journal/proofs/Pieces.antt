@@ -18,7 +18,7 @@ pub joined : (d : List ℕ) (p k n : ℕ) → part p k d ++ part (p + k) n d ≡
 unfolding part
 joined d p k n = ap (λ (l : List ℕ). take k (drop p d) ++ take n l) (sym (drop-drop k p d)) ∙ sym (take-add k n (drop p d))
 
-pub joined-front : (d : List ℕ) (k n : ℕ) → part 0 k d ++ part k n d ≡ part 0 (k + n) d
+joined-front : (d : List ℕ) (k n : ℕ) → part 0 k d ++ part k n d ≡ part 0 (k + n) d
 unfolding part
 joined-front d k n = sym (take-add k n d)
 

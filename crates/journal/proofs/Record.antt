@@ -3,23 +3,21 @@
 -- read. Assumes nothing.
 use Prim.Native.Nat.{ℕ, suc, _+_, _-_, _≤_, _<_}
 use mathlib.Core.Path.{_≡_, refl, sym, ap, ap₂, subst, _∙_}
-use mathlib.Core.Bool.{Bool, true, false, _&&_, cond}
+use mathlib.Core.Bool.{Bool, true, false, cond}
 use mathlib.Core.List.{List, [], _∷_, _++_, append-assoc}
 use mathlib.Core.Logic.{inl, inr}
 use native.Mathlib.Omega.{arith}
-use borrow.Author.Tests.{leb-true, le-leb, lt-leb}
-use lib.Dec.{leb, lit≤, lit<}
-use lib.ListN.{length, take, drop, getD, set, length-append, length-take, length-drop, take-append-drop}
-use lib.Seq.{take-add, take-at, drop-at, drop-append-add, getD-take, length-take-le}
+use borrow.Author.Tests.{le-leb, lt-leb}
+use lib.Dec.{leb, lit≤}
+use lib.ListN.{length, take, drop, getD, set, length-append, length-take, take-append-drop}
+use lib.Seq.{take-add, take-at, drop-at, drop-append-add, length-take-le}
 use borrow.Rule.Slice.PartMut.{putMid}
 use Rattle.bits.proofs.Rows.{none-of}
 use Rattle.parts.specs.Parts.{part, put}
-use Rattle.parts.proofs.Laws.{Apart, length-part, length-put, part-put-before, part-put-after, part-put-apart, part-put-same, part-part, put-put, put-mid}
-use Rattle.commands.specs.declared.command.Control.{Control}
+use Rattle.parts.proofs.Laws.{Apart, length-part, length-put, part-put-before, part-put-after, part-put-apart, part-put-same, put-put, put-mid}
 use Rattle.commands.specs.declared.command.Control.the-variants.{B, C, D}
 use Rattle.channels.specs.declared.groups.Group.{Group}
 use Rattle.channels.specs.declared.groups.Group.the-variants.{Nothing, Switched}
-use Rattle.channels.specs.declared.groups.Span.{Span}
 use Rattle.channels.specs.Groups.{spanOf}
 use Rattle.channels.proofs.Laws.{SameOutside}
 use Rattle.state.specs.State.{Adapter}

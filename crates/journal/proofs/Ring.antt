@@ -9,7 +9,7 @@ use native.Mathlib.Decide.{decLt}
 use native.Mathlib.Nat.{eq-or-lt-of-le, mod-lt, mod-eq-of-lt, mod-eq-sub-mod, mod-add-mod}
 use native.Mathlib.Omega.{arith}
 use lib.ListN.{length, take, drop, getD, set, length-set}
-use lib.Seq.{take-take, getD-set-same, getD-set-other}
+use lib.Seq.{getD-set-same, getD-set-other}
 use lib.Dec.{eqb, leb, ltb, lit<}
 use borrow.Author.Tests.{eq-eqb, ne-eqb, eqb-true, le-leb, leb-true, lt-ltb, ltb-true, not-true}
 use Rattle.bits.proofs.Tests.{both, cond-cases}
@@ -367,14 +367,6 @@ module _ (j : List ℕ) (at : ℕ) (h : wellFormed j ≡ true) (e : at ≡ place
       let k : keptOf j - 1 - 0 ≡ keptOf j - 1 = omega arith in
       let m : at + 256 - at ≡ 256 = omega arith in
       rw (m, k, ← e) refl
-
-  -- a slice of its slot
-  pub newest-front : (n : ℕ) → n ≤ 256 → take (at + n - at) (drop at j) ≡ take n (past j 0)
-  unfolding past part
-  newest-front n l =
-      let k : keptOf j - 1 - 0 ≡ keptOf j - 1 = omega arith in
-      let m : at + n - at ≡ n = omega arith in
-      rw (m, k, ← e) (sym (take-take n 256 (drop at j) l))
 
 -- the newest slot has all its bytes
 pub length-past : (j : List ℕ) → wellFormed j ≡ true → length (past j 0) ≡ 256

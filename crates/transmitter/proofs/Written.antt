@@ -10,7 +10,7 @@ use mir.Val.{boolByte}
 use lib.Dec.{T, eqb, leb, ltb, eqb→eq, leb→le, ltb→lt, lit≤}
 use lib.Arith.{lt-one}
 use lib.Pow.{pow-pos, pow-mono, pow-add, shl-exact, shr-lt, high}
-use lib.ListN.{length, take, drop, getD, set, replicate, length-append, length-take, length-set, take-append-drop}
+use lib.ListN.{length, take, drop, set, replicate, length-append, length-take, length-set, take-append-drop}
 use lib.Seq.{length-take-le, take-set-le, take-suc-set, drop-set-lt, drop-drop}
 use Rattle.parts.specs.Parts.{put}
 use Rattle.parts.proofs.Laws.{AreBytes, bytes-take}
@@ -20,7 +20,7 @@ use Rattle.wire.specs.Frame.{stuff, flag, contentOf}
 use Rattle.transmitter.specs.Frame.{frame, filled}
 use Rattle.transmitter.specs.Inner.{tail, inked, Inked, Raw, Stuffs, Written}
 use Rattle.wire.proofs.Bits.{length-low, low-cut, low-mod, low-add, low-bytes, wire-append, length-wire, take-wire, pack-wire}
-use Rattle.wire.proofs.Tests.{below, and-left, and-right, at-each}
+use Rattle.wire.proofs.Tests.{and-left, and-right, at-each}
 use Rattle.wire.proofs.Check.{content-bits}
 
 -- ---- some bits

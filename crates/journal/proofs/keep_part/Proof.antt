@@ -1,10 +1,9 @@
 -- `keep_part` meets its contract. Assumes nothing.
 use Prim.Native.Nat.{_-_}
-use native.Mathlib.Omega.{arith}
 use borrow.Author.Needs.{needs}
 use lib.Dec.{lit<, lit≤}
 use lib.ListN.{length-set}
-use Rattle.journal.proofs.Ring.{journal-needs, in-journal, pushed-by}
+use Rattle.journal.proofs.Ring.{journal-needs, in-journal}
 use Rattle.journal.proofs.Record.{keeps-record}
 use Rattle.journal.proofs.keep_part.Statement.{statement}
 use Rattle.journal.proofs.keep_part.Tie as tie

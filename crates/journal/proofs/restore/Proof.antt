@@ -1,5 +1,4 @@
 -- `restore` meets its contract. Assumes nothing.
-use native.Mathlib.Omega.{arith}
 use borrow.Author.Needs.{needs}
 use lib.Dec.{lit≤}
 use Rattle.journal.proofs.Pieces.{came-back}
