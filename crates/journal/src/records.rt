@@ -19,7 +19,7 @@ ghost use Rattle.journal.specs.Inner.{recordMost};
 const CORE: usize = LINK + CORE_SIZE;
 
 // Where a record has its group's bytes.
-pub(crate) const GROUP: usize = 1 + CORE;
+const GROUP: usize = 1 + CORE;
 
 // The bytes of the longest record.
 pub(crate) const MOST: usize = GROUP + SPAN_MOST;
