@@ -13,7 +13,10 @@
  *     them (sca_transmit). The adapter is the chip: it takes events (sca_frame,
  *     sca_completion, sca_i2c_completion, sca_sample, sca_upset), gives what the
  *     chip would send, and can take events back (sca_step_back). Pin samples may
- *     also come by the batch (sca_samples).
+ *     also come by the batch (sca_samples). The control room is the other end of
+ *     the link: it writes the bodies of requests (sca_request) and of the link's
+ *     commands (sca_command), and reads replies and interrupts (sca_reply), from
+ *     the same tables of commands as the chip.
  *
  *     The library keeps nothing: whatever lasts from call to call stands in
  *     bytes that the caller lends. It allocates nothing, opens nothing and
@@ -39,8 +42,8 @@
  *     words. What else stands in a result, the call's own text says, with the
  *     function that reads it.
  *
- *     A call whose number is 1 to 10 is refused: every byte that was lent is
- *     as it was, and the result holds nothing beside the number. Of several
+ *     A call whose number is 1 to 10, or 31 to 35, is refused: every byte that was
+ *     lent is as it was, and the result holds nothing beside the number. Of several
  *     reasons to refuse, the number is of the one that the call's text names
  *     first.
  */
@@ -56,13 +59,14 @@ extern "C" {
 
 /* ------------------------------------------------------------------ version */
 
-/* The version that this header is of, 1.3.0: major << 16 | minor << 8 | patch. */
-#define SCA_VERSION 0x010300
+/* The version that this header is of, 1.4.0: major << 16 | minor << 8 | patch. */
+#define SCA_VERSION 0x010400
 
 /* ------------------------------------------------------------------ numbers */
 
 enum {
-    SCA_HAS_FRAME = 0,        /* a frame was read or sent (by a batch: one or more): its bytes stand at the front of output */
+    SCA_HAS_FRAME = 0,        /* a frame was read or sent (by a batch: one or more), or the control room wrote or read a
+                                 body: its bytes stand at the front of output */
 
     /* refused: nothing has changed */
     SCA_SHORT_OUTPUT = 1,     /* the output is under SCA_OUTPUT_LEAST (sca_transmit: SCA_CABLE_MOST, sca_samples:
@@ -73,7 +77,8 @@ enum {
                                  has over SCA_SAMPLES_MOST samples */
     SCA_BAD_JOURNAL = 4,      /* the journal's length, mark, version or layout is wrong */
     SCA_NONE_KEPT = 5,        /* the kept number is 0: there is no event to take back */
-    SCA_BAD_STATE = 6,        /* the state or the receiver has another length, or a field out of range */
+    SCA_BAD_STATE = 6,        /* the state, the receiver or the record of open transactions has another length, or a
+                                 field out of range */
     SCA_BAD_ID = 7,           /* the chip ID is over SCA_ID_MOST */
     SCA_LONG_INPUT = 8,       /* the receiver's input is over SCA_INPUT_MOST bytes */
     SCA_BAD_START = 9,        /* the start bit is over 8 times the bytes of the input */
@@ -93,7 +98,13 @@ enum {
     SCA_LONG_CONTENT = 21,    /* content of over 144 bits */
     SCA_BROKEN_CONTENT = 22,  /* content of a number of bits that is no multiple of 8 */
     SCA_WRONG_FCS = 23,       /* content whose FCS is wrong */
-    SCA_ABORTED = 24          /* seven ones after at least 32 bits of content */
+    SCA_ABORTED = 24,         /* seven ones after at least 32 bits of content */
+
+    /* refused by a call of the control room: nothing has changed */
+    SCA_ALL_OPEN = 31,        /* no TRN is free: all SCA_TRANSACTIONS_MOST transactions are open */
+    SCA_NO_MATCH = 32,        /* the reply matches no open transaction */
+    SCA_BAD_REPLY = 33,       /* the reply's body is not SCA_REPLY_BYTES bytes */
+    SCA_NO_COMMAND = 35       /* the tables have no such command */
 };
 
 /* -------------------------------------------------------------------- sizes */
@@ -102,8 +113,8 @@ enum {
 #define SCA_BODY_MOST 16        /* the bytes of the longest body */
 #define SCA_CABLE_MOST 24       /* the bytes of the longest frame on the cable: the least output of sca_transmit */
 #define SCA_INPUT_MOST 65536    /* the most bytes of cable in one call of sca_receive */
-#define SCA_OUTPUT_LEAST 16     /* the least output of sca_receive and of an event */
-#define SCA_REPLY_BYTES 10      /* the bytes of a reply and of an interrupt, so of each body that a batch sends */
+#define SCA_OUTPUT_LEAST 16     /* the least output of sca_receive, of an event and of the control room's calls */
+#define SCA_REPLY_BYTES 10      /* the bytes of a request, a reply and an interrupt, so of each body that a batch sends */
 #define SCA_SAMPLES_MOST 256    /* the most samples of a batch */
 #define SCA_BATCH_LEAST 2560    /* the least output of a batch, however few its samples */
 #define SCA_TRANSFER_BYTES 16   /* the bytes received in an SPI transfer, whatever its length */
@@ -113,6 +124,9 @@ enum {
 #define SCA_STATE_BYTES 411     /* an adapter's state */
 #define SCA_JOURNAL_BYTES 17408 /* a journal */
 #define SCA_KEPT_MOST 64        /* the most events that can be taken back */
+#define SCA_RECORD_BYTES 510    /* a record of open transactions */
+#define SCA_TRANSACTIONS_MOST 254 /* the most transactions that can be open at once */
+#define SCA_ANSWER_BYTES 9      /* what sca_reply writes of a reply or an interrupt */
 
 /* ---------------------------------------------------------------- arguments */
 
@@ -125,7 +139,12 @@ enum {
     SCA_STROBE_FALLING = 2,
 
     SCA_I2C_FIRST = 0x03,       /* the channels of the sixteen I2C masters, from this one */
-    SCA_I2C_LAST = 0x12         /* to this one */
+    SCA_I2C_LAST = 0x12,        /* to this one */
+
+    SCA_CONNECT = 0x2F,         /* the link's commands: controls that sca_command takes */
+    SCA_RESET = 0x8F,
+    SCA_TEST = 0xE3,
+    SCA_POLL = 0x10             /* or this added to one of them: its bit 4, acknowledged with 00 73 */
 };
 
 /* A pin sample of a batch: 8 bytes, with no gap. */
@@ -140,10 +159,14 @@ struct sca_pin_sample {
 static inline unsigned sca_number(uint64_t result) { return (unsigned)(result & 0xFF); }
 
 /* Whether the call was refused and so changed nothing: any call but sca_version. */
-static inline int sca_refused(uint64_t result) { return sca_number(result) >= 1 && sca_number(result) <= 10; }
+static inline int sca_refused(uint64_t result) {
+    unsigned number = sca_number(result);
+    return (number >= 1 && number <= 10) || (number >= 31 && number <= 35);
+}
 
 /* The bytes of the body that was written, 2 to 16, or 0 where there is none: sca_receive and the events. Those of each
-   body, SCA_REPLY_BYTES, or 0 where there is none: sca_samples. */
+   body, SCA_REPLY_BYTES, or 0 where there is none: sca_samples. The bytes written, or 0: sca_request, sca_reply and
+   sca_command. */
 static inline size_t sca_length(uint64_t result) { return (size_t)((result >> 8) & 0xFF); }
 
 /* The bits read from the start bit on, the deciding bit among them: sca_receive. */
@@ -158,6 +181,14 @@ static inline size_t sca_frames(uint64_t result) { return (size_t)((result >> 24
 /* The lines that fired, added up over the interrupts: the ones in the data of all bodies written. sca_samples. */
 static inline uint32_t sca_sum(uint64_t result) { return (uint32_t)(result >> 40); }
 
+/* Whether an interrupt was read, and no reply: sca_reply. */
+static inline int sca_interrupt(uint64_t result) { return (int)((result >> 16) & 1); }
+
+/* The data, D[31:0], of what sca_reply wrote. */
+static inline uint32_t sca_answer_data(const uint8_t *answer) {
+    return (uint32_t)answer[5] | (uint32_t)answer[6] << 8 | (uint32_t)answer[7] << 16 | (uint32_t)answer[8] << 24;
+}
+
 /* The bytes of cable that were written, at most SCA_CABLE_MOST: sca_transmit. */
 static inline size_t sca_count(uint64_t result) { return (size_t)(result >> 8); }
 
@@ -167,7 +198,7 @@ static inline unsigned sca_kept_in(uint64_t result) { return (unsigned)((result 
 /* A number in words; "unknown number" for one that is none. */
 static inline const char *sca_text(unsigned number) {
     switch (number) {
-    case SCA_HAS_FRAME: return "a frame was read or sent";
+    case SCA_HAS_FRAME: return "a frame was read or sent, or a body written or read";
     case SCA_SHORT_OUTPUT: return "the output is under 16 bytes (transmitter: under 24, batch: under 2,560)";
     case SCA_BAD_BODY: return "the body is not 2 to 16 bytes";
     case SCA_BAD_ARGUMENT:
@@ -175,7 +206,7 @@ static inline const char *sca_text(unsigned number) {
                "over 16), or the batch is over 256 samples";
     case SCA_BAD_JOURNAL: return "the journal's length, mark, version or layout is wrong";
     case SCA_NONE_KEPT: return "the kept number is 0";
-    case SCA_BAD_STATE: return "the state or the receiver has another length, or a field out of range";
+    case SCA_BAD_STATE: return "the state, the receiver or the record of open transactions has another length, or a field out of range";
     case SCA_BAD_ID: return "the chip ID is over 0xFFFFFF";
     case SCA_LONG_INPUT: return "the receiver's input is over 65,536 bytes";
     case SCA_BAD_START: return "the start bit is over 8 times the bytes";
@@ -191,6 +222,10 @@ static inline const char *sca_text(unsigned number) {
     case SCA_BROKEN_CONTENT: return "the receiver dropped a frame: its content is not a multiple of 8 bits";
     case SCA_WRONG_FCS: return "the receiver dropped a frame: its FCS is wrong";
     case SCA_ABORTED: return "the receiver dropped a frame: seven ones broke it off";
+    case SCA_ALL_OPEN: return "no TRN is free: all 254 transactions are open";
+    case SCA_NO_MATCH: return "the reply matches no open transaction";
+    case SCA_BAD_REPLY: return "the reply's body is not 10 bytes";
+    case SCA_NO_COMMAND: return "the tables have no such command";
     default: return "unknown number";
     }
 }
@@ -670,7 +705,8 @@ uint64_t sca_upset(uint8_t *state, size_t state_length, uint8_t *journal, size_t
  *
  * For a state and the journal that went with it. The state becomes what it was
  * before that event, its chip ID stays, and the kept number goes down by one.
- * What was sent is not taken back, nor what a receiver has read.
+ * What was sent is not taken back, nor what a receiver has read, nor the record
+ * of a control room: copy that with state and journal to branch from a moment.
  *
  * Number: 17 (SCA_NO_FRAME), or refused:
  *     6  as by the events
@@ -680,6 +716,129 @@ uint64_t sca_upset(uint8_t *state, size_t state_length, uint8_t *journal, size_t
  *        is out of range
  */
 uint64_t sca_step_back(uint8_t *state, size_t state_length, uint8_t *journal, size_t journal_length);
+
+/* --------------------------------------------------------- the control room
+ *
+ * The other end of the link. A record of the caller's holds what is open; a
+ * request that is written opens a transaction, and its reply closes it:
+ *
+ *     uint8_t record[SCA_RECORD_BYTES], body[SCA_OUTPUT_LEAST], answer[SCA_OUTPUT_LEAST];
+ *     sca_record_new(record, sizeof record);
+ *     result = sca_request(record, sizeof record, 0x00, 0x03, 0, body, sizeof body);    (read CRB)
+ *     send(body, sca_length(result));
+ *     ...
+ *     result = sca_reply(record, sizeof record, reply, reply_length, answer, sizeof answer);
+ *     if (sca_number(result) == SCA_HAS_FRAME && !sca_interrupt(result))
+ *         take(answer[0], answer[3], sca_answer_data(answer));                          (TRN, ERR, D[31:0])
+ *
+ * It knows the tables of commands above, and nothing of a chip's state: whether a
+ * channel is enabled or busy is the chip's to say, in the reply's ERR.
+ *
+ * THE RECORD
+ *     The frame number, and for each TRN, 0x01 to 0xFE, whether a transaction is
+ *     open, with the channel and the command of its request. It may be copied,
+ *     kept in a file and handed in again. Byte by byte:
+ *
+ *         byte           field                                   range
+ *         0              the frame number of the next request    0 to 7
+ *         1              not used                                0
+ *         2 * TRN        channel of the open request             as the tables, or
+ *         2 * TRN + 1    CMD of the open request                 both 0: none is open
+ *
+ *     TRN 0xFE has the bytes 508 and 509. (No table has CMD 0x00 of channel 0x00.)
+ *     A record of another length, or not in these ranges, is refused with 6, and no
+ *     other is. Every call that is not refused leaves a record in range.
+ *
+ *     A request counts the frame number up, modulo 8, and the link commands CONNECT
+ *     and RESET set it to 0, as they do the numbers of the chip. No call takes a
+ *     number back, and sca_step_back knows nothing of the record: where a request
+ *     was lost, or the chip was stepped back or answers SREJ, send the lost body
+ *     again as it stands, while the chip still expects its number, or connect anew.
+ *
+ *     Only its reply closes a transaction. CONNECT and RESET close none; and what the
+ *     chip has dropped, by a RESET or because the channel of an open GO or start was
+ *     disabled, is never answered. To give a transaction up, set its two bytes to 0.
+ *     Whoever resets the chip makes a new record.
+ */
+
+/*
+ * sca_record_new - a record with nothing open, and frame number 0
+ *
+ * Writes the record's bytes, all 0, whatever they held before.
+ *
+ * Number: 17 (SCA_NO_FRAME), or refused:
+ *     6  record_length is not SCA_RECORD_BYTES
+ */
+uint64_t sca_record_new(uint8_t *record, size_t record_length);
+
+/*
+ * sca_request - the body of a request
+ *
+ * Writes SCA_REPLY_BYTES bytes at the front of output: address 0x00, control twice
+ * the frame number, TRN, CH, LEN, CMD, D[23:16], D[31:24], D[7:0], D[15:8]. TRN is
+ * the lowest that is free, 0x01 to 0xFE, so byte 2 of output tells the transaction;
+ * LEN is what the command's table asks; all 32 bits of data go out, whatever the
+ * command uses of them. The transaction is open from then on, and the frame number
+ * has gone up by one modulo 8. No other byte of output changes.
+ *
+ * The chip answers where it comes in the number that it expects, on its active
+ * port, not in loopback. A new record goes with a chip that is new or was just
+ * reset. CONNECT brings any record in step again; but the chip keeps an open GO
+ * or start through it, so keep the record too, or the reply of the old one would
+ * be taken for that of a new request with its TRN.
+ *
+ * Number, with sca_length:
+ *     0   SCA_REPLY_BYTES bytes were written
+ * or refused:
+ *     6   record_length is not SCA_RECORD_BYTES, or a field is out of range
+ *     1   output_length is under SCA_OUTPUT_LEAST
+ *     35  the tables have no such command of such a channel; 0x102 is none either
+ *     31  all SCA_TRANSACTIONS_MOST transactions are open
+ */
+uint64_t sca_request(uint8_t *record, size_t record_length, uint32_t channel, uint32_t command, uint32_t data,
+                     uint8_t *output, size_t output_length);
+
+/*
+ * sca_reply - the body of a reply or of an interrupt
+ *
+ * Writes SCA_ANSWER_BYTES bytes at the front of output: TRN, CH, CMD of the
+ * request, ERR, LEN, then the data, low byte first (sca_answer_data). A reply is
+ * matched by TRN and channel alone; it closes its transaction, whose TRN is free
+ * again. An interrupt, TRN 0xFF from channel 0x02, is told apart by sca_interrupt:
+ * its CMD is written as 0, and it closes nothing. Address and control are not
+ * read. No other byte of output changes.
+ *
+ * A port in loopback (SCA_TEST) sends a request back as it came: handed to
+ * sca_reply it would be taken for its reply, with LEN as ERR and CMD as LEN. Hand
+ * over nothing that came while the port was in loopback.
+ *
+ * Number, with sca_length and sca_interrupt:
+ *     0   SCA_ANSWER_BYTES bytes were written
+ * or refused:
+ *     6   as by sca_request
+ *     1   as by sca_request
+ *     33  body_length is not SCA_REPLY_BYTES, as that of an SREJ or an acknowledgement
+ *     32  no transaction of that TRN is open to that channel
+ */
+uint64_t sca_reply(uint8_t *record, size_t record_length, const uint8_t *body, size_t body_length, uint8_t *output,
+                   size_t output_length);
+
+/*
+ * sca_command - the body of a command of the link
+ *
+ * Writes 2 bytes at the front of output: address 0x00, and control. SCA_CONNECT
+ * and SCA_RESET, with or without SCA_POLL, set the frame number to 0; SCA_TEST
+ * leaves it. Open transactions stay open. No other byte of output changes.
+ *
+ * Number, with sca_length:
+ *     0   2 bytes were written
+ * or refused:
+ *     6   as by sca_request
+ *     1   as by sca_request
+ *     35  control is none of the six: SCA_CONNECT, SCA_RESET, SCA_TEST, or one of
+ *         them plus SCA_POLL
+ */
+uint64_t sca_command(uint8_t *record, size_t record_length, uint32_t control, uint8_t *output, size_t output_length);
 
 #ifdef __cplusplus
 }

@@ -3,13 +3,14 @@
 
 #![forbid(unsafe_code)]
 
+mod rows;
+
 use reference::adapter::{self, Journal, State};
+use rows::{compare, title, ROUNDS};
 use sca::boundary::{self, RawSample};
 use sca::{BATCH_LEAST, JOURNAL_BYTES, REPLY_BYTES, SAMPLES_MOST, STATE_BYTES};
 use std::time::Instant;
 
-/// Rounds of each measurement; the best of them counts.
-const ROUNDS: usize = 301;
 /// Events in a round.
 const EVENTS: usize = 4_096;
 /// Adapters that a round of steps back takes one step of.
@@ -256,24 +257,6 @@ fn steps_back<S: Side>(side: &S) -> (f64, usize) {
     let begin = Instant::now();
     let sum = sides.iter_mut().map(|side| side.step_back()).sum();
     (begin.elapsed().as_nanos() as f64 / ADAPTERS as f64, sum)
-}
-
-/// What stands in the columns.
-fn title(ours: &str, theirs: &str, ratio: &str) {
-    println!("{:<45} {:>9} {:>11} {:>19}", "", ours, theirs, ratio);
-}
-
-/// Both in turn, round after round; each one's best.
-fn compare(what: &str, mut ours: impl FnMut() -> (f64, usize), mut theirs: impl FnMut() -> (f64, usize)) {
-    let mut least = [f64::INFINITY; 2];
-    for _ in 0..ROUNDS {
-        let (our_time, our_sum) = ours();
-        let (their_time, their_sum) = theirs();
-        assert_eq!(our_sum, their_sum, "{}: both do the same work", what);
-        least = [least[0].min(our_time), least[1].min(their_time)];
-    }
-    let [ours, theirs] = least;
-    println!("{:<45} {:>9.1} {:>11.1} {:>19.2}", what, ours, theirs, theirs / ours);
 }
 
 /// Frames of one request over and over, both journals full.

@@ -93,6 +93,8 @@ function taken(at, word, operand) {
     if (word == "sub" && operand ~ /^\$0x[0-9a-f]+,%rsp$/) return number(substr(operand, 2))
     if (word == "add" && operand ~ /^\$0x[0-9a-f]+,%rsp$/) return -number(substr(operand, 2))
     if (word == "lea" && operand ~ /^-?0x[0-9a-f]+\(%rsp\),%rsp$/) return -number(operand)
+    # the address of what stands lowest in the frame, as lea gives that of what stands higher; in %rbp it would be a frame pointer
+    if (word == "mov" && operand ~ /^%rsp,%r([a-d]x|[sd]i|[89]|1[0-5])$/) return 0
     if (word ~ /^(call|ret|push|pop$|pop[^c]|enter|leave|iret|l(call|jmp|ret)|sys|into?$|xbegin|hlt|\(bad\)|\.)/) refuse(at, "not understood")
     if (word == "lea" && operand ~ /^-0x[0-9a-f]+\(%rsp/ || operand ~ /-0x[0-9a-f]+\(%rsp,/)
         refuse(at, "it does not say how far below the stack pointer it goes")

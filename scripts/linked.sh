@@ -6,6 +6,8 @@ test_linked() {
     test_documentation
     same_output "the example in Rust" examples/job.out "$built/job" build_rust_example
     same_output "the example in C, over the installed library" examples/job.out "$built/job_c" build_c_example
+    same_output "the control room in Rust" examples/control_room.out "$built/control_room" build_rust_room
+    same_output "the control room in C, over the installed library" examples/control_room.out "$built/control_room_c" build_c_room
 }
 
 test_crate() {
@@ -24,15 +26,19 @@ test_documentation() {
 }
 
 build_rust_example() { rust_build --crate-name job --extern sca rust/examples/job.rs; }
+build_rust_room() { rust_build --crate-name control_room --extern sca rust/examples/control_room.rs; }
+build_c_example() { build_installed job; }
+build_c_room() { build_installed control_room; }
 
-# Installs under a folder of its own, and builds with what the pkg-config file says and nothing else of the repository.
-build_c_example() {
+# build_installed NAME: an example of examples/, over the library installed under a folder of its own, with what the pkg-config file says and nothing
+# else of the repository.
+build_installed() {
     prefix=$logs/prefix
     scripts/install.sh "$prefix" || return
     eval "flags=\"$(sed -n 's/^Cflags: //p' "$prefix/lib/pkgconfig/sca.pc")\""
     eval "libraries=\"$(sed -n 's/^Libs: //p' "$prefix/lib/pkgconfig/sca.pc")\""
     # shellcheck disable=SC2086
-    "$cc" -std=c99 -Wall -Wextra -Werror -pedantic $flags -o "$built/job_c" examples/job.c $libraries
+    "$cc" -std=c99 -Wall -Wextra -Werror -pedantic $flags -o "$built/$1_c" "examples/$1.c" $libraries
 }
 
 # same_output NAME EXPECTED PROGRAM BUILD: builds a program, runs it, and compares what it prints with a file.

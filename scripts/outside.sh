@@ -7,6 +7,7 @@ test_outside() {
     step "build the reference" build_reference && test_reference
     test_c link
     test_c adapter
+    test_c room
     test_c guards
     test_stack
     test_symbols
@@ -17,6 +18,8 @@ test_outside() {
     tally "faults in the comparison" run "$built/compare" --seed "${SEED:-1}" --break
     tally "events" run "$built/events" --seed "${SEED:-1}"
     tally "faults in the events" run "$built/events" --seed "${SEED:-1}" --break
+    tally "both ends" run "$built/joined" --seed "${SEED:-1}"
+    tally "faults in both ends" run "$built/joined" --seed "${SEED:-1}" --break
     test_linked
     test_bench
     tally "examples" scripts/examples.sh
@@ -73,5 +76,6 @@ build_crate() { rust_build --crate-type rlib --crate-name sca -D warnings -L nat
 build_rust_tests() {
     rust_build --crate-name vectors --extern sca tests/vectors.rs &&
         rust_build --crate-name compare --extern sca --extern reference tests/compare/main.rs &&
-        rust_build --crate-name events --extern sca --extern reference tests/events/main.rs
+        rust_build --crate-name events --extern sca --extern reference tests/events/main.rs &&
+        rust_build --crate-name joined --extern sca --extern reference tests/joined/main.rs
 }

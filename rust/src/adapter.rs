@@ -1,6 +1,6 @@
 //! The adapter: a state and the journal that goes with it.
 
-use crate::answers::{dropped, refusal, Answer, Batch, Edge, Port, Refusal, Sample};
+use crate::answers::{done, dropped, looked_at, Answer, Batch, Edge, Port, Refusal, Sample};
 use crate::boundary::{self, RawAnswer, RawSample};
 use crate::bytes::{Bodies, Body};
 use crate::sizes::{BATCH_LEAST, JOURNAL_BYTES, OUTPUT_LEAST, SAMPLES_MOST, STATE_BYTES, TRANSFER_BYTES};
@@ -14,11 +14,6 @@ use std::borrow::Borrow;
 pub struct Adapter {
     state: [u8; STATE_BYTES],
     journal: Vec<u8>,
-}
-
-/// A number as the end of a call that sends nothing.
-fn done(number: u8) -> Result<(), Refusal> {
-    refusal(number).map_or(Ok(()), Err)
 }
 
 /// The port that a call gives.
@@ -135,13 +130,9 @@ impl Adapter {
     /// played.
     pub fn from_bytes(mut state: [u8; STATE_BYTES], journal: &[u8]) -> Result<Adapter, Refusal> {
         let mut journal = journal.to_vec();
-        // Without output an event is refused whatever it is, so that it changes nothing. It looks for 6 and 4 first:
-        // where it gives 1, for the output, state and journal are right.
-        let looked_at = boundary::sca_upset(&mut state, &mut journal, &mut []);
-        match refusal(looked_at.number) {
-            Some(Refusal::ShortOutput) | None => Ok(Adapter { state, journal }),
-            Some(refusal) => Err(refusal),
-        }
+        // Without output an event is refused, with 1 where it finds neither 6 nor 4.
+        looked_at(boundary::sca_upset(&mut state, &mut journal, &mut []).number)?;
+        Ok(Adapter { state, journal })
     }
 
     fn event(&mut self, call: impl FnOnce(&mut [u8], &mut [u8], &mut [u8]) -> RawAnswer) -> Result<Answer, Refusal> {

@@ -24,6 +24,17 @@ pub enum Edge {
     StrobeFalling = 2,
 }
 
+/// A command of the link: [`crate::ControlRoom::command`] writes its body. Its number is the control's.
+#[derive(Clone, Copy, PartialEq, Eq, Debug)]
+pub enum LinkCommand {
+    /// Makes its port active, zeroes the numbers of the link and ends loopback on both ports.
+    Connect = 0x2F,
+    /// The same, and sets all registers and the SEU counter to power-on.
+    Reset = 0x8F,
+    /// Puts its port in loopback.
+    Test = 0xE3,
+}
+
 /// The pins at one moment, as a logic probe hands it over: [`crate::Adapter::samples`] takes many.
 #[derive(Clone, Copy, PartialEq, Eq, Debug)]
 pub struct Sample {
@@ -49,7 +60,7 @@ pub enum Refusal {
     BadJournal = 4,
     /// The kept number is 0: there is no event to take back.
     NoneKept = 5,
-    /// The state or the receiver has another length, or a field out of range.
+    /// The state, the receiver or the record of open transactions has another length, or a field out of range.
     BadState = 6,
     /// The chip ID is over [`crate::ID_MOST`].
     BadId = 7,
@@ -57,6 +68,14 @@ pub enum Refusal {
     LongInput = 8,
     /// The start bit is over 8 times the bytes of the input.
     BadStart = 9,
+    /// No TRN is free: all [`crate::TRANSACTIONS_MOST`] transactions are open.
+    AllOpen = 31,
+    /// The reply matches no open transaction.
+    NoMatch = 32,
+    /// The reply's body is not [`crate::REPLY_BYTES`] bytes, as that of an SREJ or an acknowledgement.
+    BadReply = 33,
+    /// The tables have no such command.
+    NoCommand = 35,
 }
 
 /// Why an event was dropped. It is kept; no register has changed.
@@ -141,10 +160,67 @@ pub struct Received {
     pub heard: Heard,
 }
 
+/// What a request opens and its reply closes.
+#[derive(Clone, Copy, PartialEq, Eq, Hash, Debug)]
+pub struct Transaction {
+    /// The TRN, 0x01 to 0xFE.
+    pub trn: u8,
+    /// The channel of the request.
+    pub channel: u8,
+    /// The CMD of the request.
+    pub command: u8,
+}
+
+/// A request that was written.
+#[derive(Clone, Copy, PartialEq, Eq, Debug)]
+pub struct Request {
+    /// The body, to be sent.
+    pub body: Body,
+    /// What is open until the reply comes.
+    pub transaction: Transaction,
+}
+
+/// What the control room read.
+#[derive(Clone, Copy, PartialEq, Eq, Debug)]
+#[non_exhaustive]
+pub enum Reply {
+    /// The answer to a request that was open. It is closed.
+    Answered {
+        /// The request.
+        transaction: Transaction,
+        /// ERR: 0, or the bit that says why the chip did not do it, as `include/sca.h` lists them.
+        error: u8,
+        /// LEN.
+        length: u8,
+        /// The data, `D[31:0]`.
+        data: u32,
+    },
+    /// An interrupt of the parallel lines. It closes nothing.
+    Interrupt {
+        /// ERR; an [`crate::Adapter`] gives 0.
+        error: u8,
+        /// LEN; an [`crate::Adapter`] gives 4.
+        length: u8,
+        /// The data, INTS: bit n is set where line n fired.
+        lines: u32,
+    },
+}
+
+impl Reply {
+    /// The data where ERR is 0, else ERR.
+    pub fn data_or_error(&self) -> Result<u32, u8> {
+        let (Reply::Answered { error, data, .. } | Reply::Interrupt { error, lines: data, .. }) = *self;
+        match error {
+            0 => Ok(data),
+            _ => Err(error),
+        }
+    }
+}
+
 /// A number in words, as `sca_text` of `include/sca.h` has it.
 pub fn text(number: u8) -> &'static str {
     match number {
-        0 => "a frame was read or sent",
+        0 => "a frame was read or sent, or a body written or read",
         1 => "the output is under 16 bytes (transmitter: under 24, batch: under 2,560)",
         2 => "the body is not 2 to 16 bytes",
         3 => {
@@ -153,7 +229,7 @@ pub fn text(number: u8) -> &'static str {
         }
         4 => "the journal's length, mark, version or layout is wrong",
         5 => "the kept number is 0",
-        6 => "the state or the receiver has another length, or a field out of range",
+        6 => "the state, the receiver or the record of open transactions has another length, or a field out of range",
         7 => "the chip ID is over 0xFFFFFF",
         8 => "the receiver's input is over 65,536 bytes",
         9 => "the start bit is over 8 times the bytes",
@@ -169,6 +245,10 @@ pub fn text(number: u8) -> &'static str {
         22 => "the receiver dropped a frame: its content is not a multiple of 8 bits",
         23 => "the receiver dropped a frame: its FCS is wrong",
         24 => "the receiver dropped a frame: seven ones broke it off",
+        31 => "no TRN is free: all 254 transactions are open",
+        32 => "the reply matches no open transaction",
+        33 => "the reply's body is not 10 bytes",
+        35 => "the tables have no such command",
         _ => "unknown number",
     }
 }
@@ -211,7 +291,25 @@ pub(crate) fn refusal(number: u8) -> Option<Refusal> {
         7 => Some(BadId),
         8 => Some(LongInput),
         9 => Some(BadStart),
+        31 => Some(AllOpen),
+        32 => Some(NoMatch),
+        33 => Some(BadReply),
+        35 => Some(NoCommand),
         _ => None,
+    }
+}
+
+/// A number as the end of a call: refused or done.
+pub(crate) fn done(number: u8) -> Result<(), Refusal> {
+    refusal(number).map_or(Ok(()), Err)
+}
+
+/// The number of a call without output. It is refused whatever else it is handed, so that it changes nothing: with 1, for the
+/// output, where the bytes that it looks at before are right.
+pub(crate) fn looked_at(number: u8) -> Result<(), Refusal> {
+    match done(number) {
+        Err(Refusal::ShortOutput) => Ok(()),
+        other => other,
     }
 }
 

@@ -86,6 +86,31 @@ mod library {
             output_length: usize,
         ) -> u64;
         pub fn sca_step_back(state: *mut u8, state_length: usize, journal: *mut u8, journal_length: usize) -> u64;
+        pub fn sca_record_new(record: *mut u8, record_length: usize) -> u64;
+        pub fn sca_request(
+            record: *mut u8,
+            record_length: usize,
+            channel: u32,
+            command: u32,
+            data: u32,
+            output: *mut u8,
+            output_length: usize,
+        ) -> u64;
+        pub fn sca_reply(
+            record: *mut u8,
+            record_length: usize,
+            body: *const u8,
+            body_length: usize,
+            output: *mut u8,
+            output_length: usize,
+        ) -> u64;
+        pub fn sca_command(
+            record: *mut u8,
+            record_length: usize,
+            control: u32,
+            output: *mut u8,
+            output_length: usize,
+        ) -> u64;
     }
 }
 
@@ -358,5 +383,77 @@ pub fn sca_step_back(state: &mut [u8], journal: &mut [u8]) -> RawAnswer {
     // Sound: as above.
     RawAnswer::of(unsafe {
         library::sca_step_back(state.as_mut_ptr(), state.len(), journal.as_mut_ptr(), journal.len())
+    })
+}
+
+/// What a call of the control room gives.
+#[derive(Clone, Copy, PartialEq, Eq, Debug)]
+pub struct RawGiven {
+    /// The number; [`crate::text`] has it in words.
+    pub number: u8,
+    /// The bytes written.
+    pub length: usize,
+    /// Whether an interrupt was read.
+    pub interrupt: bool,
+}
+
+impl RawGiven {
+    fn of(result: u64) -> RawGiven {
+        RawGiven {
+            number: result as u8,
+            length: usize::from((result >> 8) as u8),
+            interrupt: (result >> 16) & 1 == 1,
+        }
+    }
+}
+
+/// Makes a record with nothing open; gives the whole value, in which nothing stands above the number.
+pub fn sca_record_new(record: &mut [u8]) -> u64 {
+    // Sound: as above.
+    unsafe { library::sca_record_new(record.as_mut_ptr(), record.len()) }
+}
+
+/// The body of a request.
+pub fn sca_request(record: &mut [u8], channel: u32, command: u32, data: u32, output: &mut [u8]) -> RawGiven {
+    // Sound: as above.
+    RawGiven::of(unsafe {
+        library::sca_request(
+            record.as_mut_ptr(),
+            record.len(),
+            channel,
+            command,
+            data,
+            output.as_mut_ptr(),
+            output.len(),
+        )
+    })
+}
+
+/// What a reply or an interrupt says.
+pub fn sca_reply(record: &mut [u8], body: &[u8], output: &mut [u8]) -> RawGiven {
+    // Sound: as above.
+    RawGiven::of(unsafe {
+        library::sca_reply(
+            record.as_mut_ptr(),
+            record.len(),
+            body.as_ptr(),
+            body.len(),
+            output.as_mut_ptr(),
+            output.len(),
+        )
+    })
+}
+
+/// The body of a command of the link.
+pub fn sca_command(record: &mut [u8], control: u32, output: &mut [u8]) -> RawGiven {
+    // Sound: as above.
+    RawGiven::of(unsafe {
+        library::sca_command(
+            record.as_mut_ptr(),
+            record.len(),
+            control,
+            output.as_mut_ptr(),
+            output.len(),
+        )
     })
 }

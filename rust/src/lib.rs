@@ -10,6 +10,9 @@
 //!
 //! What a logic probe saw goes in at once, as a [`Sample`] for each moment: [`Adapter::samples`].
 //!
+//! At the other end of the link a [`ControlRoom`] writes requests, reads their replies and interrupts, and keeps which
+//! transactions are open. `examples/control_room.rs` has both ends, with a cable between them.
+//!
 //! A call that is refused gives a [`Refusal`] and changes nothing.
 
 #![deny(unsafe_code)]
@@ -20,16 +23,20 @@ mod answers;
 #[allow(unsafe_code)]
 pub mod boundary;
 mod bytes;
+mod control_room;
 mod link;
 mod sizes;
 
 pub use adapter::Adapter;
-pub use answers::{text, Answer, Batch, Broken, Dropped, Edge, Heard, Port, Received, Refusal, Sample};
+pub use answers::{text, Answer, Batch, Broken, Dropped, Edge, Heard, LinkCommand, Port, Received, Refusal, Reply};
+pub use answers::{Request, Sample, Transaction};
 pub use bytes::{Bodies, Body, Bytes, Frame};
+pub use control_room::ControlRoom;
 pub use link::{transmit, Listening, Receiver};
 pub use sizes::{
-    BATCH_LEAST, BODY_LEAST, BODY_MOST, CABLE_MOST, I2C_FIRST, I2C_LAST, I2C_MOST, ID_MOST, INPUT_MOST, JOURNAL_BYTES,
-    KEPT_MOST, OUTPUT_LEAST, RECEIVER_BYTES, REPLY_BYTES, SAMPLES_MOST, STATE_BYTES, TRANSFER_BYTES, VERSION,
+    ANSWER_BYTES, BATCH_LEAST, BODY_LEAST, BODY_MOST, CABLE_MOST, I2C_FIRST, I2C_LAST, I2C_MOST, ID_MOST, INPUT_MOST,
+    JOURNAL_BYTES, KEPT_MOST, OUTPUT_LEAST, RECEIVER_BYTES, RECORD_BYTES, REPLY_BYTES, SAMPLES_MOST, STATE_BYTES,
+    TRANSACTIONS_MOST, TRANSFER_BYTES, VERSION,
 };
 
 /// The version of the archive that was linked: [`VERSION`], where it is the one that this crate is made for.

@@ -1,6 +1,6 @@
 //! The link: frames from cable bits, and cable bytes from bodies.
 
-use crate::answers::{broken, refusal, Heard, Received, Refusal};
+use crate::answers::{broken, done, looked_at, Heard, Received, Refusal};
 use crate::boundary;
 use crate::bytes::{Body, Frame};
 use crate::sizes::{CABLE_MOST, INPUT_MOST, OUTPUT_LEAST, RECEIVER_BYTES};
@@ -23,9 +23,7 @@ impl Receiver {
     pub fn receive(&mut self, cable: &[u8], start: usize) -> Result<Received, Refusal> {
         let mut output = [0; OUTPUT_LEAST];
         let received = boundary::sca_receive(&mut self.bytes, cable, start, &mut output);
-        if let Some(refusal) = refusal(received.number) {
-            return Err(refusal);
-        }
+        done(received.number)?;
         let heard = match (received.number, broken(received.number)) {
             (_, Some(broken)) => Heard::Broken(broken),
             (0, None) => Heard::HasFrame(Body::front(output, received.length)),
@@ -53,13 +51,9 @@ impl Receiver {
 
     /// A receiver that was kept; refused where its bytes are out of range. No bit is read.
     pub fn from_bytes(mut bytes: [u8; RECEIVER_BYTES]) -> Result<Receiver, Refusal> {
-        // Without input and output the call is refused whatever the bytes are, so that it changes none. It looks for 6
-        // first, and 8 and 9 cannot be: where it gives 1, for the output, the receiver is in range.
-        let looked_at = boundary::sca_receive(&mut bytes, &[], 0, &mut []);
-        match refusal(looked_at.number) {
-            Some(Refusal::ShortOutput) | None => Ok(Receiver { bytes }),
-            Some(refusal) => Err(refusal),
-        }
+        // Without output the call is refused, with 1 where it does not find 6; 8 and 9 cannot be without input.
+        looked_at(boundary::sca_receive(&mut bytes, &[], 0, &mut []).number)?;
+        Ok(Receiver { bytes })
     }
 }
 
@@ -101,8 +95,6 @@ impl Iterator for Listening<'_> {
 pub fn transmit(body: &[u8]) -> Result<Frame, Refusal> {
     let mut output = [0; CABLE_MOST];
     let sent = boundary::sca_transmit(body, &mut output);
-    match refusal(sent.number) {
-        Some(refusal) => Err(refusal),
-        None => Ok(Frame::front(output, sent.count)),
-    }
+    done(sent.number)?;
+    Ok(Frame::front(output, sent.count))
 }

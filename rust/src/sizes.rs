@@ -1,8 +1,8 @@
 //! The version, the sizes of what calls take and the channels of the I2C masters, under the names of `include/sca.h`, there
 //! with `SCA_` in front.
 
-/// The version that this crate is made for, 1.3.0: major << 16 | minor << 8 | patch. [`crate::version`] gives the archive's.
-pub const VERSION: u64 = 0x01_0300;
+/// The version that this crate is made for, 1.4.0: major << 16 | minor << 8 | patch. [`crate::version`] gives the archive's.
+pub const VERSION: u64 = 0x01_0400;
 
 /// The bytes of the shortest body.
 pub const BODY_LEAST: usize = 2;
@@ -12,9 +12,9 @@ pub const BODY_MOST: usize = 16;
 pub const CABLE_MOST: usize = 24;
 /// The most bytes of cable in one reading.
 pub const INPUT_MOST: usize = 65_536;
-/// The least output of a receiver and of an event.
+/// The least output of a receiver, of an event and of the control room's calls.
 pub const OUTPUT_LEAST: usize = 16;
-/// The bytes of a reply and of an interrupt, so of each body that a batch sends.
+/// The bytes of a request, a reply and an interrupt, so of each body that a batch sends.
 pub const REPLY_BYTES: usize = 10;
 /// The most samples of a batch.
 pub const SAMPLES_MOST: usize = 256;
@@ -38,3 +38,9 @@ pub const STATE_BYTES: usize = 411;
 pub const JOURNAL_BYTES: usize = 17_408;
 /// The most events that can be taken back.
 pub const KEPT_MOST: usize = 64;
+/// The bytes of a record of open transactions.
+pub const RECORD_BYTES: usize = 510;
+/// The most transactions that can be open at once.
+pub const TRANSACTIONS_MOST: usize = 254;
+/// What is written of a reply or an interrupt.
+pub const ANSWER_BYTES: usize = 9;

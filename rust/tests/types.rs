@@ -5,9 +5,11 @@
 #![deny(unreachable_patterns)]
 
 use sca::boundary::{self, RawSample};
-use sca::{text, transmit, Adapter, Answer, Broken, Dropped, Edge, Heard, Port, Receiver, Refusal};
-use sca::{BATCH_LEAST, BODY_LEAST, BODY_MOST, CABLE_MOST, I2C_FIRST, I2C_LAST, I2C_MOST, ID_MOST, INPUT_MOST};
-use sca::{KEPT_MOST, OUTPUT_LEAST, RECEIVER_BYTES, REPLY_BYTES, SAMPLES_MOST, STATE_BYTES, TRANSFER_BYTES};
+use sca::{text, transmit, Adapter, Answer, Broken, ControlRoom, Dropped, Edge, Heard, LinkCommand, Port, Receiver};
+use sca::{Refusal, Reply};
+use sca::{ANSWER_BYTES, BATCH_LEAST, BODY_LEAST, BODY_MOST, CABLE_MOST, I2C_FIRST, I2C_LAST, I2C_MOST, ID_MOST};
+use sca::{INPUT_MOST, KEPT_MOST, OUTPUT_LEAST, RECEIVER_BYTES, RECORD_BYTES, REPLY_BYTES, SAMPLES_MOST, STATE_BYTES};
+use sca::{TRANSACTIONS_MOST, TRANSFER_BYTES};
 use std::mem::{align_of, size_of};
 
 fn adapter() -> Adapter {
@@ -296,10 +298,10 @@ fn wide_bits() {
 
 #[test]
 fn the_version() {
-    assert_eq!(sca::VERSION, 0x01_0300);
+    assert_eq!(sca::VERSION, 0x01_0400);
     assert_eq!(sca::version(), sca::VERSION);
     for manifest in [include_str!("../Cargo.toml"), include_str!("../Cargo.lock")] {
-        assert!(manifest.lines().any(|line| line == "version = \"1.3.0\""));
+        assert!(manifest.lines().any(|line| line == "version = \"1.4.0\""));
     }
 }
 
@@ -314,8 +316,12 @@ fn texts() {
         Broken::WrongFcs.to_string(),
         "23: the receiver dropped a frame: its FCS is wrong"
     );
+    assert_eq!(
+        Refusal::AllOpen.to_string(),
+        "31: no TRN is free: all 254 transactions are open"
+    );
     for number in 0..=255 {
-        let known = number <= 17 || (21..=24).contains(&number);
+        let known = matches!(number, 0..=17 | 21..=24 | 31..=33 | 35);
         assert_eq!(text(number) != "unknown number", known);
     }
 }
@@ -384,7 +390,7 @@ fn sizes_have_one_name() {
 #[test]
 fn one_vocabulary() {
     let numbers = numbers_of_the_header();
-    assert_eq!(numbers.len(), 22);
+    assert_eq!(numbers.len(), 26);
     let source = include_str!("../../crates/numbers/src/lib.rt");
     assert_eq!(source.matches(": u8 = ").count(), numbers.len());
     for (name, number, words) in &numbers {
@@ -415,6 +421,10 @@ fn one_vocabulary() {
         BadId,
         LongInput,
         BadStart,
+        AllOpen,
+        NoMatch,
+        BadReply,
+        NoCommand,
     ] {
         named(format!("{:?}", refusal), refusal as u8);
     }
@@ -454,14 +464,50 @@ fn sizes() {
         ("STATE_BYTES", STATE_BYTES),
         ("JOURNAL_BYTES", sca::JOURNAL_BYTES),
         ("KEPT_MOST", KEPT_MOST),
+        ("RECORD_BYTES", RECORD_BYTES),
+        ("TRANSACTIONS_MOST", TRANSACTIONS_MOST),
+        ("ANSWER_BYTES", ANSWER_BYTES),
     ] {
         assert!(header.contains(&format!("#define SCA_{} {} ", name, size)), "{}", name);
     }
     assert!(header.contains(&format!("#define SCA_ID_MOST 0x{:X} ", ID_MOST)));
     assert!(header.contains(&format!("#define SCA_VERSION 0x{:06X}\n", sca::VERSION)));
     assert!(header.contains(&format!("    SCA_I2C_FIRST = 0x{:02X}, ", I2C_FIRST)));
-    assert!(header.contains(&format!("    SCA_I2C_LAST = 0x{:02X} ", I2C_LAST)));
-    assert_eq!(header.matches("#define SCA_").count(), 17); // with SCA_H
+    assert!(header.contains(&format!("    SCA_I2C_LAST = 0x{:02X}, ", I2C_LAST)));
+    assert_eq!(header.matches("#define SCA_").count(), 20); // with SCA_H
+}
+
+/// The arguments of the header that have a type of their own here, each by its number.
+#[test]
+fn arguments() {
+    let header = include_str!("../../include/sca.h");
+    for (name, number) in [
+        ("PRIMARY", Port::Primary as u32),
+        ("AUXILIARY", Port::Auxiliary as u32),
+        ("SYSTEM_CLOCK", Edge::SystemClock as u32),
+        ("STROBE_RISING", Edge::StrobeRising as u32),
+        ("STROBE_FALLING", Edge::StrobeFalling as u32),
+    ] {
+        assert!(header.contains(&format!("    SCA_{} = {},", name, number)), "{}", name);
+    }
+    for (name, command) in [
+        ("CONNECT", LinkCommand::Connect),
+        ("RESET", LinkCommand::Reset),
+        ("TEST", LinkCommand::Test),
+    ] {
+        let control = command as u8;
+        assert!(
+            header.contains(&format!("    SCA_{} = 0x{:02X},", name, control)),
+            "{}",
+            name
+        );
+        let polled = ControlRoom::new().command_with_poll(command)[1];
+        assert!(
+            header.contains(&format!("    SCA_POLL = 0x{:02X} ", polled - control)),
+            "{}",
+            name
+        );
+    }
 }
 
 /// The enums that will grow; see the head of this file.
@@ -479,10 +525,16 @@ fn matches_with_an_arm_for_what_is_to_come() {
         Heard::NoFrame => 3,
         _ => 4,
     };
+    let of_reply = |reply| match reply {
+        Reply::Answered { .. } => 1,
+        Reply::Interrupt { .. } => 2,
+        _ => 3,
+    };
     use {Broken::*, Dropped::*, Refusal::*};
     let of_refusal = |refusal| match refusal {
         ShortOutput | BadBody | BadArgument | BadJournal | NoneKept | BadState | BadId | LongInput | BadStart => 1,
-        _ => 2,
+        AllOpen | NoMatch | BadReply | NoCommand => 2,
+        _ => 3,
     };
     let of_dropped = |dropped| match dropped {
         OtherAddress | OtherPort | OtherControl | BadInformation | NotBusy | LinesDisabled => 1,
@@ -494,7 +546,10 @@ fn matches_with_an_arm_for_what_is_to_come() {
     };
     assert_eq!(of_answer(adapter().upset().unwrap()), 3);
     assert_eq!(of_heard(Receiver::new().receive(&[], 0).unwrap().heard), 3);
-    assert_eq!((of_refusal(BadId), of_dropped(NotBusy), of_broken(Aborted)), (1, 1, 1));
+    let interrupt = [0x00, 0x20, 0xFF, 0x02, 0x00, 0x04, 0x00, 0x00, 0x01, 0x00];
+    assert_eq!(of_reply(ControlRoom::new().reply(&interrupt).unwrap()), 2);
+    assert_eq!((of_refusal(BadId), of_refusal(NoCommand)), (1, 2));
+    assert_eq!((of_dropped(NotBusy), of_broken(Aborted)), (1, 1));
 }
 
 #[test]

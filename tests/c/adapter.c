@@ -170,7 +170,7 @@ static void order_of_refusals(void) {
 }
 
 static void version(void) {
-    check(SCA_VERSION == (1 << 16 | 3 << 8 | 0) && sca_version() == SCA_VERSION, "the library is of the header's version, 1.3.0");
+    check(SCA_VERSION == (1 << 16 | 4 << 8 | 0) && sca_version() == SCA_VERSION, "the library is of the header's version, 1.4.0");
 }
 
 static void readers(void) {
@@ -183,15 +183,16 @@ static void readers(void) {
     check(sca_number(batch) == SCA_HAS_FRAME && sca_length(batch) == 10 && sca_port(batch) == SCA_AUXILIARY && sca_frames(batch) == 256 &&
               sca_sum(batch) == 0x1234,
           "a batch's");
-    for (unsigned number = 0; number <= 0xFF; number++) refused &= sca_refused(0x010A00 | number) == (number >= 1 && number <= 10);
-    check(refused, "1 to 10 are refusals, and no other number is");
+    for (unsigned number = 0; number <= 0xFF; number++)
+        refused &= sca_refused(0x010A00 | number) == ((number >= 1 && number <= 10) || (number >= 31 && number <= 35));
+    check(refused, "1 to 10 and 31 to 35 are refusals, and no other number is");
 }
 
 static void texts(void) {
     static const char none[] = "unknown number";
     int each = 1, others = 1, differ = 1;
     for (unsigned number = 0; number <= 0x1FF; number++) {
-        int known = number <= 17 || (number >= 21 && number <= 24);
+        int known = number <= 17 || (number >= 21 && number <= 24) || (number >= 31 && number <= 33) || number == 35;
         each &= !known || (strcmp(sca_text(number), none) != 0 && strlen(sca_text(number)) > 10);
         others &= known || strcmp(sca_text(number), none) == 0;
         for (unsigned other = 0; known && other < number; other++) differ &= strcmp(sca_text(number), sca_text(other)) != 0;

@@ -21,7 +21,7 @@ struct lent {
     size_t length;
 };
 
-static struct lent state, journal, output, body, received, list, receiver, input;
+static struct lent state, journal, output, body, received, list, receiver, input, record;
 static int at_end;
 
 static struct lent between_guards(size_t most) {
@@ -811,6 +811,283 @@ static void transmitters(void) {
     check(good, "a transmitter's bodies of 0 to 20 and outputs of 0 to 25 bytes");
 }
 
+/* --------------------------------------------------------- the control room */
+
+enum room_call { REQUEST, REPLY, COMMAND, ROOM_CALLS };
+
+/* The command of a request, whose channel is `channel`, and the control of a command of the link. */
+static uint32_t code, control;
+
+static uint64_t room_call(enum room_call which) {
+    switch (which) {
+    case REQUEST:
+        return sca_request(record.at, record.length, channel, code, 0x12345678, output.at, output.length);
+    case REPLY:
+        return sca_reply(record.at, record.length, body.at, body.length, output.at, output.length);
+    default:
+        return sca_command(record.at, record.length, control, output.at, output.length);
+    }
+}
+
+/* The tables of commands: document 01's, and of 2026-01 for the masters. */
+static const struct {
+    uint8_t first, last, many, codes[24];
+} tables[] = {
+    {0x00, 0x00, 6, {0x02, 0x03, 0x04, 0x05, 0x06, 0x07}},
+    {0x01, 0x01, 15, {0x00, 0x01, 0x10, 0x11, 0x20, 0x21, 0x30, 0x31, 0x40, 0x41, 0x50, 0x51, 0x60, 0x61, 0x72}},
+    {0x02, 0x02, 17, {0x01, 0x10, 0x11, 0x20, 0x21, 0x30, 0x31, 0x40, 0x41, 0x60, 0x61, 0x70, 0x71, 0x80, 0x81,
+                      0x90, 0x91}},
+    {0x03, 0x12, 24, {0x11, 0x20, 0x21, 0x30, 0x31, 0x40, 0x41, 0x50, 0x51, 0x60, 0x61, 0x70, 0x71, 0x82, 0x86,
+                      0x8A, 0x8E, 0xC2, 0xC6, 0xCA, 0xDA, 0xDE, 0xE2, 0xE6}},
+    {0x13, 0x13, 2, {0xF0, 0xF1}},
+    {0x14, 0x14, 1, {0xD1}},
+    {0x15, 0x15, 8, {0x10, 0x11, 0x20, 0x21, 0x30, 0x31, 0x40, 0x41}},
+};
+enum { TABLES = sizeof tables / sizeof tables[0], MASTERS = 3 };
+
+static int listed(uint32_t to, uint32_t command) {
+    for (size_t row = 0; row < TABLES; row++)
+        if (to >= tables[row].first && to <= tables[row].last)
+            return command <= 0xFF && memchr(tables[row].codes, (int)command, tables[row].many) != NULL;
+    return 0;
+}
+
+static int is_free(const uint8_t *bytes, size_t trn) { return bytes[2 * trn] == 0 && bytes[2 * trn + 1] == 0; }
+
+/* Number 6, on a record's bytes as docs/RECORD.md lists them. */
+static int record_in_range(const uint8_t *bytes) {
+    for (size_t trn = 0x01; trn <= 0xFE; trn++)
+        if (!is_free(bytes, trn) && !listed(bytes[2 * trn], bytes[2 * trn + 1])) return 0;
+    return bytes[0] <= 7 && bytes[1] == 0;
+}
+
+/* The lowest free TRN, or 0xFF. */
+static size_t free_trn(const uint8_t *bytes) {
+    size_t trn = 0x01;
+    while (trn <= 0xFE && !is_free(bytes, trn)) trn++;
+    return trn;
+}
+
+/* What a call that is not refused makes of a record, and the bytes that it writes to the output; it gives how many. */
+static size_t room_due(enum room_call which, uint8_t *bytes, uint8_t *written) {
+    size_t trn;
+    if (which == COMMAND) {
+        written[0] = 0x00, written[1] = (uint8_t)control;
+        if ((control & 0xEF) != SCA_TEST) bytes[0] = 0;
+        return 2;
+    }
+    trn = which == REQUEST ? free_trn(bytes) : body.at[2];
+    if (which == REQUEST) {
+        /* LEN is not looked at here. */
+        uint8_t due[] = {0x00, (uint8_t)(2 * bytes[0]), (uint8_t)trn, (uint8_t)channel, output.at[4], (uint8_t)code};
+        memcpy(written, due, sizeof due), memcpy(written + sizeof due, "\x34\x12\x78\x56", 4);
+        bytes[0] = (bytes[0] + 1) % 8;
+        if (trn <= 0xFE) bytes[2 * trn] = (uint8_t)channel, bytes[2 * trn + 1] = (uint8_t)code;
+        return SCA_REPLY_BYTES;
+    }
+    written[0] = body.at[2], written[1] = body.at[3], written[2] = 0, written[3] = body.at[4], written[4] = body.at[5];
+    written[5] = body.at[8], written[6] = body.at[9], written[7] = body.at[6], written[8] = body.at[7];
+    if (trn <= 0xFE) written[2] = bytes[2 * trn + 1], bytes[2 * trn] = bytes[2 * trn + 1] = 0;
+    return SCA_ANSWER_BYTES;
+}
+
+/* The call's number, and whether it left what it must: all where it is refused, else each byte that it has to write,
+ * and no other one. */
+static unsigned room_number_of(enum room_call which, int *good) {
+    uint64_t result;
+    note(&record), note(&body), note(&output);
+    writable(&body, 0);
+    given = result = room_call(which);
+    writable(&body, 1);
+    *good &= unchanged(&body);
+    if (sca_refused(result)) {
+        *good &= unchanged(&record) && unchanged(&output) && result == sca_number(result);
+    } else {
+        uint8_t bytes[SCA_RECORD_BYTES], written[SCA_REPLY_BYTES];
+        size_t many;
+        memcpy(bytes, record.was + (record.at - record.room), sizeof bytes);
+        many = room_due(which, bytes, written);
+        *good &= sca_length(result) == many && memcmp(output.at, written, many) == 0 && unchanged_after(&output, many);
+        *good &= memcmp(record.at, bytes, sizeof bytes) == 0 && unchanged_after(&record, sizeof bytes);
+        *good &= sca_interrupt(result) == (which == REPLY && body.at[2] == 0xFF);
+    }
+    return sca_number(result);
+}
+
+/* All as it must be for a call to be granted. Open is the last TRN alone, so that a request takes the first one; or
+ * all but the last are, with commands of every channel. The reply is to an open one, the last or the first. */
+static void lend_room(int many) {
+    uint8_t bytes[SCA_RECORD_BYTES] = {7}, sent[] = {0x00, 0x20, 0x01, 0x00, 0x00, 0x04, 0x34, 0x12, 0x78, 0x56};
+    for (size_t trn = many ? 0x01 : 0xFE; trn <= (many ? 0xFD : 0xFE); trn++) {
+        size_t row = trn % TABLES;
+        bytes[2 * trn] = (uint8_t)(tables[row].first + (row == MASTERS ? trn % 16 : 0));
+        bytes[2 * trn + 1] = tables[row].codes[trn % tables[row].many];
+    }
+    sent[2] = many ? 0x01 : 0xFE, sent[3] = bytes[2 * sent[2]];
+    channel = 0x02, code = 0x01, control = SCA_CONNECT;
+    lend_bytes(&record, bytes, sizeof bytes);
+    lend_bytes(&body, sent, sizeof sent);
+    lend(&output, SCA_OUTPUT_LEAST);
+}
+
+/* For each place of the buffers, and each of the two records. */
+#define EACH_ROOM \
+    for (at_end = 0; at_end <= 1; at_end++) \
+        for (int many = 0; many <= 1; many++)
+#define EACH_ROOM_CALL EACH_ROOM for (enum room_call which = REQUEST; which < ROOM_CALLS; which++)
+
+static void lengths_in_the_room(void) {
+    static const size_t lengths[] = {0, 1, 2, 508, 509, 510, 511, 512};
+    int records = 1, outputs = 1, bodies = 1, made = 1;
+    EACH_ROOM_CALL {
+        for (size_t at = 0; at < sizeof lengths / sizeof lengths[0]; at++) {
+            size_t length = lengths[at];
+            uint8_t bytes[512] = {0};
+            lend_room(many);
+            memcpy(bytes, record.at, SCA_RECORD_BYTES);
+            lend_bytes(&record, bytes, length);
+            unsigned number = room_number_of(which, &records);
+            records &= number == (length == SCA_RECORD_BYTES ? SCA_HAS_FRAME : SCA_BAD_STATE);
+        }
+        for (size_t length = 0; length <= 25; length++) {
+            lend_room(many);
+            lend(&output, length);
+            unsigned number = room_number_of(which, &outputs);
+            outputs &= number == (length < SCA_OUTPUT_LEAST ? SCA_SHORT_OUTPUT : SCA_HAS_FRAME);
+        }
+    }
+    EACH_ROOM
+    for (size_t length = 0; length <= 20; length++) {
+        uint8_t bytes[20] = {0};
+        lend_room(many);
+        memcpy(bytes, body.at, SCA_REPLY_BYTES);
+        lend_bytes(&body, bytes, length);
+        unsigned number = room_number_of(REPLY, &bodies);
+        bodies &= number == (length == SCA_REPLY_BYTES ? SCA_HAS_FRAME : SCA_BAD_REPLY);
+    }
+    for (at_end = 0; at_end <= 1; at_end++)
+        for (size_t at = 0; at < sizeof lengths / sizeof lengths[0]; at++) {
+            size_t length = lengths[at];
+            int right = length == SCA_RECORD_BYTES;
+            lend(&record, length);
+            note(&record);
+            made &= sca_record_new(record.at, length) == (right ? SCA_NO_FRAME : SCA_BAD_STATE);
+            made &= unchanged_after(&record, right ? length : 0) && (!right || all_zero(record.at, 0, length - 1));
+        }
+    check(records, "records of 0 to 2 and of 508 to 512 bytes, in each call of the control room");
+    check(made, "and in sca_record_new");
+    check(outputs, "its outputs of 0 to 25 bytes");
+    check(bodies, "replies of 0 to 20 bytes");
+}
+
+static void arguments_in_the_room(void) {
+    int channels = 1, commands = 1, controls = 1;
+    EACH_ROOM
+    for (unsigned at = 0; at <= 0x3FF + 24; at++) {
+        /* 0 to 767, the last 256 numbers of 32 bits, then one bit above a low byte that would do */
+        uint32_t value = at <= 0x2FF ? at : 0xFFFFFC00 + at, bit = at <= 0x3FF ? 0 : (uint32_t)1 << (at - 0x400 + 8);
+        unsigned number;
+        lend_room(many);
+        channel = bit ? bit | 0x02 : value;
+        number = room_number_of(REQUEST, &channels);
+        channels &= number == (listed(channel, code) ? SCA_HAS_FRAME : SCA_NO_COMMAND);
+        lend_room(many);
+        code = bit ? bit | 0x01 : value;
+        number = room_number_of(REQUEST, &commands);
+        commands &= number == (listed(channel, code) ? SCA_HAS_FRAME : SCA_NO_COMMAND);
+        lend_room(many);
+        control = bit ? bit | SCA_CONNECT : value;
+        number = room_number_of(COMMAND, &controls);
+        value = control & ~(uint32_t)SCA_POLL;
+        controls &= number == (value == 0x2F || value == 0x8F || value == 0xE3 ? SCA_HAS_FRAME : SCA_NO_COMMAND);
+    }
+    check(channels, "a request's channels up to 767, and those of one more bit");
+    check(commands, "its commands");
+    check(controls, "and the controls of commands of the link");
+}
+
+static void bits_of_records(void) {
+    int good = 1;
+    EACH_ROOM_CALL
+    for (size_t bit = 0; bit < 8 * SCA_RECORD_BYTES; bit++) {
+        lend_room(many);
+        record.at[bit / 8] ^= (uint8_t)(1 << bit % 8);
+        int ranged = record_in_range(record.at);
+        unsigned number = room_number_of(which, &good);
+        good &= (number == SCA_BAD_STATE) == !ranged;
+    }
+    check(good, "records with any one bit flipped");
+}
+
+/* TRN 0x00 would stand where the frame number does, and 0xFF behind the record. */
+static void replies_in_the_room(void) {
+    int good = 1;
+    EACH_ROOM
+    for (unsigned trn = 0; trn <= 0xFF; trn++)
+        for (unsigned from = 0; from <= 0x17; from++) {
+            lend_room(many);
+            body.at[2] = (uint8_t)trn, body.at[3] = (uint8_t)from;
+            int interrupt = trn == 0xFF && from == 0x02;
+            int open = trn >= 0x01 && trn <= 0xFE && !is_free(record.at, trn) && record.at[2 * trn] == from;
+            unsigned number = room_number_of(REPLY, &good);
+            good &= number == (interrupt || open ? SCA_HAS_FRAME : SCA_NO_MATCH);
+        }
+    check(good, "replies of every TRN, from the channels up to 0x17");
+}
+
+/* Every TRN is the one that is free; and none is. */
+static void free_in_the_room(void) {
+    int good = 1;
+    for (at_end = 0; at_end <= 1; at_end++)
+        for (size_t trn = 0x01; trn <= 0xFF; trn++) {
+            lend_room(1);
+            record.at[508] = 0x15, record.at[509] = 0x41;
+            if (trn <= 0xFE) record.at[2 * trn] = record.at[2 * trn + 1] = 0;
+            unsigned number = room_number_of(REQUEST, &good);
+            good &= number == (trn <= 0xFE ? SCA_HAS_FRAME : SCA_ALL_OPEN);
+        }
+    check(good, "each TRN the only free one, and none free");
+}
+
+/* Of several reasons to refuse: 6, 1, 35, 31; 6, 1, 33, 32; 6, 1, 35. */
+static void order_in_the_room(void) {
+    static const unsigned third[] = {SCA_NO_COMMAND, SCA_BAD_REPLY, SCA_NO_COMMAND};
+    static const unsigned last[] = {SCA_ALL_OPEN, SCA_NO_MATCH, SCA_HAS_FRAME};
+    int good = 1;
+    EACH_ROOM_CALL
+    for (unsigned wrong = 0; wrong < 16; wrong++) {
+        unsigned first = wrong & 1 ? 6 : wrong & 2 ? 1 : wrong & 4 ? third[which] : wrong & 8 ? last[which] : 0;
+        lend_room(many);
+        if (wrong & 1) record.at[0] = 8;
+        if (wrong & 2) lend(&output, SCA_OUTPUT_LEAST - 1);
+        if (wrong & 4) code = at_end ? 0x101 : 0x02, control = at_end ? 0x12F : 0x2E;
+        if (wrong & 8) { /* all are open; to another channel than the reply's */
+            memset(record.at + 2, 0x11, SCA_RECORD_BYTES - 2);
+            body.at[3] = 0x12;
+        }
+        if (wrong & 4) lend_bytes(&body, "\x00\x20\x01\x12\x00\x04\x00\x00\x00", 9);
+        unsigned number = room_number_of(which, &good);
+        good &= number == first;
+    }
+    check(good, "of several reasons the first in order, in the control room");
+}
+
+static void no_buffers_in_the_room(void) {
+    static struct lent *const buffers[] = {&record, &output, &body};
+    static const unsigned numbers[] = {SCA_BAD_STATE, SCA_SHORT_OUTPUT, SCA_BAD_REPLY};
+    int good = sca_record_new(NULL, 0) == SCA_BAD_STATE && sca_request(NULL, 0, 0, 0, 0, NULL, 0) == SCA_BAD_STATE;
+    good &= sca_reply(NULL, 0, NULL, 0, NULL, 0) == SCA_BAD_STATE && sca_command(NULL, 0, 0, NULL, 0) == SCA_BAD_STATE;
+    EACH_ROOM_CALL
+    for (size_t at = 0; at < sizeof buffers / sizeof buffers[0]; at++) {
+        int used = buffers[at] != &body || which == REPLY;
+        lend_room(many);
+        buffers[at]->at = NULL, buffers[at]->length = 0;
+        unsigned number = room_number_of(which, &good);
+        good &= number == (used ? numbers[at] : SCA_HAS_FRAME);
+    }
+    check(good, "NULL with length 0 for each buffer of the control room");
+}
+
 /* Whether a program is stopped that writes here. */
 static int guarded(volatile uint8_t *at) {
     int status = 0;
@@ -845,6 +1122,7 @@ static void map_all(void) {
     list = between_guards((SCA_SAMPLES_MOST + 1) * sizeof(struct sca_pin_sample));
     receiver = between_guards(SCA_RECEIVER_BYTES + 1);
     input = between_guards(SCA_INPUT_MOST + 1);
+    record = between_guards(SCA_RECORD_BYTES + 2);
     signal(SIGSEGV, touched);
     signal(SIGBUS, touched);
 }
@@ -870,5 +1148,12 @@ int main(void) {
     records_of_frames();
     receivers();
     transmitters();
+    lengths_in_the_room();
+    arguments_in_the_room();
+    bits_of_records();
+    replies_in_the_room();
+    free_in_the_room();
+    order_in_the_room();
+    no_buffers_in_the_room();
     return failures != 0;
 }

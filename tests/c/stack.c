@@ -15,7 +15,7 @@
 enum { STACK = 1 << 14, MOST = 768, ANY = -1 };
 
 static uint8_t state[SCA_STATE_BYTES], journal[SCA_JOURNAL_BYTES], output[SCA_OUTPUT_LEAST], receiver[SCA_RECEIVER_BYTES];
-static uint8_t cable[SCA_CABLE_MOST], batch_output[SCA_BATCH_LEAST];
+static uint8_t cable[SCA_CABLE_MOST], batch_output[SCA_BATCH_LEAST], record[SCA_RECORD_BYTES];
 static struct sca_pin_sample list[SCA_SAMPLES_MOST];
 
 /* ---- a call on the painted stack */
@@ -138,7 +138,17 @@ static void busy(void) {
         sca_upset(state, sizeof state, journal, sizeof journal, output, sizeof output);
 }
 
-/* ---- the ways: what stands ready, and the call. In `busy` 6 looks at the open start of every master. */
+/* So many transactions open, with commands of every channel. */
+static void open_many(size_t many) {
+    static const uint8_t commands[][2] = {{0x00, 0x02}, {0x01, 0x72}, {0x02, 0x01}, {0x03, 0xDE}, {0x12, 0x8A},
+                                          {0x13, 0xF1}, {0x14, 0xD1}, {0x15, 0x41}};
+    sca_record_new(record, sizeof record);
+    for (size_t at = 0; at < many; at++)
+        sca_request(record, sizeof record, commands[at % 8][0], commands[at % 8][1], 0, output, sizeof output);
+}
+
+/* ---- the ways: what stands ready, and the call. In `busy` 6 looks at the open start of every master, in a record at
+ * the command of every open transaction. */
 
 #define ADAPTER LENT(state), LENT(journal)
 
@@ -287,6 +297,48 @@ static void receive_aborted(void) {
     memset(cable + 8, 0xFF, sizeof cable - 8);
 }
 
+static void record_new(void) { CALL(sca_record_new, LENT(record)); }
+
+static void request_with(size_t many, uint32_t channel) {
+    open_many(many);
+    CALL(sca_request, LENT(record), channel, 0x41, 0x12345678, LENT(output));
+}
+
+static void last_request(void) { request_with(SCA_TRANSACTIONS_MOST - 1, 0x01); }
+
+static void one_too_many(void) { request_with(SCA_TRANSACTIONS_MOST, 0x01); }
+
+static void unknown_command(void) { request_with(SCA_TRANSACTIONS_MOST - 1, 0x20); }
+
+static void reply_with(uint8_t trn, uint8_t channel) {
+    uint8_t sent[] = {0x00, 0x20, trn, channel, 0x00, 0x04, 0x34, 0x12, 0x78, 0x56};
+    open_many(SCA_TRANSACTIONS_MOST);
+    memcpy(body, sent, sizeof sent);
+    CALL(sca_reply, LENT(record), (uint64_t)(uintptr_t)body, sizeof sent, LENT(output));
+}
+
+/* TRN 0xFE has the 254th command, of channel 0x13. */
+static void last_reply(void) { reply_with(0xFE, 0x13); }
+
+static void interrupt(void) { reply_with(0xFF, 0x02); }
+
+static void unmatched(void) { reply_with(0xFE, 0x14); }
+
+static void command_with(uint32_t control) {
+    open_many(SCA_TRANSACTIONS_MOST);
+    CALL(sca_command, LENT(record), control, LENT(output));
+}
+
+static void connecting(void) { command_with(SCA_CONNECT); }
+
+static void no_command(void) { command_with(0x00); }
+
+/* What is open with the last TRN is out of range. */
+static void bad_record(void) {
+    connecting();
+    record[SCA_RECORD_BYTES - 1] = 0x00;
+}
+
 static const struct way {
     const char *call, *what;
     void (*prepare)(void);
@@ -321,6 +373,16 @@ static const struct way {
     {"sca_step_back", "over a write of CRC", back_over_crc, SCA_NO_FRAME},
     {"sca_step_back", "over an I2C completion", back_over_completion, SCA_NO_FRAME},
     {"sca_step_back", "over a damaged record", back_damaged, SCA_BAD_JOURNAL},
+    {"sca_record_new", "a new record", record_new, SCA_NO_FRAME},
+    {"sca_request", "the last TRN is taken", last_request, SCA_HAS_FRAME},
+    {"sca_request", "all are open", one_too_many, SCA_ALL_OPEN},
+    {"sca_request", "an unknown command", unknown_command, SCA_NO_COMMAND},
+    {"sca_reply", "the last TRN is closed", last_reply, SCA_HAS_FRAME},
+    {"sca_reply", "an interrupt", interrupt, SCA_HAS_FRAME},
+    {"sca_reply", "nothing of it is open", unmatched, SCA_NO_MATCH},
+    {"sca_command", "CONNECT", connecting, SCA_HAS_FRAME},
+    {"sca_command", "an unknown control", no_command, SCA_NO_COMMAND},
+    {"sca_command", "the last transaction is out of range", bad_record, SCA_BAD_STATE},
 };
 
 enum { WAYS = sizeof ways / sizeof ways[0], CALLS = 32 };

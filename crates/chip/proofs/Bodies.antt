@@ -63,11 +63,11 @@ silent a e = by (reaction a e) (one-frame a e)
 -- ---- the frame
 
 -- a list of bytes
-abbrev Each : List ℕ → Type 0
+abbrev pub Each : List ℕ → Type 0
 Each [] = Unit
 Each (x ∷ s) = (x < 256) × Each s
 
-each-byte : (s : List ℕ) → Each s → AreBytes s
+pub each-byte : (s : List ℕ) → Each s → AreBytes s
 each-byte [] f i = lit< tt
 each-byte (x ∷ s) f zero = f .0
 each-byte (x ∷ s) f (suc i) = each-byte s (f .1) i

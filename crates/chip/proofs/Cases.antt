@@ -22,9 +22,9 @@ use Rattle.channels.specs.declared.groups.Group.the-variants.{Nothing}
 use Rattle.state.specs.State.{Adapter, adapter, blank, poweredOn}
 use Rattle.chip.specs.Answer.{Reaction, gives}
 use Rattle.chip.specs.Inner.{sent, given, Said, said, says}
-use Rattle.link.specs.Link.{acknowledgeControl, rejectControl, receiveNumber, receiveUp, numberIn, freshLink, loopedAt, inLoopback}
+use Rattle.link.specs.Link.{acknowledgeControl, rejectControl, receiveNumber, receiveUp, numberIn, freshLink, loopedAt, inLoopback, isConnect, isReset, isTest}
 use Rattle.chip.specs.Request.{requested}
-use Rattle.chip.specs.Frame.{isConnect, isReset, isResetFrame, isTest, reset, acknowledges, commanded, numbered, carried, addressed}
+use Rattle.chip.specs.Frame.{isResetFrame, reset, acknowledges, commanded, numbered, carried, addressed}
 use Rattle.chip.specs.Group.{groupOfFrame}
 use Rattle.chip.specs.declared.Response.{Response}
 use Rattle.link.specs.declared.Link.{Link}

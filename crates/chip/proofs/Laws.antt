@@ -13,7 +13,7 @@ use Rattle.chip.specs.Event.{Event, frame}
 use Rattle.state.specs.State.{Adapter, adapter, poweredOn, withRegisters}
 use Rattle.chip.specs.Answer.{Reaction, sends, gives}
 use Rattle.chip.specs.Inner.{Said, said, says}
-use Rattle.link.specs.Link.{acknowledgeControl}
+use Rattle.link.specs.Link.{acknowledgeControl, isConnect, isReset}
 use Rattle.link.specs.declared.Link.{Link}
 use Rattle.commands.specs.declared.command.Register.the-variants.{ChipId}
 use Rattle.registers.specs.Registers.{read}
@@ -21,7 +21,7 @@ use Rattle.channels.specs.Perform.{replied as replyDue, performed}
 use Rattle.commands.specs.declared.request.Reply.{Reply}
 use Rattle.commands.specs.declared.request.Reply.the-variants.{Sent, Later}
 use Rattle.chip.specs.Request.{replies, finished, requested}
-use Rattle.chip.specs.Frame.{isConnect, isReset, isResetFrame, addressOf, controlOf, informationOf, commanded, addressed, onFrame}
+use Rattle.chip.specs.Frame.{isResetFrame, addressOf, controlOf, informationOf, commanded, addressed, onFrame}
 use Rattle.chip.specs.Chip.{reaction, acceptedReset}
 use Rattle.chip.specs.declared.Response.{Response}
 use Rattle.bits.proofs.Tests.{and-left, and-right, or-second}

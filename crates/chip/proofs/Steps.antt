@@ -36,9 +36,9 @@ use Rattle.numbers.specs.Numbers.{noFrame}
 use Rattle.packets.specs.Packets.{address, requestOf}
 use Rattle.state.specs.State.{Adapter, withLink, withRegisters}
 use Rattle.chip.specs.Answer.{Reaction, sends, gives}
-use Rattle.link.specs.Link.{rejectControl, acknowledgeControl, receiveNumber, sendUp, numberIn}
+use Rattle.link.specs.Link.{rejectControl, acknowledgeControl, receiveNumber, sendUp, numberIn, isConnect, isReset, isTest}
 use Rattle.chip.specs.Request.{replies, finished, requested}
-use Rattle.chip.specs.Frame.{isConnect, isReset, isResetFrame, isTest, addressOf, controlOf, informationOf, connected, reset, looped, counted, commanded, numbered}
+use Rattle.chip.specs.Frame.{isResetFrame, addressOf, controlOf, informationOf, connected, reset, looped, counted, commanded, numbered}
 use Rattle.chip.specs.Frame.{carried, addressed, onFrame}
 use Rattle.chip.specs.Chip.{transferred, onSpi, startedBy, givenBy, transacted, onI2c, onSample, onUpset, reaction}
 

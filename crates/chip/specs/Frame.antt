@@ -1,6 +1,6 @@
 -- A frame body on a port: document 01's checks 1 to 8, in order.
 use Prim.Native.Nat.{ℕ}
-use mathlib.Core.Bool.{Bool, not, _&&_, _||_, cond}
+use mathlib.Core.Bool.{Bool, not, _&&_, cond}
 use mathlib.Core.List.{List, [], _∷_}
 use lib.Dec.{eqb}
 use lib.ListN.{length, getD, drop}
@@ -11,7 +11,7 @@ use Rattle.commands.specs.declared.command.Register.the-variants.{ChipId}
 use Rattle.registers.specs.Registers.{read}
 use Rattle.state.specs.State.{Adapter, withLink, poweredOn}
 use Rattle.chip.specs.Answer.{Reaction, sends, gives}
-use Rattle.link.specs.Link.{receiveNumber, receiveUp, numberIn, rejectControl, acknowledgeControl, freshLink, loopedAt, inLoopback}
+use Rattle.link.specs.Link.{receiveNumber, receiveUp, numberIn, rejectControl, acknowledgeControl, isConnect, isReset, isTest, freshLink, loopedAt, inLoopback}
 use Rattle.chip.specs.Request.{requested}
 
 -- The body is address, control and information.
@@ -23,16 +23,6 @@ controlOf body = getD body 1 0
 
 abbrev pub informationOf : List ℕ → List ℕ
 informationOf body = drop 2 body
-
--- The commands, without and with bit 4.
-abbrev pub isConnect : ℕ → Bool
-isConnect control = eqb control 0x2F || eqb control 0x3F
-
-abbrev pub isReset : ℕ → Bool
-isReset control = eqb control 0x8F || eqb control 0x9F
-
-abbrev pub isTest : ℕ → Bool
-isTest control = eqb control 0xE3 || eqb control 0xF3
 
 -- A RESET that every state accepts: the chip's address, RESET's control, no information.
 unfoldable pub isResetFrame : List ℕ → Bool

@@ -7,25 +7,12 @@ ghost use Rattle.numbers.specs.Numbers.{bodyLeast, bodyMost, outputLeast};
 ghost use Rattle.registers.specs.Registers.{size};
 ghost use Rattle.state.specs.State.{adapter};
 ghost use Rattle.chip.specs.Inner.{said, says};
-ghost use Rattle.chip.specs.Frame.{isConnect, isReset, isResetFrame, isTest, reset, acknowledges, commanded, numbered, carried, addressed, onFrame};
+ghost use Rattle.chip.specs.Frame.{isResetFrame, reset, acknowledges, commanded, numbered, carried, addressed, onFrame};
 use crate::Response;
 use crate::answer;
 use crate::request;
 use commands::command::Register;
 use link::Link;
-
-// Each command without and with its bit 4.
-const CONNECT: u8 = 0x2F;
-
-const CONNECT_POLL: u8 = 0x3F;
-
-const RESET: u8 = 0x8F;
-
-const RESET_POLL: u8 = 0x9F;
-
-const TEST: u8 = 0xE3;
-
-const TEST_POLL: u8 = 0xF3;
 
 // Bit 0 of a control that carries no request.
 const UNNUMBERED: u8 = 0x01;
@@ -36,36 +23,6 @@ const NO_INFORMATION: usize = 2;
 // Bytes of a request's information.
 const INFORMATION: usize = 8;
 
-fn is_connect(control: u8) -> bool
-    ensures { λ r. ⌜ r ≡ isConnect control ⌝ }
-{
-    if control == CONNECT {
-        true
-    } else {
-        control == CONNECT_POLL
-    }
-}
-
-fn is_reset(control: u8) -> bool
-    ensures { λ r. ⌜ r ≡ isReset control ⌝ }
-{
-    if control == RESET {
-        true
-    } else {
-        control == RESET_POLL
-    }
-}
-
-fn is_test(control: u8) -> bool
-    ensures { λ r. ⌜ r ≡ isTest control ⌝ }
-{
-    if control == TEST {
-        true
-    } else {
-        control == TEST_POLL
-    }
-}
-
 // A body that is RESET: the chip's address, RESET's control, no information.
 pub(crate) fn resets(body: &[u8]) -> bool
     requires { ⌜ bodyLeast ≤ length (now body) ⌝ }
@@ -74,7 +31,7 @@ pub(crate) fn resets(body: &[u8]) -> bool
     if body[0] != packets::ADDRESS {
         return false;
     }
-    if is_reset(body[1]) {
+    if link::is_reset(body[1]) {
         body.len() == 2
     } else {
         false
@@ -175,13 +132,13 @@ fn check_control(
     ensures { λ r. ⌜ said r (now (registers .exit)) (now (output .exit)) ≡ says (addressed (adapter link (now (registers .entry))) port (now (body .entry))) (now (output .entry)) ⌝ }
 {
     let control = body[1];
-    if is_connect(control) {
+    if link::is_connect(control) {
         return command(link, link::fresh(port), port, body, output);
     }
-    if is_reset(control) {
+    if link::is_reset(control) {
         return reset(link, registers, port, body, output);
     }
-    if is_test(control) {
+    if link::is_test(control) {
         return command(link, link::loop_back(link, port), port, body, output);
     }
     if control & UNNUMBERED != 0 {

@@ -1,2 +1,3 @@
--- One outcome for each call.
+-- What no table has, and one outcome for each call.
+pub mod Laws
 pub mod OneOutcome

@@ -32,3 +32,12 @@ loop-back-one κs a x y s t e f = e ∙ sym f
 
 pub in-loopback-one : OneOutcome 0 this.in_loopback.Kinds.ps this.in_loopback.Kinds.r this.in_loopback.Reads.Post
 in-loopback-one κs a x y s t e f = e ∙ sym f
+
+pub is-connect-one : OneOutcome 0 this.is_connect.Kinds.ps this.is_connect.Kinds.r this.is_connect.Reads.Post
+is-connect-one κs a x y s t e f = e ∙ sym f
+
+pub is-reset-one : OneOutcome 0 this.is_reset.Kinds.ps this.is_reset.Kinds.r this.is_reset.Reads.Post
+is-reset-one κs a x y s t e f = e ∙ sym f
+
+pub is-test-one : OneOutcome 0 this.is_test.Kinds.ps this.is_test.Kinds.r this.is_test.Reads.Post
+is-test-one κs a x y s t e f = e ∙ sym f

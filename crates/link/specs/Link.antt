@@ -1,6 +1,6 @@
 -- The link alone: its two numbers, its control field, and its two ports.
 use Prim.Native.Nat.{ℕ, _+_, _*_, _/_, _%_}
-use mathlib.Core.Bool.{Bool, true, false, cond}
+use mathlib.Core.Bool.{Bool, true, false, _||_, cond}
 use lib.Dec.{eqb}
 use Rattle.bits.specs.Bits.{bitOf}
 use Rattle.link.specs.declared.Link.{Link}
@@ -56,6 +56,16 @@ rejectControl l = 0x0D + 32 * receiveNumber l
 -- an acknowledgement's: 0x63, or 0x73 when bit 4 of the command was set
 abbrev pub acknowledgeControl : ℕ → ℕ
 acknowledgeControl control = cond (bitOf control 4) 0x73 0x63
+
+-- the commands, without and with bit 4
+abbrev pub isConnect : ℕ → Bool
+isConnect control = eqb control 0x2F || eqb control 0x3F
+
+abbrev pub isReset : ℕ → Bool
+isReset control = eqb control 0x8F || eqb control 0x9F
+
+abbrev pub isTest : ℕ → Bool
+isTest control = eqb control 0xE3 || eqb control 0xF3
 
 -- ---- the ports: 0 primary, 1 auxiliary
 

@@ -2,7 +2,7 @@
 ghost use Prim.Native.Nat.{_%_};
 ghost use mathlib.Core.Path.{_≡_};
 ghost use Rattle.link.specs.Link.{sendUp, receiveUp, receiveNumber, numberIn, packed, replyControl, rejectControl, acknowledgeControl};
-ghost use Rattle.link.specs.Link.{freshLink, loopedAt, inLoopback};
+ghost use Rattle.link.specs.Link.{isConnect, isReset, isTest, freshLink, loopedAt, inLoopback};
 
 // Two types, so that a reply's control cannot take one number for the other.
 pub struct SendNumber(pub u8);
@@ -42,6 +42,19 @@ const ACKNOWLEDGE: u8 = 0x63;
 const ACKNOWLEDGE_FINAL: u8 = 0x73;
 
 const POLL: u8 = 0x10;
+
+// Each command without and with its bit 4.
+const CONNECT: u8 = 0x2F;
+
+const CONNECT_POLL: u8 = 0x3F;
+
+const RESET: u8 = 0x8F;
+
+const RESET_POLL: u8 = 0x9F;
+
+const TEST: u8 = 0xE3;
+
+const TEST_POLL: u8 = 0xF3;
 
 pub fn send_up(l: Link) -> Link
     ensures { λ r. ⌜ r ≡ sendUp l ⌝ }
@@ -137,5 +150,35 @@ pub fn in_loopback(l: Link, port: u8) -> bool
         l.primary.loopback
     } else {
         l.auxiliary.loopback
+    }
+}
+
+pub fn is_connect(control: u8) -> bool
+    ensures { λ r. ⌜ r ≡ isConnect control ⌝ }
+{
+    if control == CONNECT {
+        true
+    } else {
+        control == CONNECT_POLL
+    }
+}
+
+pub fn is_reset(control: u8) -> bool
+    ensures { λ r. ⌜ r ≡ isReset control ⌝ }
+{
+    if control == RESET {
+        true
+    } else {
+        control == RESET_POLL
+    }
+}
+
+pub fn is_test(control: u8) -> bool
+    ensures { λ r. ⌜ r ≡ isTest control ⌝ }
+{
+    if control == TEST {
+        true
+    } else {
+        control == TEST_POLL
     }
 }

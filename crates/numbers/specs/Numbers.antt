@@ -1,8 +1,8 @@
--- The numbers that calls give back: document 01, "Numbers given back". A call is refused when it gives 1 to 10. Then the sizes of
--- what a call is handed, and of what it writes, as documents 01 and 02 have them.
+-- The numbers that calls give back: document 01, "Numbers given back", and document 02's. A call is refused when it gives 1 to 10 or 31 to 35.
+-- Then the sizes of what a call is handed, and of what it writes, as documents 01 and 02 have them.
 use Prim.Native.Nat.{ℕ}
 
--- A frame was read or sent.
+-- A frame was read or sent; or the control room wrote or read a body.
 abbrev pub hasFrame : ℕ
 hasFrame = 0
 
@@ -27,7 +27,7 @@ badJournal = 4
 abbrev pub noneKept : ℕ
 noneKept = 5
 
--- A field of the state is out of range.
+-- A field of the state, of the receiver or of the record of open transactions is out of range.
 abbrev pub badState : ℕ
 badState = 6
 
@@ -91,6 +91,22 @@ wrongFcs = 23
 abbrev pub aborted : ℕ
 aborted = 24
 
+-- A control room's call: no TRN is free, all 254 are open.
+abbrev pub allOpen : ℕ
+allOpen = 31
+
+-- A control room's call: the reply matches no open transaction.
+abbrev pub noMatch : ℕ
+noMatch = 32
+
+-- A control room's call: the reply's body is not 10 bytes.
+abbrev pub badReply : ℕ
+badReply = 33
+
+-- A control room's call: the tables have no such command.
+abbrev pub noCommand : ℕ
+noCommand = 35
+
 -- The bytes of the shortest body.
 abbrev pub bodyLeast : ℕ
 bodyLeast = 2
@@ -99,7 +115,7 @@ bodyLeast = 2
 abbrev pub bodyMost : ℕ
 bodyMost = 16
 
--- The bytes of the body of a reply or an interrupt.
+-- The bytes of the body of a request, a reply or an interrupt.
 abbrev pub replyBytes : ℕ
 replyBytes = 10
 
@@ -111,7 +127,7 @@ cableMost = 24
 abbrev pub inputMost : ℕ
 inputMost = 65536
 
--- The least output of an event and of a receiver.
+-- The least output of an event, of a receiver and of the control room's calls.
 abbrev pub outputLeast : ℕ
 outputLeast = 16
 

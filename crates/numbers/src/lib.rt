@@ -1,7 +1,7 @@
-// The numbers that calls give back: document 01, "Numbers given back". A call is refused when it gives 1 to 10. Then the sizes of
-// what a call is handed, and of what it writes, as documents 01 and 02 have them.
+// The numbers that calls give back: document 01, "Numbers given back", and document 02's. A call is refused when it gives 1 to 10 or 31 to 35.
+// Then the sizes of what a call is handed, and of what it writes, as documents 01 and 02 have them.
 
-// A frame was read or sent.
+// A frame was read or sent; or the control room wrote or read a body.
 pub const HAS_FRAME: u8 = 0;
 // The output is under 16 bytes, for the transmitter under 24, for a batch under 2,560.
 pub const SHORT_OUTPUT: u8 = 1;
@@ -14,7 +14,7 @@ pub const BAD_ARGUMENT: u8 = 3;
 pub const BAD_JOURNAL: u8 = 4;
 // The kept number is 0.
 pub const NONE_KEPT: u8 = 5;
-// A field of the state is out of range.
+// A field of the state, of the receiver or of the record of open transactions is out of range.
 pub const BAD_STATE: u8 = 6;
 // The chip ID is over 0xFFFFFF.
 pub const BAD_ID: u8 = 7;
@@ -46,18 +46,26 @@ pub const BROKEN_CONTENT: u8 = 22;
 pub const WRONG_FCS: u8 = 23;
 // Seven ones.
 pub const ABORTED: u8 = 24;
+// A control room's call: no TRN is free, all 254 are open.
+pub const ALL_OPEN: u8 = 31;
+// A control room's call: the reply matches no open transaction.
+pub const NO_MATCH: u8 = 32;
+// A control room's call: the reply's body is not 10 bytes.
+pub const BAD_REPLY: u8 = 33;
+// A control room's call: the tables have no such command.
+pub const NO_COMMAND: u8 = 35;
 
 // The bytes of the shortest body.
 pub const BODY_LEAST: usize = 2;
 // The bytes of the longest body.
 pub const BODY_MOST: usize = 16;
-// The bytes of the body of a reply or an interrupt.
+// The bytes of the body of a request, a reply or an interrupt.
 pub const REPLY_BYTES: usize = 10;
 // The bytes of the longest frame on the cable, the transmitter's least output.
 pub const CABLE_MOST: usize = 24;
 // The most bytes of a receiver's input.
 pub const INPUT_MOST: usize = 65536;
-// The least output of an event and of a receiver.
+// The least output of an event, of a receiver and of the control room's calls.
 pub const OUTPUT_LEAST: usize = 16;
 // The most pin samples of a batch.
 pub const SAMPLES_MOST: usize = 256;

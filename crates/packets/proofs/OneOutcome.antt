@@ -16,3 +16,6 @@ put-control-one κs a x y s t p q = p ∙ sym q
 
 pub put-reply-one : One 1 this.put_reply.Kinds.ps this.put_reply.Kinds.r this.put_reply.Reads.Post (λ κs x s. now (s .0))
 put-reply-one κs a x y s t p q = p ∙ sym q
+
+pub put-request-one : One 1 this.put_request.Kinds.ps this.put_request.Kinds.r this.put_request.Reads.Post (λ κs x s. now (s .0))
+put-request-one κs a x y s t p q = p ∙ sym q

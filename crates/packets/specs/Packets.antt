@@ -1,4 +1,4 @@
--- A request's information and a reply's body, byte by byte.
+-- A request's information, and the body of a request and of a reply, byte by byte.
 use Prim.Native.Nat.{ℕ, _*_, _/_, _%_, _^_}
 use mathlib.Core.List.{List, [], _∷_}
 use lib.ListN.{getD}
@@ -32,3 +32,8 @@ byteOf d k = d / 2 ^ (8 * k) % 256
 abbrev pub replyBody : ℕ → ℕ → ℕ → ℕ → ℕ → ℕ → List ℕ
 replyBody control trn ch err len d =
     address ∷ control ∷ trn ∷ ch ∷ err ∷ len ∷ byteOf d 2 ∷ byteOf d 3 ∷ byteOf d 0 ∷ byteOf d 1 ∷ []
+
+-- A request's body: address, control, TRN, CH, LEN, CMD, then D in the same order.
+abbrev pub requestBody : ℕ → ℕ → ℕ → ℕ → ℕ → ℕ → List ℕ
+requestBody control trn ch len cmd d =
+    address ∷ control ∷ trn ∷ ch ∷ len ∷ cmd ∷ byteOf d 2 ∷ byteOf d 3 ∷ byteOf d 0 ∷ byteOf d 1 ∷ []

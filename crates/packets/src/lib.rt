@@ -1,11 +1,11 @@
-// A request's information read, and the body of a reply or an interrupt written.
+// A request's information read, and the body of a request, a reply or an interrupt written.
 ghost use mathlib.Core.Path.{_≡_};
 ghost use mathlib.Core.List.{[], _∷_};
 ghost use Prim.Native.Nat.{_<_, _≤_};
 ghost use lib.ListN.{length};
 ghost use Rattle.numbers.specs.Numbers.{replyBytes};
 ghost use Rattle.parts.specs.Parts.{put};
-ghost use Rattle.packets.specs.Packets.{address, requestOf, dataOf, byteOf, replyBody};
+ghost use Rattle.packets.specs.Packets.{address, requestOf, dataOf, byteOf, replyBody, requestBody};
 use commands::request::Request;
 
 // The chip's address.
@@ -66,4 +66,12 @@ pub fn put_reply(output: &mut [u8], control: u8, trn: u8, ch: u8, err: u8, len: 
         byte_of(value, 0),
         byte_of(value, 1),
     );
+}
+
+// Writes the body of a request at the front of an output: LEN and CMD stand where a reply has ERR and LEN.
+pub fn put_request(output: &mut [u8], control: u8, trn: u8, ch: u8, len: u8, cmd: u8, value: u32)
+    requires { ⌜ replyBytes ≤ length (now output) ⌝ }
+    ensures { λ _. ⌜ now (output .exit) ≡ put 0 (requestBody control trn ch len cmd value) (now (output .entry)) ⌝ }
+{
+    put_reply(output, control, trn, ch, len, cmd, value);
 }

@@ -1,4 +1,4 @@
--- EVERY CALL CASE BY CASE: it is refused by a number of 1 to 10, which leaves what was lent, or it is done. A law a call, for whatever is said of what
+-- EVERY CALL CASE BY CASE: it is refused by a number that says so, which leaves what was lent, or it is done. A law a call, for whatever is said of what
 -- it gives and leaves. Assumes nothing.
 use Prim.Native.Nat.{ℕ, _*_, _≤_}
 use mathlib.Core.Path.{_≡_, refl}
@@ -10,7 +10,7 @@ use lib.ListN.{length}
 use lib.Dec.{eqb, ltb, leb}
 use borrow.Author.Tests.{leb-true, ltb-false, not-false}
 use Rattle.numbers.specs.Numbers as number
-use Rattle.bits.proofs.Tests.{and-right, cond-cases, either}
+use Rattle.bits.proofs.Tests.{and-left, and-right, cond-cases, either}
 use Rattle.parts.specs.Parts.{put}
 use Rattle.transmitter.specs.declared.Sent.{Sent}
 use Rattle.transmitter.specs.Frame.{framed}
@@ -36,12 +36,31 @@ use Rattle.promises.specs.Runs.{isRefusal}
 use Rattle.promises.proofs.Steps.{split}
 
 -- the numbers of refusals are small, and none of the chip's
-pub refusal-most : (n : ℕ) → isRefusal n ≡ true → n ≤ 10
-refusal-most n h = leb-true n 10 (and-right (leb 1 n) (leb n 10) h)
+refusal-range : (n : ℕ) → isRefusal n ≡ true → (n ≤ 10) ⊎ ((31 ≤ n) × (n ≤ 35))
+refusal-range n h = by (leb 1 n && leb n 10) refl h
+  where
+    by : (t : Bool) → (leb 1 n && leb n 10) ≡ t → (t || leb 31 n && leb n 35) ≡ true → (n ≤ 10) ⊎ ((31 ≤ n) × (n ≤ 35))
+    by true e f = inl (leb-true n 10 (and-right (leb 1 n) (leb n 10) e))
+    by false e f = inr (leb-true 31 n (and-left (leb 31 n) (leb n 35) f), leb-true n 35 (and-right (leb 31 n) (leb n 35) f))
 
-pub not-one-to-ten : (n : ℕ) → (n ≡ 0) ⊎ ((11 ≤ n) × (n ≤ 17)) → (leb 1 n && leb n 10) ≡ true → ⊥
-not-one-to-ten n (inl z) h = false≢true (rw z at h)
-not-one-to-ten n (inr l) h = omega (arith, refusal-most n h)
+pub refusal-most : (n : ℕ) → isRefusal n ≡ true → n ≤ 35
+refusal-most n h = by (refusal-range n h)
+  where
+    by : (n ≤ 10) ⊎ ((31 ≤ n) × (n ≤ 35)) → n ≤ 35
+    by (inl l) = omega arith
+    by (inr l) = l .1
+
+-- none of 11 to 30 is one
+pub between-refusals : (n : ℕ) → 11 ≤ n → n ≤ 30 → isRefusal n ≡ true → ⊥
+between-refusals n l u h = by (refusal-range n h)
+  where
+    by : (n ≤ 10) ⊎ ((31 ≤ n) × (n ≤ 35)) → ⊥
+    by (inl m) = omega arith
+    by (inr m) = omega arith
+
+pub no-refusal : (n : ℕ) → (n ≡ 0) ⊎ ((11 ≤ n) × (n ≤ 17)) → isRefusal n ≡ true → ⊥
+no-refusal n (inl z) h = false≢true (rw z at h)
+no-refusal n (inr l) h = between-refusals n (l .0) (omega arith) h
 
 -- ---- the adapter
 

@@ -26,12 +26,12 @@ use Rattle.channels.proofs.Laws.{Refused, decoded-cases}
 use Rattle.channels.proofs.Owners.{below-16}
 use Rattle.numbers.specs.Numbers.{noFrame}
 use Rattle.packets.specs.Packets.{requestOf}
-use Rattle.link.specs.Link.{receiveNumber, numberIn, inLoopback}
+use Rattle.link.specs.Link.{receiveNumber, numberIn, inLoopback, isConnect, isReset, isTest}
 use Rattle.state.specs.State.{Adapter, withRegisters}
 use Rattle.chip.specs.Answer.{Reaction, gives}
 use Rattle.chip.specs.Event.{frame}
 use Rattle.chip.specs.Request.{replies, finished, requested}
-use Rattle.chip.specs.Frame.{addressOf, controlOf, informationOf, isConnect, isReset, isTest, counted, numbered, carried, addressed, onFrame}
+use Rattle.chip.specs.Frame.{addressOf, controlOf, informationOf, counted, numbered, carried, addressed, onFrame}
 use Rattle.chip.specs.Chip.{reaction}
 
 -- ---- the answer
@@ -110,7 +110,7 @@ pub record InOrder (a : Adapter) (port : ℕ) (body : List ℕ) : Type 0 where
   pub eight : length (informationOf body) ≡ 8
   pub number : numberIn (controlOf body) ≡ receiveNumber (a .link)
 
-in-order : (a : Adapter) (port : ℕ) (body : List ℕ) → InOrder a port body → reaction a (frame port body) ≡ requested (counted a) (informationOf body)
+pub in-order : (a : Adapter) (port : ℕ) (body : List ℕ) → InOrder a port body → reaction a (frame port body) ≡ requested (counted a) (informationOf body)
 unfolding reaction onFrame addressed carried numbered
 in-order a port body i =
     simp (i .addressed, i .no-connect, i .no-reset, i .no-test, i .even, i .not-looped, eq-eqb _ _ (i .active), i .eight, eq-eqb _ _ (i .number))

@@ -1,5 +1,5 @@
 -- DEMAND 1 of the exports, for every input: "A refused call [..] changes no state, no journal byte and no output byte." A call is refused
--- where the number in its packed result is 1 to 10.
+-- where the number in its packed result is 1 to 10 or 31 to 35.
 use Prim.Native.Nat.{ℕ, _+_, _*_, _%_, _<_}
 use mathlib.Core.Path.{_≡_, refl, sym, ap, _∙_}
 use mathlib.Core.Bool.{true, false≢true}

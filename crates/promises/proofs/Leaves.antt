@@ -1,4 +1,4 @@
--- WHAT A CALL LEAVES, by the number that it gives: the column `leaves` of document 01's table, a theorem a row. 1 to 10 leave all
+-- WHAT A CALL LEAVES, by the number that it gives: the column `leaves` of document 01's table, a theorem a row. Refusals leave all
 -- unchanged (`Refused`). Assumes nothing.
 use Prim.Native.Nat.{ℕ, _+_, _≤_, _<_, min}
 use mathlib.Core.Path.{_≡_, refl, sym, ap, subst, _∙_}
@@ -40,7 +40,7 @@ use Rattle.adapter.proofs.Laws.{called-done, unsent, recorded-well, recorded-ke
 use Rattle.promises.specs.Runs.{event, OfItsTypes, isRefusal}
 use Rattle.promises.specs.Calls.{Accepted}
 use Rattle.promises.proofs.Runs.{fits, any-bytes}
-use Rattle.promises.proofs.Cases.{event-cases, back-cases, receive-cases}
+use Rattle.promises.proofs.Cases.{between-refusals, event-cases, back-cases, receive-cases}
 use Rattle.promises.proofs.Steps.{split}
 use Rattle.promises.proofs.Readings.{reading-sized}
 use Rattle.promises.proofs.Calls.{call-state, call-least}
@@ -132,8 +132,8 @@ kept-number : (s : List ℕ) (e : Event) (j : List ℕ) → Well j → acceptedR
 unfolding keptIn
 kept-number s e j w other = rw (well-of (recorded-well s e j w), well-of w, recorded-kept s e j w, other) refl
 
-over-ten : (n : ℕ) → 11 ≤ n → isRefusal n ≡ false
-over-ten n h = split (leb 1 n) (λ t. rw (t, lt-leb n 10 h) refl) (λ t. rw t refl)
+dropping : (n : ℕ) → 11 ≤ n → n ≤ 16 → isRefusal n ≡ false
+dropping n l u = split (isRefusal n) (λ t. absurd (between-refusals n l (omega arith) t)) (λ t. t)
 
 module _ (s : List ℕ) (j : List ℕ) (e : Event) (output : List ℕ) where
   -- an event that is not refused
@@ -179,7 +179,7 @@ module _ (s : List ℕ) (j : List ℕ) (e : Event) (output : List ℕ) where
   pub event-11-to-16 : 11 ≤ called s j e output .answer .number → called s j e output .answer .number ≤ 16 → Dropped
   unfolding done
   event-11-to-16 l u =
-      let v : verdict s j e output ≡ Passed = passed (over-ten (called s j e output .answer .number) l) in
+      let v : verdict s j e output ≡ Passed = passed (dropping (called s j e output .answer .number) l u) in
       let c : called s j e output ≡ done s j e output = called-done s j e output v in
       let n : called s j e output .answer .number ≡ reaction (stateIn s) e .number = ap (λ (x : Outcome). x .answer .number) c in
       let least : 11 ≤ reaction (stateIn s) e .number = omega arith in

@@ -2,6 +2,10 @@ pub mod Examples
 pub mod Masters
 pub mod Batches
 pub mod BatchExamples
+pub mod ControlRoom
+pub mod Tables
+pub mod Conversation
+pub mod RoomExamples
 pub mod Errors
 pub mod Sentences
 pub mod Lines

@@ -22,8 +22,12 @@ use Rattle.receiver.proofs as receiver
 use Rattle.sca.proofs as sca
 use Rattle.adapter.specs.Calls.{made, stepped}
 use Rattle.sca.specs.Adapter.{Left, left}
+use Rattle.control_room.specs.Calls as rooms
+use Rattle.sca.specs.ControlRoom as room
 -- the adapter's nine calls
 pub use Rattle.adapter.proofs.OneOutcome.{create-one, empty-one, kept-one, frame-one, completion-one, i2c-completion-one, sample-one, upset-one, step-back-one}
+-- the control room's four
+pub use Rattle.control_room.proofs.OneOutcome.{new-record-one, request-one, reply-one, command-one}
 
 -- ---- the link: a result and the output's bytes
 
@@ -98,6 +102,20 @@ sca-upset-one κs a x y s t p q = p ∙ sym q
 
 pub sca-step-back-one : One 2 sca.sca_step_back.Kinds.ps sca.sca_step_back.Kinds.r sca.sca_step_back.Reads.Post (λ κs x s. stepped x (now (s .0)) (now (s .1 .0)))
 sca-step-back-one κs a x y s t p q = p ∙ sym q
+
+-- ---- the control room: the result, the record and the output
+
+pub sca-record-new-one : One 1 sca.sca_record_new.Kinds.ps sca.sca_record_new.Kinds.r sca.sca_record_new.Reads.Post (λ κs x s. rooms.made x (now (s .0)))
+sca-record-new-one κs a x y s t p q = p ∙ sym q
+
+pub sca-request-one : One 2 sca.sca_request.Kinds.ps sca.sca_request.Kinds.r sca.sca_request.Reads.Post (λ κs x s. room.left x (now (s .0)) (now (s .1 .1 .1 .1 .0)))
+sca-request-one κs a x y s t p q = p ∙ sym q
+
+pub sca-reply-one : One 3 sca.sca_reply.Kinds.ps sca.sca_reply.Kinds.r sca.sca_reply.Reads.Post (λ κs x s. room.left x (now (s .0)) (now (s .1 .1 .0)))
+sca-reply-one κs a x y s t p q = p ∙ sym q
+
+pub sca-command-one : One 2 sca.sca_command.Kinds.ps sca.sca_command.Kinds.r sca.sca_command.Reads.Post (λ κs x s. room.left x (now (s .0)) (now (s .1 .1 .0)))
+sca-command-one κs a x y s t p q = p ∙ sym q
 
 pub sca-version-one : One 0 sca.sca_version.Kinds.ps sca.sca_version.Kinds.r sca.sca_version.Reads.Post (λ κs x s. x)
 sca-version-one κs a x y s t p q = p ∙ sym q

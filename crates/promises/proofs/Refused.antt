@@ -22,7 +22,7 @@ use Rattle.batch.specs.declared.Batch.{Batch}
 use Rattle.batch.specs.Batch as batches
 use Rattle.bits.proofs.Tests.{either}
 use Rattle.promises.specs.Runs.{isRefusal}
-use Rattle.promises.proofs.Cases.{not-one-to-ten, event-cases, batch-cases, back-cases, empty-cases, create-cases, transmit-cases, receive-cases}
+use Rattle.promises.proofs.Cases.{no-refusal, event-cases, batch-cases, back-cases, empty-cases, create-cases, transmit-cases, receive-cases}
 use Rattle.promises.proofs.Steps.{at-flag-cases, concluded-cases}
 
 -- ---- the adapter
@@ -33,7 +33,7 @@ module _ (s : List ℕ) (j : List ℕ) (e : Event) (o : List ℕ) where
   unfolding done
   event-unchanged =
       event-cases s j e o (λ x. isRefusal (x .answer .number) ≡ true → x ≡ outcome (plain (x .answer .number)) s j o) (λ n r h. refl)
-      (λ q h. absurd (not-one-to-ten _ (number-given (stateIn s) e) h))
+      (λ q h. absurd (no-refusal _ (number-given (stateIn s) e) h))
 
 -- a batch that is done gives 0 or 17
 pub batch-answer : (P : ℕ → Type 0) → P 0 → P 17 → (port : ℕ) (bodies : List (List ℕ)) → P (batches.answered port bodies .number)

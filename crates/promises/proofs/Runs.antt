@@ -44,8 +44,7 @@ use Rattle.promises.specs.Runs.{batchRefusal, batchRefused, Standing, at
 use Rattle.promises.specs.Runs.{keeps, standing, stateAfter, dueState, bare, due, dueFrames, batchGiven, dueBatch, refuses, lent, Demand3}
 use Rattle.promises.specs.Ours.{Handed, handed, given, givesOurs, leavesOurs, ours}
 use Rattle.promises.proofs.Formats.{always-64}
-pub use Rattle.promises.proofs.Cases.{not-one-to-ten}
-use Rattle.promises.proofs.Cases.{refusal-most, neither, create-cases}
+use Rattle.promises.proofs.Cases.{between-refusals, neither, create-cases}
 use Rattle.promises.proofs.Refused.{event-unchanged, batch-answer, batch-unchanged, back-unchanged, empty-unchanged}
 use Rattle.promises.proofs.Samples.{adapterAfter, journalAfter, along}
 use Rattle.promises.proofs.Steps.{split}
@@ -371,7 +370,7 @@ module _ (id : ℕ) (small : id ≤ number.idMost) where
 -- any chip ID that `create` accepts
 pub accepted-id : (s : List ℕ) (id : ℕ) → created s id .number ≡ number.noFrame → id ≤ 0xFFFFFF
 accepted-id s id =
-    create-cases s id (λ m. m .number ≡ number.noFrame → id ≤ 0xFFFFFF) (λ n r h. absurd (omega (arith, refusal-most n r))) (λ fits h. fits)
+    create-cases s id (λ m. m .number ≡ number.noFrame → id ≤ 0xFFFFFF) (λ n r h. absurd (between-refusals n (omega arith) (omega arith) r)) (λ fits h. fits)
 
 -- A NEW ADAPTER is the same in any bytes of a state's length.
 pub any-bytes : (s : List ℕ) (id : ℕ) → length s ≡ stateSize → id ≤ 0xFFFFFF → created s id ≡ made number.noFrame (stateBytes (powerOn id))

@@ -1,9 +1,9 @@
 -- WHAT DEMAND 3 SHUTS OUT: document 01's wrong adapters ("Strength of the promises"). First, for any calls at all, the kind of wrongness
 -- that no run forgives; then each wrong adapter, made from the delivered calls with one thing changed.
 use Prim.Native.Nat.{ℕ, zero, suc, _+_, _≤_, _<_}
-use mathlib.Core.Path.{_≡_, refl, ap, _∙_}
+use mathlib.Core.Path.{_≡_, refl, sym, ap, _∙_}
 use mathlib.Core.List.{List, [], _∷_, foldl}
-use mathlib.Core.Bool.{Bool, false, cond, _||_}
+use mathlib.Core.Bool.{Bool, true, false, cond, _||_, false≢true}
 use native.Mathlib.Omega.{arith}
 use lib.ListN.{length, getD, replicate, length-replicate}
 use lib.Dec.{lit<, lit≤}
@@ -18,7 +18,7 @@ use Rattle.chip.specs.Frame.{isResetFrame, commanded, addressed, onFrame}
 use Rattle.chip.specs.Chip.{reaction, onUpset, acceptedReset}
 use Rattle.adapter.specs.declared.KeptNumber.{KeptNumber}
 use Rattle.promises.specs.Runs.{Call, event, batch, back, empty, Given, Calls, AllOfTheirTypes, Run, left, Standing, atStart, keeps, standing}
-use Rattle.promises.specs.Runs.{stateAfter, bare, lent, Demand3}
+use Rattle.promises.specs.Runs.{stateAfter, bare, isRefusal, lent, Demand3}
 use Rattle.promises.specs.Ours.{Handed, handed, givesOurs, leavesOurs, ours}
 use Rattle.promises.proofs.Formats.{slots-64, any-17408}
 
@@ -104,8 +104,8 @@ module _ (c : Calls) (d : Demand3 c) where
   connect-second = ap numberOf (d .reply after-upset connect output)
 
   -- refuse every event
-  pub refuses-all : ((p : c .Pair) (e : Event) (o : List ℕ) → c .gives p (event e o) .number ≤ 10) → ⊥
-  refuses-all h = omega (arith, h (start-of c) upset output, upset-first)
+  pub refuses-all : ((p : c .Pair) (e : Event) (o : List ℕ) → isRefusal (c .gives p (event e o) .number) ≡ true) → ⊥
+  refuses-all h = false≢true (ap isRefusal (sym upset-first) ∙ h (start-of c) upset output)
 
   -- give every event one reply
   pub one-reply : (g : Given) → ((p : c .Pair) (e : Event) (o : List ℕ) → c .gives p (event e o) ≡ g) → ⊥
@@ -156,7 +156,7 @@ pub refusing : ℕ → Calls
 refusing n =
     record { Pair = Handed; start = ours .start; gives = λ p k. bare n (lent k); leaves = λ p k. p; state = ours .state; kept = ours .kept }
 
-pub refuses-everything : (n : ℕ) → n ≤ 10 → Demand3 (refusing n) → ⊥
+pub refuses-everything : (n : ℕ) → isRefusal n ≡ true → Demand3 (refusing n) → ⊥
 unfolding refusing
 refuses-everything n h d = refuses-all (refusing n) d (λ p e o. h)
 

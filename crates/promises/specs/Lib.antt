@@ -5,3 +5,5 @@ pub mod Ours
 pub mod Text
 pub mod Table
 pub mod Batches
+pub mod ControlRoom
+pub mod Conversation

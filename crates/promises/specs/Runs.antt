@@ -3,7 +3,7 @@
 -- `Demand3` says of the calls what the demand says of a run, a field for each of its sentences.
 use Prim.Native.Nat.{ℕ, _+_, _-_, _≤_, _<_, _^_, min}
 use mathlib.Core.Path.{_≡_}
-use mathlib.Core.Bool.{Bool, true, false, not, cond, _&&_}
+use mathlib.Core.Bool.{Bool, true, false, not, cond, _&&_, _||_}
 use mathlib.Core.List.{List, [], _∷_, _++_, foldl, flatten}
 use lib.ListN.{length, drop, getD}
 use lib.Dec.{eqb, ltb, leb}
@@ -181,9 +181,9 @@ dueBatch a list output =
 
 -- ---- the promise
 
--- A call is refused when it gives 1 to 10.
+-- A call is refused when it gives 1 to 10, or one of document 02's 31 to 35.
 abbrev pub isRefusal : ℕ → Bool
-isRefusal n = leb 1 n && leb n 10
+isRefusal n = leb 1 n && leb n 10 || leb 31 n && leb n 35
 
 abbrev pub refuses : Given → Bool
 refuses g = isRefusal (g .number)

@@ -129,11 +129,7 @@ pub fn clear(registers: &mut [u8], first: usize, many: usize)
     requires { ⌜ first + many ≤ length (now registers) ⌝ }
     ensures { λ _. ⌜ now (registers .exit) ≡ zeroed first many (now (registers .entry)) ⌝ }
 {
-    let mut i = 0;
-    while i < many {
-        registers[first + i] = 0;
-        i += 1;
-    }
+    parts::clear(registers, first, many);
 }
 
 // Whether some bytes, from a place on, are 0.

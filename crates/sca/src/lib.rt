@@ -6,6 +6,7 @@ use adapter::KeptNumber;
 use batch::Batch;
 use batch::Pass;
 use batch::Sample;
+use control_room::Given;
 use numbers::BAD_STATE;
 use numbers::NO_FRAME;
 use receiver::Received;
@@ -18,9 +19,11 @@ ghost use Rattle.adapter.specs.Calls as adapters;
 ghost use Rattle.batch.specs.Batch as batches;
 ghost use Rattle.batch.specs.Inner.{finished};
 ghost use Rattle.sca.specs.Adapter.{packAnswer, packKept, packBatch, isSet, left, packed, packedBatch};
+ghost use Rattle.control_room.specs.Calls as rooms;
+ghost use Rattle.sca.specs.ControlRoom as room;
 ghost use Rattle.sca.specs.Version.{version};
 
-const VERSION: u64 = 0x010300;
+const VERSION: u64 = 0x010400;
 
 // A number, in a result of 64 bits.
 fn wide(number: u8) -> u64
@@ -236,6 +239,56 @@ pub extern "C" fn sca_step_back(state: &mut [u8], journal: &mut [u8]) -> u64
     ensures { λ r. ⌜ adapters.stepped r (now (state .exit)) (now (journal .exit)) ≡ adapters.steppedBack (now (state .entry)) (now (journal .entry)) ⌝ }
 {
     wide(adapter::step_back(state, journal))
+}
+
+// The number in bits 7 to 0, the bytes written in bits 15 to 8, 1 in bit 16 where an interrupt was read.
+fn pack_given(g: Given) -> u64
+    ensures { λ r. ⌜ r ≡ room.packGiven g ⌝ }
+{
+    let written = wide(g.number) + 256 * wide(g.length);
+    if g.interrupt {
+        written + 65536
+    } else {
+        written
+    }
+}
+
+// Makes a record of open transactions new.
+#[no_mangle]
+pub extern "C" fn sca_record_new(transactions: &mut [u8]) -> u64
+    ensures { λ r. ⌜ rooms.made r (now (transactions .exit)) ≡ rooms.recordMade (now (transactions .entry)) ⌝ }
+{
+    wide(control_room::new_record(transactions))
+}
+
+// Writes the body of a request.
+#[no_mangle]
+pub extern "C" fn sca_request(
+    transactions: &mut [u8],
+    channel: u32,
+    command: u32,
+    value: u32,
+    output: &mut [u8],
+) -> u64
+    ensures { λ r. ⌜ room.left r (now (transactions .exit)) (now (output .exit)) ≡ room.packed (rooms.requestWritten (now (transactions .entry)) channel command value (now (output .entry))) ⌝ }
+{
+    pack_given(control_room::request(transactions, channel, command, value, output))
+}
+
+// Reads the body of a reply or of an interrupt.
+#[no_mangle]
+pub extern "C" fn sca_reply(transactions: &mut [u8], body: &[u8], output: &mut [u8]) -> u64
+    ensures { λ r. ⌜ room.left r (now (transactions .exit)) (now (output .exit)) ≡ room.packed (rooms.replyRead (now (transactions .entry)) (now (body .entry)) (now (output .entry))) ⌝ }
+{
+    pack_given(control_room::reply(transactions, body, output))
+}
+
+// Writes the body of a command of the link.
+#[no_mangle]
+pub extern "C" fn sca_command(transactions: &mut [u8], control: u32, output: &mut [u8]) -> u64
+    ensures { λ r. ⌜ room.left r (now (transactions .exit)) (now (output .exit)) ≡ room.packed (rooms.commandWritten (now (transactions .entry)) control (now (output .entry))) ⌝ }
+{
+    pack_given(control_room::command(transactions, control, output))
 }
 
 // The version of these calls: the major number in bits 23 to 16, the minor in bits 15 to 8, the patch in bits 7 to 0.

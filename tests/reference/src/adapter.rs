@@ -1,7 +1,7 @@
 //! The adapter's calls: creation, the five events, pin samples by the batch,
 //! and stepping back through a journal of earlier states.
 //! An independent implementation, written from document 01 and change
-//! requests 2026-01 to 2026-03.
+//! requests 2026-01 to 2026-03 and 2026-05.
 
 use std::collections::VecDeque;
 
@@ -393,7 +393,8 @@ fn frame_outcome(state: &mut State, port: u8, body: &[u8]) -> Outcome {
     }
 }
 
-fn is_command(control: u8) -> bool {
+/// Whether a control is that of CONNECT, RESET or TEST.
+pub(crate) fn is_command(control: u8) -> bool {
     matches!(control, 0x2F | 0x3F | 0x8F | 0x9F | 0xE3 | 0xF3)
 }
 

@@ -1,10 +1,11 @@
 //! An independent implementation of the slow control adapter, written from
-//! document 01 and change requests 2026-01 to 2026-03: its link, its events
-//! with step back, and its bench listing.
+//! document 01 and change requests 2026-01 to 2026-03 and 2026-05: its link,
+//! its events with step back, its bench listing, and the control room's end.
 
 #![forbid(unsafe_code)]
 
 pub mod adapter;
+pub mod control;
 pub mod link;
 pub mod listing;
 pub mod numbers;

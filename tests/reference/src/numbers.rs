@@ -1,6 +1,7 @@
-//! The numbers that calls give back, as document 01's table lists them.
+//! The numbers that calls give back, as document 01's table and the change
+//! requests list them.
 //! An independent implementation, written from document 01 and change
-//! requests 2026-01 to 2026-03.
+//! requests 2026-01 to 2026-03 and 2026-05.
 
 /// A frame was read or sent.
 pub const FRAME: u8 = 0;
@@ -46,3 +47,11 @@ pub const NOT_WHOLE_BYTES: u8 = 22;
 pub const WRONG_FCS: u8 = 23;
 /// The receiver dropped a frame that was aborted.
 pub const ABORTED: u8 = 24;
+/// All 254 transactions of the control room are open.
+pub const NO_FREE_TRANSACTION: u8 = 31;
+/// The reply matches no open transaction.
+pub const UNMATCHED_REPLY: u8 = 32;
+/// The reply's body has not ten bytes.
+pub const REPLY_LENGTH: u8 = 33;
+/// The tables don't have the command.
+pub const UNKNOWN_COMMAND: u8 = 35;

@@ -1,14 +1,15 @@
 //! Requests and replies: their fields, the error bits and the commands of
 //! every channel.
 //! An independent implementation, written from document 01 and change
-//! requests 2026-01 to 2026-03.
+//! requests 2026-01 to 2026-03 and 2026-05.
 
 use crate::state::{is_start, master_place, Gpio, Master, Spi, State};
 use crate::state::{CRB_BITS, CRD_BITS, FIRST_MASTER, INVCOM, LAST_MASTER};
 
 const CONTROLLER: u8 = 0x00;
 const SPI: u8 = 0x01;
-const GPIO: u8 = 0x02;
+/// The channel of the parallel lines, the only one that interrupts.
+pub const GPIO: u8 = 0x02;
 const SEU: u8 = 0x13;
 const ID: u8 = 0x14;
 const DAC: u8 = 0x15;
@@ -22,7 +23,8 @@ const BUSY: u8 = 0x40;
 
 const SPI_GO: u8 = 0x72;
 const GO_REPLY_LENGTH: u8 = 6;
-const INTERRUPT_TRANSACTION: u8 = 0xFF;
+/// The TRN of an interrupt, which no request may have.
+pub const INTERRUPT_TRANSACTION: u8 = 0xFF;
 const INTERRUPT_LENGTH: u8 = 4;
 
 /// The information of a request.
@@ -212,8 +214,9 @@ fn countable(state: &State, request: &Request) -> bool {
     }
 }
 
-/// The LEN of request and reply; none if the command is unknown.
-fn lengths(channel: u8, command: u8) -> Option<(u8, u8)> {
+/// The LEN of request and reply; none if the command is unknown. The control
+/// room asks with the one that the adapter wants.
+pub fn lengths(channel: u8, command: u8) -> Option<(u8, u8)> {
     match (channel, command) {
         (CONTROLLER, 0x02 | 0x04 | 0x06) => Some((4, 2)),
         (CONTROLLER, 0x03 | 0x05 | 0x07) => Some((2, 4)),

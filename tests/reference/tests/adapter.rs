@@ -1,6 +1,6 @@
 //! Tests of the adapter's events, refusals and steps back.
 //! An independent implementation, written from document 01 and change
-//! requests 2026-01 to 2026-03.
+//! requests 2026-01 to 2026-03 and 2026-05.
 
 use reference::adapter::*;
 

@@ -1,6 +1,6 @@
 //! Tests of the bench listing, by document 01's eight lines and its edges.
 //! An independent implementation, written from document 01 and change
-//! requests 2026-01 to 2026-03.
+//! requests 2026-01 to 2026-03 and 2026-05.
 
 use reference::listing::played;
 

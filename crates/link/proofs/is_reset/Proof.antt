@@ -1,7 +1,7 @@
--- `frame::is_reset` meets its contract. Assumes nothing.
+-- `is_reset` meets its contract. Assumes nothing.
 use borrow.Author.Tests.{eq-eqb, ne-eqb}
-use Rattle.chip.proofs.frame.is_reset.Statement.{statement}
-use Rattle.chip.proofs.frame.is_reset.Tie as tie
+use Rattle.link.proofs.is_reset.Statement.{statement}
+use Rattle.link.proofs.is_reset.Tie as tie
 
 pub is-reset-spec : {M : Type 1} → statement M
 is-reset-spec = tie.close (tie.spec (λ c. search eq-eqb) (λ c. simp (ne-eqb _ _ (c .if1 .left))))

@@ -1,0 +1,9 @@
+-- What the control room's call gives, packed.
+use borrow.Author.Needs.{needs}
+use Rattle.bits.proofs.Answered.{four}
+use Rattle.sca.proofs.Packing.{room-packs}
+use Rattle.sca.proofs.sca_command.Statement.{statement}
+use Rattle.sca.proofs.sca_command.Tie as tie
+
+pub sca-command-spec : {M : Type 1} → statement M
+sca-command-spec = tie.close (four tie.spec (search needs) (λ c. search room-packs))
