@@ -1,7 +1,7 @@
 -- No table has a channel or a code over a byte, nor command 0x00 of channel 0x00.
 use Prim.Native.Nat.{ℕ, _≤_}
 use mathlib.Core.Bool.{true}
-use mathlib.Core.Path.{_≡_, refl, sym, _∙_, ap}
+use mathlib.Core.Path.{_≡_, refl, ap}
 use native.Mathlib.Omega.{arith}
 use borrow.Author.Tests.{le-leb, lt-leb}
 use Rattle.bits.proofs.Rows.{codesBelow, look-beyond}

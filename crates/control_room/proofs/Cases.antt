@@ -1,12 +1,12 @@
 -- What each call gives and leaves, case by case: a law for every case of the definitions. Assumes nothing.
-use Prim.Native.Nat.{ℕ, zero, suc, _+_, _*_, _/_, _%_, _≤_, _<_}
-use mathlib.Core.Path.{_≡_, refl, sym, ap, subst, _∙_}
-use mathlib.Core.Bool.{Bool, true, false, not, cond, _&&_, _||_, false≢true}
-use mathlib.Core.List.{List, [], _∷_, _++_}
+use Prim.Native.Nat.{ℕ, zero, suc, _+_, _*_, _%_, _≤_, _<_}
+use mathlib.Core.Path.{_≡_, refl, sym, ap, _∙_}
+use mathlib.Core.Bool.{Bool, true, false, not, cond, _&&_, _||_}
+use mathlib.Core.List.{List, [], _∷_}
 use native.Mathlib.Omega.{arith}
 use lib.Dec.{eqb, leb, ltb, lit≤, lit<}
 use lib.ListN.{length, getD, set, replicate}
-use borrow.Author.Tests.{eq-eqb, ne-eqb, eqb-false, lt-ltb, le-ltb, le-leb, lt-leb, leb-true, ltb-true, ltb-false, not-true, not-false}
+use borrow.Author.Tests.{eq-eqb, ne-eqb, lt-ltb, le-ltb, le-leb, lt-leb, ltb-true, ltb-false, not-true, not-false}
 use Rattle.bits.proofs.Tests.{and-left, and-right, cond-cases}
 use Rattle.parts.specs.Parts.{put}
 use Rattle.parts.specs.Digits.{digits}
@@ -19,11 +19,11 @@ use Rattle.commands.specs.declared.command.Lengths.{Lengths}
 use Rattle.commands.proofs.Laws.{code-beyond, none-beyond}
 use Rattle.commands.specs.Channels.{channelOf}
 use Rattle.link.specs.Link.{isConnect, isReset, isTest}
-use Rattle.packets.specs.Packets.{requestBody, dataOf}
+use Rattle.packets.specs.Packets.{requestBody}
 use Rattle.control_room.specs.declared.Given.{Given}
 use Rattle.control_room.proofs.Laws.{length-with, its-length}
-use Rattle.control_room.specs.Record.{recordSize, numberAt, withNumber, frameNumber, countedUp, countedAnew, commandAt, isListed, lenOf, isOpen, channelIn, commandIn, isOpenTo, opened, closed, lowestFree, freeTrn, areSound, isRecord}
-use Rattle.control_room.specs.Calls.{Outcome, outcome, gives, refused, unlessRefused, made, recordMade, taken, written, requestWritten, told, matched, read, replyRead, linkCommand, commandWritten}
+use Rattle.control_room.specs.Record.{recordSize, numberAt, withNumber, frameNumber, countedUp, countedAnew, commandAt, isOpen, channelIn, commandIn, isOpenTo, opened, closed, lowestFree, freeTrn, areSound, isRecord}
+use Rattle.control_room.specs.Calls.{Outcome, outcome, gives, refused, unlessRefused, made, recordMade, taken, written, told, matched, read, linkCommand}
 
 known-not : (l : Lengths) (does : Does) → Known l does ≡ Unknown → ⊥
 known-not l does e = let z : _≡_ {A = ℕ} 0 1 = cc in omega arith

@@ -10,7 +10,7 @@ use lib.ListN.{length}
 use lib.Dec.{eqb, ltb, leb}
 use borrow.Author.Tests.{leb-true, ltb-false, not-false}
 use Rattle.numbers.specs.Numbers as number
-use Rattle.bits.proofs.Tests.{and-left, and-right, cond-cases, either}
+use Rattle.bits.proofs.Tests.{and-left, and-right, or-second, cond-cases, either}
 use Rattle.parts.specs.Parts.{put}
 use Rattle.transmitter.specs.declared.Sent.{Sent}
 use Rattle.transmitter.specs.Frame.{framed}
@@ -37,11 +37,12 @@ use Rattle.promises.proofs.Steps.{split}
 
 -- the numbers of refusals are small, and none of the chip's
 refusal-range : (n : ℕ) → isRefusal n ≡ true → (n ≤ 10) ⊎ ((31 ≤ n) × (n ≤ 35))
-refusal-range n h = by (leb 1 n && leb n 10) refl h
+refusal-range n h =
+    split (leb 1 n && leb n 10) (λ e. inl (leb-true n 10 (and-right (leb 1 n) (leb n 10) e)))
+    (λ e. let k = above (or-second _ _ h e) in inr (omega arith, omega arith))
   where
-    by : (t : Bool) → (leb 1 n && leb n 10) ≡ t → (t || leb 31 n && leb n 35) ≡ true → (n ≤ 10) ⊎ ((31 ≤ n) × (n ≤ 35))
-    by true e f = inl (leb-true n 10 (and-right (leb 1 n) (leb n 10) e))
-    by false e f = inr (leb-true 31 n (and-left (leb 31 n) (leb n 35) f), leb-true n 35 (and-right (leb 31 n) (leb n 35) f))
+    above : {a b : ℕ} → (leb a n && leb n b) ≡ true → (a ≤ n) × (n ≤ b)
+    above {a} {b} f = (leb-true a n (and-left (leb a n) (leb n b) f), leb-true n b (and-right (leb a n) (leb n b) f))
 
 pub refusal-most : (n : ℕ) → isRefusal n ≡ true → n ≤ 35
 refusal-most n h = by (refusal-range n h)

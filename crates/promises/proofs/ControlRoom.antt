@@ -1,28 +1,26 @@
 -- THE CONTROL ROOM'S END: what document 02 says of its record and its three calls, for every input. That a request is read back as its answer is
 -- `Conversation`. Assumes nothing.
 use Prim.Native.Nat.{ℕ, _+_, _*_, _/_, _%_, _^_, _≤_, _<_}
-use mathlib.Core.Bool.{Bool, true, false, not, _&&_, _||_, cond, true≢false, false≢true}
-use mathlib.Core.List.{List, [], _∷_, foldl}
+use mathlib.Core.Bool.{Bool, true, false, not, _&&_, _||_, true≢false, false≢true}
+use mathlib.Core.List.{List, [], _∷_}
 use mathlib.Core.Logic.{_⊎_, inl, inr}
 use mathlib.Core.Path.{_≡_, refl, sym, ap, subst, _∙_}
 use native.Mathlib.Nat.{mod-eq-of-lt}
 use native.Mathlib.Omega.{arith}
-use borrow.Author.Tests.{eq-eqb, ne-eqb, eqb-true, eqb-false, leb-true, le-leb, ltb-true, ltb-false, lt-ltb, le-ltb, not-true, not-false}
+use borrow.Author.Tests.{eq-eqb, ne-eqb, eqb-true, eqb-false, leb-true, le-leb, ltb-true, ltb-false, lt-ltb, le-ltb, not-false}
 use lib.Dec.{eqb, leb, ltb, lit<}
-use lib.ListN.{length, getD, replicate}
+use lib.ListN.{length, replicate}
 use Rattle.numbers.specs.Numbers as number
 use Rattle.parts.specs.Parts.{part, put}
 use Rattle.bits.specs.Bits.{digit}
 use Rattle.packets.specs.Packets.{requestBody}
 use Rattle.parts.specs.Digits.{number as numberOf}
 use Rattle.bits.proofs.Tests.{and-left, and-right, or-second, cond-cases}
-use Rattle.commands.specs.declared.command.Command.{Command}
-use Rattle.commands.specs.declared.command.Command.the-variants.{Known, Unknown}
 use Rattle.commands.specs.Channels.{channelOf}
 use Rattle.commands.proofs.Laws.{code-beyond, none-beyond, no-zero}
 use Rattle.link.specs.Link.{isTest}
-use Rattle.control_room.specs.Record.{recordSize, numberAt, withNumber, frameNumber, countedUp, countedAnew, commandAt, isListed, lenOf, isOpen, channelIn, commandIn, isOpenTo, opened, closed, freeTrn, isSound, areSound, isRecord}
-use Rattle.control_room.specs.Calls.{Made, made, recordMade, Outcome, outcome, gives, refused, unlessRefused, taken, written, requestWritten, trnOf, chOf, isInterrupt, told, answered, interrupted, matched, read, replyRead, isLinkCommand, commanded, linkCommand, commandWritten}
+use Rattle.control_room.specs.Record.{recordSize, numberAt, frameNumber, countedUp, commandAt, isListed, lenOf, isOpen, channelIn, commandIn, isOpenTo, opened, closed, freeTrn, isSound, areSound, isRecord}
+use Rattle.control_room.specs.Calls.{Made, recordMade, Outcome, gives, refused, unlessRefused, taken, written, requestWritten, trnOf, chOf, isInterrupt, told, answered, interrupted, matched, read, replyRead, isLinkCommand, commanded, linkCommand, commandWritten}
 use Rattle.control_room.proofs.Laws.{its-length, its-frame, its-entries, sound-at, a-record, length-with, number-same, number-other, Among, sound-all, Lowest, none, one, lowest, lowest-is, stored-entry, stored-frame}
 use Rattle.sca.specs.ControlRoom.{packGiven, left, packed}
 use Rattle.promises.specs.Runs.{isRefusal}

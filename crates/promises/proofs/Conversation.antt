@@ -1,18 +1,17 @@
 -- BOTH ENDS: "A request written here with the number the active, unlooped port expects and answered by the adapter is read back as that request's answer,
 -- errors included." One theorem, `conversation`, over the contracts of both ends and demand 2's machine, for every command that the tables have; for
 -- whatever way brings bodies of 2 to 16 bytes as they were sent, the wire among them (`wire-brings`). Assumes nothing.
-use Prim.Native.Nat.{ℕ, zero, suc, _+_, _*_, _-_, _/_, _%_, _^_, _≤_, _<_}
-use mathlib.Core.Bool.{Bool, true, false, not, _&&_, _||_, cond, true≢false, false≢true}
-use mathlib.Core.List.{List, [], _∷_, _++_}
+use Prim.Native.Nat.{ℕ, _+_, _*_, _-_, _/_, _%_, _^_, _≤_, _<_}
+use mathlib.Core.Bool.{Bool, true, false, not, true≢false, false≢true}
+use mathlib.Core.List.{List, [], _∷_}
 use mathlib.Core.Logic.{_⊎_, inl, inr}
 use mathlib.Core.Path.{_≡_, refl, sym, ap, subst, _∙_}
-use native.Mathlib.Nat.{mod-eq-of-lt}
 use native.Mathlib.Omega.{arith}
 use borrow.Author.Tests.{eq-eqb, ne-eqb, ltb-true, le-ltb, not-true}
 use lib.Dec.{eqb, ltb, lit<, lit≤}
 use lib.Bits.{and-mask}
 use lib.Pow.{shr-shr}
-use lib.ListN.{length, take, drop, getD, replicate, length-replicate}
+use lib.ListN.{length, take, replicate}
 use Rattle.bits.specs.Bits.{bitOf, digit}
 use Rattle.bits.proofs.Rows.{every, look-every}
 use Rattle.bits.proofs.Tests.{cond-cases}
@@ -22,8 +21,6 @@ use Rattle.parts.specs.Digits.{word, digits}
 use Rattle.parts.specs.Digits.{number as numberOf}
 use Rattle.parts.proofs.Laws.{AreBytes, bytes-append, part-put-same}
 use Rattle.parts.proofs.Digits.{digits-number}
-use Rattle.transmitter.specs.Frame.{frame as framing}
-use Rattle.transmitter.specs.Transmit as transmit
 use Rattle.receiver.specs.declared.Received.{Received}
 use Rattle.receiver.specs.Receiver.{hunting, image}
 use Rattle.receiver.specs.Receive.{received}
@@ -49,7 +46,7 @@ use Rattle.registers.specs.Transfer.{completed}
 use Rattle.registers.specs.Transaction.{ended, endData}
 use Rattle.link.specs.Link.{replyControl, sendUp, receiveNumber, numberIn, isTest, inLoopback, freshLink}
 use Rattle.link.specs.declared.Link.{Link}
-use Rattle.packets.specs.Packets.{requestOf, requestBody, replyBody, byteOf, dataOf}
+use Rattle.packets.specs.Packets.{requestOf, requestBody, replyBody, byteOf}
 use Rattle.packets.proofs.Laws.{data-round}
 use Rattle.channels.specs.Rows.{isKnown, isEnabled, isBusy}
 use Rattle.channels.specs.Errors.{canMove, ofCommand, decoded, errorOf, firstError}
@@ -69,7 +66,7 @@ use Rattle.chip.specs.Frame.{counted, informationOf, onFrame, addressed, comman
 use Rattle.chip.specs.Request.{replies, finished, requested}
 use Rattle.chip.specs.Chip.{reaction, onSpi, transferred, startedBy, onI2c, transacted}
 use Rattle.chip.proofs.EventFits.{EventFits}
-use Rattle.chip.proofs.Bodies.{Each, each-byte, Every, Framable, frame-bytes}
+use Rattle.chip.proofs.Bodies.{each-byte, Every, Framable, frame-bytes}
 use Rattle.journal.specs.Layout.{wrongLength, wellFormed, emptied}
 use Rattle.journal.proofs.Ring.{of-well, well-of, emptied-well}
 use Rattle.adapter.specs.declared.Answer.{Answer}
@@ -78,14 +75,13 @@ use Rattle.adapter.specs.Refusals.{wrongCompletion, inOrder, verdict}
 use Rattle.adapter.specs.Calls as adapter
 use Rattle.adapter.specs.Calls.{created, madeEmpty, called, done}
 use Rattle.adapter.proofs.Laws.{called-done, recorded-well}
-use Rattle.control_room.specs.Record.{recordSize, numberAt, frameNumber, countedUp, commandAt, isListed, lenOf, channelIn, commandIn, isOpenTo, opened, closed, freeTrn, isRecord}
+use Rattle.control_room.specs.Record.{recordSize, numberAt, frameNumber, countedUp, commandAt, isListed, lenOf, channelIn, commandIn, isOpenTo, closed, freeTrn, isRecord}
 use Rattle.control_room.specs.Calls.{Outcome, outcome, gives, taken, written, requestWritten, trnOf, chOf, told, answered, matched, read, replyRead, commandWritten, recordMade}
 use Rattle.control_room.specs.declared.Given.{Given}
 use Rattle.control_room.proofs.Laws.{Among, its-length, its-frame, length-with, number-other, stored-and-back}
-use Rattle.promises.specs.Wire.{found}
 use Rattle.promises.specs.Runs.{CompletionOfTypes}
 use Rattle.promises.specs.ControlRoom.{request, command}
-use Rattle.promises.specs.Conversation.{cableOf, heardOn, overTheWire, writtenBody, sentBody, InStep, asked, HasOpen, answer, ReadBack, Waiting, Ends, Ended, AtOnce, Started, Answered}
+use Rattle.promises.specs.Conversation.{cableOf, overTheWire, writtenBody, InStep, asked, HasOpen, answer, ReadBack, Waiting, Ends, Ended, AtOnce, Started, Answered}
 use Rattle.promises.proofs.RoundTrip.{round-trip}
 use Rattle.promises.proofs.Errors.{InOrder, in-order}
 use Rattle.promises.proofs.ControlRoom.{known-bytes, entry-channel, entry-command, entry-open, open-to, Taken, request-takes, stays-a-record, closed-is, no-interrupt, zeros, free-among, Six, command-in-order, Commands, command-done}

@@ -5,7 +5,7 @@ use mathlib.Core.Path.{_≡_, refl, sym, ap, subst, _∙_}
 use mathlib.Core.Bool.{true, false, false≢true, true≢false}
 use mathlib.Core.List.{List, [], _∷_, foldl}
 use native.Mathlib.Omega.{arith}
-use borrow.Author.Tests.{lt-leb, le-ltb}
+use borrow.Author.Tests.{le-ltb}
 use Rattle.bits.proofs.Tests.{and-right}
 use lib.ListN.{length, take, drop, getD}
 use lib.Seq.{drop-at}

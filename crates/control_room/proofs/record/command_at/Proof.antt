@@ -1,5 +1,5 @@
 -- `record::command_at` meets its contract: no table has a channel or a code over a byte. Assumes nothing.
-use Prim.Native.Nat.{ℕ, _≤_, _<_}
+use Prim.Native.Nat.{ℕ, _<_}
 use mathlib.Core.Path.{_≡_, sym}
 use borrow.Author.Needs.{needs}
 use Rattle.bits.proofs.Answered.{four}
