@@ -28,8 +28,10 @@ part 'The wire, in the words of the standard' crates/promises/specs/Wire.antt cr
 part 'The chip' crates/bits/specs/*.antt crates/commands/specs/*.antt crates/registers/specs/*.antt crates/channels/specs/*.antt \
     crates/link/specs/*.antt crates/packets/specs/*.antt crates/state/specs/*.antt crates/chip/specs/*.antt
 part 'The calls and the journal' crates/adapter/specs/*.antt crates/batch/specs/*.antt crates/journal/specs/*.antt
+part 'The control room' crates/control_room/specs/*.antt
 part 'Demand 3' crates/promises/specs/Runs.antt crates/promises/specs/Ours.antt
 part 'A batch' crates/promises/specs/Batches.antt
+part 'The control room, and both ends' crates/promises/specs/ControlRoom.antt crates/promises/specs/Conversation.antt
 part 'The table' crates/promises/specs/Table.antt crates/promises/specs/Text.antt
 part 'The listing' crates/listing/specs/*.antt crates/player/specs/*.antt
 part 'The exports' crates/sca/specs/*.antt
