@@ -5,6 +5,7 @@ use crate::bits::{bits_of, buffer_of};
 use crate::calls::Call;
 use crate::fault::Fault;
 use crate::harness::output::Output;
+use crate::harness::same::{same, Checked};
 use crate::receiver::{in_range, way_to};
 use reference::link;
 use reference::numbers::{ABORTED, DONE, FRAME, OUT_OF_RANGE, TOO_LONG, UNREADABLE};
@@ -39,16 +40,6 @@ impl Tally {
             bodies_sent: [0; 17],
             start_places: [0; 8],
         }
-    }
-}
-
-type Checked = Result<(), String>;
-
-fn same<T: PartialEq + std::fmt::Debug>(what: &str, ours: T, theirs: T) -> Checked {
-    if ours == theirs {
-        Ok(())
-    } else {
-        Err(format!("{}: the library has {:?}, expected {:?}", what, ours, theirs))
     }
 }
 

@@ -6,8 +6,8 @@ mod batch;
 use crate::batches::Taken;
 use crate::calls::Call;
 use crate::fault::Fault;
-use crate::harness::hex::Hex;
 use crate::harness::output::Output;
+use crate::harness::same::{same, same_bytes, Checked};
 use crate::image::{bytes_of, state_in};
 use crate::record::{tag_of, tag_of_channel, CORE, CRB};
 use crate::ring::Ring;
@@ -17,29 +17,8 @@ use reference::numbers::{BAD_ID, BAD_JOURNAL, DONE, FRAME, NOTHING_KEPT, OUT_OF_
 use sca::boundary::{self, RawAnswer};
 use sca::{I2C_FIRST, JOURNAL_BYTES, STATE_BYTES};
 
-type Checked = Result<(), String>;
-
 /// The chip that a run starts with.
 const FIRST_ID: u32 = 0x00_000A;
-
-fn same<T: PartialEq + std::fmt::Debug>(what: &str, ours: T, expected: T) -> Checked {
-    if ours == expected {
-        Ok(())
-    } else {
-        Err(format!("{}: the library has {:?}, expected {:?}", what, ours, expected))
-    }
-}
-
-/// The same for many bytes, of which the first that differ are shown.
-fn same_bytes(what: &str, ours: &[u8], expected: &[u8]) -> Checked {
-    if ours == expected {
-        return Ok(());
-    }
-    let at = ours.iter().zip(expected).take_while(|(ours, due)| ours == due).count();
-    let some = |bytes: &[u8]| Hex(&bytes[at..bytes.len().min(at + 8)]).to_string();
-    let place = format!("{} differs from byte {} on", what, at);
-    same(&place, some(ours), some(expected))
-}
 
 pub fn refused(number: u8) -> bool {
     (1..=UNREADABLE).contains(&number)

@@ -1,6 +1,7 @@
 //! What include/sca.h and docs/RECORD.md promise of the control room's calls, asked of their bytes alone: nothing here goes by what the
 //! independent implementation does.
 
+use crate::harness::same::Checked;
 use crate::made::{refused, Ask, Made};
 use crate::spelled::{place, FIRST, LAST};
 use crate::tables::{CONNECT, GPIO, LINK_COMMANDS, POLL, RESET};
@@ -8,8 +9,6 @@ use reference::numbers::{
     FRAME, NO_FREE_TRANSACTION, OUT_OF_RANGE, REPLY_LENGTH, SHORT_OUTPUT, UNKNOWN_COMMAND, UNMATCHED_REPLY,
 };
 use sca::{ANSWER_BYTES, OUTPUT_LEAST, RECORD_BYTES, REPLY_BYTES};
-
-type Checked = Result<(), String>;
 
 pub fn promised(what: &str, holds: bool) -> Checked {
     if holds {

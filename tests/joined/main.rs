@@ -20,7 +20,6 @@ mod ledger;
 mod made;
 mod queue;
 mod run;
-mod shrink;
 mod spelled;
 mod streams;
 mod tables;
@@ -29,6 +28,7 @@ mod tally;
 use calls::Call;
 use fault::{Fault, Judge, FAULTS};
 use harness::chance::Chance;
+use harness::fewest::fewest;
 use harness::options::Options;
 use harness::report::say;
 use run::Run;
@@ -45,7 +45,7 @@ fn run(calls: &[Call], fault: Option<Fault>, judge: Judge, tally: &mut Tally) ->
 /// A failing run, made short: the difference, and its calls.
 fn shortest(calls: &[Call], fault: Option<Fault>, judge: Judge) -> (String, Vec<Call>) {
     let difference = |calls: &[Call]| run(calls, fault, judge, &mut Tally::new()).0;
-    let short = shrink::shrunk(calls, |calls| difference(calls).is_some());
+    let short = fewest(calls, |calls| difference(calls).is_some());
     (difference(&short).unwrap_or_default(), short)
 }
 

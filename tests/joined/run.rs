@@ -8,36 +8,15 @@ mod ways;
 
 use crate::calls::Call;
 use crate::fault::{Fault, Judge, Laying};
-use crate::harness::hex::Hex;
+use crate::harness::same::{same, same_bytes, Checked};
 use crate::ledger::Ledger;
 use crate::queue::Queue;
 use crate::tally::Tally;
 use chip::Chip;
 use room::Room;
 
-type Checked = Result<(), String>;
-
 /// The chip that a run starts with.
 const FIRST_ID: u32 = 0x00_000A;
-
-fn same<T: PartialEq + std::fmt::Debug>(what: &str, ours: T, expected: T) -> Checked {
-    if ours == expected {
-        Ok(())
-    } else {
-        Err(format!("{}: the library has {:?}, expected {:?}", what, ours, expected))
-    }
-}
-
-/// The same for many bytes, of which the first that differ are shown.
-fn same_bytes(what: &str, ours: &[u8], expected: &[u8]) -> Checked {
-    if ours == expected {
-        return Ok(());
-    }
-    let at = ours.iter().zip(expected).take_while(|(ours, due)| ours == due).count();
-    let some = |bytes: &[u8]| Hex(&bytes[at..bytes.len().min(at + 8)]).to_string();
-    let place = format!("{} differs from byte {} on", what, at);
-    same(&place, some(ours), some(expected))
-}
 
 /// Both ends, on both sides, and what is on its way between them.
 pub struct Run<'a> {

@@ -1,9 +1,9 @@
-//! Makes a failing run short: as long as it still fails, calls are left out.
+//! Makes what fails short.
 
-use crate::calls::Call;
-
-pub fn shrunk(calls: &[Call], fails: impl Fn(&[Call]) -> bool) -> Vec<Call> {
-    let mut best = calls.to_vec();
+/// As few of them as still fail.
+#[allow(dead_code)] // not every comparison goes by this alone
+pub fn fewest<T: Clone>(all: &[T], fails: impl Fn(&[T]) -> bool) -> Vec<T> {
+    let mut best = all.to_vec();
     let mut width = (best.len() + 1) / 2;
     while width > 0 {
         let mut at = 0;
