@@ -7,7 +7,7 @@ use mathlib.Core.List.{List, [], _∷_}
 use mathlib.Core.Logic.{_⊎_, inl, inr}
 use mathlib.Core.Path.{_≡_, refl, sym, ap, subst, _∙_}
 use native.Mathlib.Omega.{arith}
-use borrow.Author.Tests.{eq-eqb, ne-eqb, ltb-true, le-ltb, not-true}
+use borrow.Author.Tests.{eq-eqb, ne-eqb, eqb-true, eqb-false, ltb-true, le-ltb, not-true}
 use lib.Dec.{eqb, ltb, lit<, lit≤}
 use lib.Bits.{and-mask}
 use lib.Pow.{shr-shr}
@@ -40,6 +40,7 @@ use Rattle.commands.specs.declared.request.Reply.{Reply}
 use Rattle.commands.specs.declared.request.Reply.the-variants.{Sent, Later}
 use Rattle.commands.specs.declared.request.Request.{Request}
 use Rattle.commands.specs.Command.{codeOf}
+use Rattle.commands.specs.Request.{cmdUnknown}
 use Rattle.commands.specs.Channels.{channelOf, firstMaster, commandsOf, commandOf}
 use Rattle.registers.specs.Registers as registers
 use Rattle.registers.specs.Transfer.{completed}
@@ -53,7 +54,8 @@ use Rattle.channels.specs.Errors.{canMove, ofCommand, decoded, errorOf, firstEr
 use Rattle.channels.specs.declared.errors.Decoded.{Decoded}
 use Rattle.channels.specs.Perform as perform
 use Rattle.channels.specs.Perform.{replied, performed}
-use Rattle.channels.proofs.Laws.{Sound, RequestBytes, Granted, decoded-cases, kept-start}
+use Rattle.channels.proofs.Laws.{Own, SameOwn, own-read, others-stay, Sound, RequestBytes, Granted, decoded-cases, kept-start}
+use Rattle.channels.proofs.Owners.{field-own}
 use Rattle.registers.proofs.Laws.{read-same}
 use Rattle.state.specs.State.{Adapter, withLink, withRegisters, poweredOn, powerOn}
 use Rattle.state.specs.Bytes.{stateSize, linkImage, linkOf, stateBytes, stateIn, isState}
@@ -86,6 +88,7 @@ use Rattle.promises.proofs.RoundTrip.{round-trip}
 use Rattle.promises.proofs.Errors.{InOrder, in-order}
 use Rattle.promises.proofs.ControlRoom.{known-bytes, entry-channel, entry-command, entry-open, open-to, Taken, request-takes, stays-a-record, closed-is, no-interrupt, zeros, free-among, Six, command-in-order, Commands, command-done}
 use Rattle.promises.proofs.Runs.{fits}
+use Rattle.promises.proofs.Steps.{split}
 use Rattle.promises.proofs.Tables.{Numbered, numbered, Starting, starting}
 
 -- ---- what stands at the front of an output
@@ -761,3 +764,70 @@ module _ (way : List ℕ → List ℕ) (brings : (b : List ℕ) → Framable b �
       let w = requestWritten r ch cmd d o₁ in
       let x = called s journal (frame port (way (writtenBody w))) o₂ in
       z .ends (x .state) (x .journal) c o₄ (w .kept) o₃ (again .ours) (again .state) (again .formed) (z .waits) (z .opens) e right types l₄ l₃
+
+-- ---- one channel or another
+
+spi-or-not : (c : Channel) → (c ≡ channel.Spi) ⊎ (c ≡ channel.Spi → ⊥)
+spi-or-not channel.Controller = inr (λ e. let z : _≡_ {A = ℕ} 0 1 = cc in omega arith)
+spi-or-not channel.Spi = inl refl
+spi-or-not channel.Gpio = inr (λ e. let z : _≡_ {A = ℕ} 0 1 = cc in omega arith)
+spi-or-not (channel.Master i) = inr (λ e. let z : _≡_ {A = ℕ} 0 1 = cc in omega arith)
+spi-or-not channel.Seu = inr (λ e. let z : _≡_ {A = ℕ} 0 1 = cc in omega arith)
+spi-or-not channel.Id = inr (λ e. let z : _≡_ {A = ℕ} 0 1 = cc in omega arith)
+spi-or-not channel.Dac = inr (λ e. let z : _≡_ {A = ℕ} 0 1 = cc in omega arith)
+spi-or-not channel.Unknown = inr (λ e. let z : _≡_ {A = ℕ} 0 1 = cc in omega arith)
+
+master-or-not : (c : Channel) (j : ℕ) → (c ≡ channel.Master j) ⊎ (c ≡ channel.Master j → ⊥)
+master-or-not channel.Controller j = inr (λ e. let z : _≡_ {A = ℕ} 0 1 = cc in omega arith)
+master-or-not channel.Spi j = inr (λ e. let z : _≡_ {A = ℕ} 0 1 = cc in omega arith)
+master-or-not channel.Gpio j = inr (λ e. let z : _≡_ {A = ℕ} 0 1 = cc in omega arith)
+master-or-not (channel.Master i) j =
+    split (eqb i j) (λ h. inl (ap channel.Master (eqb-true i j h))) (λ h. inr (λ e. let z : i ≡ j = cc in eqb-false i j h z))
+master-or-not channel.Seu j = inr (λ e. let z : _≡_ {A = ℕ} 0 1 = cc in omega arith)
+master-or-not channel.Id j = inr (λ e. let z : _≡_ {A = ℕ} 0 1 = cc in omega arith)
+master-or-not channel.Dac j = inr (λ e. let z : _≡_ {A = ℕ} 0 1 = cc in omega arith)
+master-or-not channel.Unknown j = inr (λ e. let z : _≡_ {A = ℕ} 0 1 = cc in omega arith)
+
+-- ---- the chip keeps a start through every request but the controller's, whatever comes of it
+
+module _ (rs : List ℕ) (long : length rs ≡ registers.size) (q : Request) (quiet : channelOf (q .ch) ≡ channel.Controller → ⊥) where
+  -- of its own channel, which is busy
+  same-channel : isBusy rs (channelOf (q .ch)) ≡ true → performed rs q ≡ rs
+  unfolding performed perform.marked
+  same-channel busy =
+      decoded-cases rs q (λ z. perform.leftBy rs q z ≡ rs)
+      (λ e f. cond-cases (λ (x : List ℕ). x ≡ rs) (eqb e cmdUnknown)
+      (λ h. absurd (true≢false (sym busy ∙ f .idle (eqb-true e cmdUnknown h)))) (λ _. refl))
+      (λ given does g. absurd (true≢false (sym busy ∙ g .idle)))
+
+  -- of another
+  other-channel : (ch : ℕ) (c : Channel) → channelOf ch ≡ c → (channelOf (q .ch) ≡ c → ⊥) → (x : Register) → Own c x
+      → registers.read (performed rs q) x ≡ registers.read rs x
+  other-channel ch c e other x own =
+      own-read c (performed rs q) rs
+      (subst (λ (k : Channel). SameOwn k (performed rs q) rs) e (others-stay rs long q ch (λ f. other (f ∙ e)) quiet)) x own
+
+  -- by a register of the channel that makes it busy
+  kept-through : (ch : ℕ) (c : Channel) (x : Register) → channelOf ch ≡ c → (channelOf (q .ch) ≡ c → isBusy rs (channelOf (q .ch)) ≡ true)
+      → Own c x → (channelOf (q .ch) ≡ c) ⊎ (channelOf (q .ch) ≡ c → ⊥) → registers.read (performed rs q) x ≡ registers.read rs x
+  kept-through ch c x e busy own (inl f) = ap (λ (s : List ℕ). registers.read s x) (same-channel (busy f))
+  kept-through ch c x e busy own (inr f) = other-channel ch c e f x own
+
+  pub waits-through-requests : (trn ch cmd : ℕ) → Among 1 254 trn → (l : Lengths) (does : Does) → commandAt ch cmd ≡ Known l does → Waiting rs trn cmd does
+      → Waiting (performed rs q) trn cmd does
+  waits-through-requests trn ch cmd t l (Write x) k w = absurd w
+  waits-through-requests trn ch cmd t l (Switch x) k w = absurd w
+  waits-through-requests trn ch cmd t l (Read x) k w = absurd w
+  waits-through-requests trn ch cmd t l (Clear x) k w = absurd w
+  waits-through-requests trn ch cmd t l (Start x) k w =
+      let row : Starting (channelOf ch) (Known l (Start x)) = subst (Starting (channelOf ch)) k (starting (channelOf ch) cmd) in
+      let kept : registers.read rs SpiGo ≡ trn = subst (λ (g : Register). registers.read rs g ≡ trn) (row .2) w in
+      subst (λ (g : Register). registers.read (performed rs q) g ≡ trn) (sym (row .2))
+      (kept-through ch channel.Spi SpiGo (row .0)
+      (λ f. subst (λ (c : Channel). isBusy rs c ≡ true) (sym f) (ap not (ne-eqb (registers.read rs SpiGo) 0 (λ z. omega arith)))) refl
+      (spi-or-not (channelOf (q .ch))) ∙ kept)
+  waits-through-requests trn ch cmd t l (Transact j x) k w =
+      let row : channelOf ch ≡ channel.Master j = subst (Starting (channelOf ch)) k (starting (channelOf ch) cmd) in
+      kept-through ch (channel.Master j) (master j Open) row
+      (λ f. subst (λ (c : Channel). isBusy rs c ≡ true) (sym f) (ap not (ne-eqb (registers.read rs (master j Open)) 0 (λ z. omega arith)))) (field-own j Open)
+      (master-or-not (channelOf (q .ch)) j) ∙ w
