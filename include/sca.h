@@ -12,11 +12,12 @@
  *     The link reads frames from the bits of a cable (sca_receive) and writes
  *     them (sca_transmit). The adapter is the chip: it takes events (sca_frame,
  *     sca_completion, sca_i2c_completion, sca_sample, sca_upset), gives what the
- *     chip would send, and can take events back (sca_step_back). Pin samples may
- *     also come by the batch (sca_samples). The control room is the other end of
- *     the link: it writes the bodies of requests (sca_request) and of the link's
- *     commands (sca_command), and reads replies and interrupts (sca_reply), from
- *     the same tables of commands as the chip.
+ *     chip would send, and can take events back (sca_step_back), up to 64 of them
+ *     or, with a large journal (sca_enlarge), up to 200. Pin samples may also come
+ *     by the batch (sca_samples). The control room is the other end of the link: it
+ *     writes the bodies of requests (sca_request) and of the link's commands
+ *     (sca_command), and reads replies and interrupts (sca_reply), from the same
+ *     tables of commands as the chip.
  *
  *     The library keeps nothing: whatever lasts from call to call stands in
  *     bytes that the caller lends. It allocates nothing, opens nothing and
@@ -59,8 +60,8 @@ extern "C" {
 
 /* ------------------------------------------------------------------ version */
 
-/* The version that this header is of, 1.4.0: major << 16 | minor << 8 | patch. */
-#define SCA_VERSION 0x010400
+/* The version that this header is of, 1.5.0: major << 16 | minor << 8 | patch. */
+#define SCA_VERSION 0x010500
 
 /* ------------------------------------------------------------------ numbers */
 
@@ -70,12 +71,14 @@ enum {
 
     /* refused: nothing has changed */
     SCA_SHORT_OUTPUT = 1,     /* the output is under SCA_OUTPUT_LEAST (sca_transmit: SCA_CABLE_MOST, sca_samples:
-                                 SCA_BATCH_LEAST) bytes */
+                                 SCA_BATCH_LEAST) bytes; sca_enlarge: the second buffer is not
+                                 SCA_LARGE_JOURNAL_BYTES */
     SCA_BAD_BODY = 2,         /* the body is not SCA_BODY_LEAST to SCA_BODY_MOST bytes */
     SCA_BAD_ARGUMENT = 3,     /* the port is not 0 or 1, the edge kind is over 2, an SPI completion is not 16 bytes,
                                  an I2C completion is of a channel that is not I2C, or over 16 bytes, or a batch
                                  has over SCA_SAMPLES_MOST samples */
-    SCA_BAD_JOURNAL = 4,      /* the journal's length, mark, version or layout is wrong */
+    SCA_BAD_JOURNAL = 4,      /* the journal's length, mark, version or layout is wrong; sca_enlarge: it is not a small
+                                 one */
     SCA_NONE_KEPT = 5,        /* the kept number is 0: there is no event to take back */
     SCA_BAD_STATE = 6,        /* the state, the receiver or the record of open transactions has another length, or a
                                  field out of range */
@@ -122,8 +125,10 @@ enum {
 #define SCA_ID_MOST 0xFFFFFF    /* the greatest chip ID */
 #define SCA_RECEIVER_BYTES 24   /* a receiver */
 #define SCA_STATE_BYTES 411     /* an adapter's state */
-#define SCA_JOURNAL_BYTES 17408 /* a journal */
-#define SCA_KEPT_MOST 64        /* the most events that can be taken back */
+#define SCA_JOURNAL_BYTES 17408 /* a small journal */
+#define SCA_KEPT_MOST 64        /* the most events that it can take back */
+#define SCA_LARGE_JOURNAL_BYTES 52224 /* a large journal */
+#define SCA_LARGE_KEPT_MOST 200 /* the most events that it can take back */
 #define SCA_RECORD_BYTES 510    /* a record of open transactions */
 #define SCA_TRANSACTIONS_MOST 254 /* the most transactions that can be open at once */
 #define SCA_ANSWER_BYTES 9      /* what sca_reply writes of a reply or an interrupt */
@@ -192,19 +197,19 @@ static inline uint32_t sca_answer_data(const uint8_t *answer) {
 /* The bytes of cable that were written, at most SCA_CABLE_MOST: sca_transmit. */
 static inline size_t sca_count(uint64_t result) { return (size_t)(result >> 8); }
 
-/* The events that can be taken back, 0 to SCA_KEPT_MOST: sca_kept. */
+/* The events that can be taken back, 0 to SCA_KEPT_MOST or, by a large journal, SCA_LARGE_KEPT_MOST: sca_kept. */
 static inline unsigned sca_kept_in(uint64_t result) { return (unsigned)((result >> 8) & 0xFF); }
 
 /* A number in words; "unknown number" for one that is none. */
 static inline const char *sca_text(unsigned number) {
     switch (number) {
     case SCA_HAS_FRAME: return "a frame was read or sent, or a body written or read";
-    case SCA_SHORT_OUTPUT: return "the output is under 16 bytes (transmitter: under 24, batch: under 2,560)";
+    case SCA_SHORT_OUTPUT: return "the output is under 16 bytes (transmitter: under 24, batch: under 2,560; enlarging: not 52,224)";
     case SCA_BAD_BODY: return "the body is not 2 to 16 bytes";
     case SCA_BAD_ARGUMENT:
         return "the port is not 0 or 1, the edge kind is over 2, the channel is not I2C, the completion is not 16 bytes (I2C: "
                "over 16), or the batch is over 256 samples";
-    case SCA_BAD_JOURNAL: return "the journal's length, mark, version or layout is wrong";
+    case SCA_BAD_JOURNAL: return "the journal's length, mark, version or layout is wrong (enlarging: it is not a small one)";
     case SCA_NONE_KEPT: return "the kept number is 0";
     case SCA_BAD_STATE: return "the state, the receiver or the record of open transactions has another length, or a field out of range";
     case SCA_BAD_ID: return "the chip ID is over 0xFFFFFF";
@@ -332,7 +337,8 @@ uint64_t sca_transmit(const uint8_t *body, size_t body_length, uint8_t *output, 
 
 /* -------------------------------------------------------------- the adapter
  *
- * An adapter is a state and a journal, both the caller's bytes:
+ * An adapter is a state and a journal, both the caller's bytes. The journal is
+ * small or large, as its length says:
  *
  *     uint8_t state[SCA_STATE_BYTES], journal[SCA_JOURNAL_BYTES], output[SCA_OUTPUT_LEAST];
  *     sca_create(state, sizeof state, 0x00000A);
@@ -355,8 +361,9 @@ uint64_t sca_transmit(const uint8_t *body, size_t body_length, uint8_t *output, 
  *     or refused:
  *         6         state_length is not SCA_STATE_BYTES, or a field of the state
  *                   is out of range, as the tables of its bytes below say
- *         4         journal_length is not SCA_JOURNAL_BYTES, or the journal's
- *                   mark, version or layout is wrong
+ *         4         journal_length is neither SCA_JOURNAL_BYTES nor
+ *                   SCA_LARGE_JOURNAL_BYTES, or the journal's mark, version or
+ *                   layout is wrong
  *         1         output_length is under SCA_OUTPUT_LEAST
  *         3, then 2 the event's own arguments, as its text says
  *
@@ -423,33 +430,40 @@ uint64_t sca_transmit(const uint8_t *body, size_t body_length, uint8_t *output, 
  *
  * THE JOURNAL
  *     It holds what sca_step_back needs. Every event that is not refused is kept
- *     in it, dropped ones too; of over SCA_KEPT_MOST events the oldest is given
- *     up. An accepted RESET empties the journal instead.
+ *     in it, dropped ones too; of over SCA_KEPT_MOST events, in a large journal
+ *     SCA_LARGE_KEPT_MOST, the oldest is given up. An accepted RESET empties the
+ *     journal instead. An event and a step back cost the same in both.
+ *
+ *     The length decides: SCA_JOURNAL_BYTES is a small journal, version 1, and
+ *     SCA_LARGE_JOURNAL_BYTES a large one, version 2. sca_empty makes either; a
+ *     small one becomes large, with the events that it keeps, by sca_enlarge.
  *
  *     A journal belongs to the state that went with it: hand both in as the last
  *     call left them, or copies of both that were taken at the same moment. A
  *     step back is for such a pair: a record holds what its event may change,
  *     and all else stays as it is in the state handed in.
  *
- *         byte          what
- *         0 to 2        the mark: 0x53 0x43 0x4A, "SCJ"
- *         3, 4          the version: 0x01 0x00
- *         5             the first slot, 0 to 63
- *         6             the kept number, 0 to SCA_KEPT_MOST
- *         7 to 1023     not read and not written
- *         1024 to end   64 slots of 256 bytes for the records
+ *         byte          small                          large
+ *         0 to 2        the mark: 0x53 0x43 0x4A, "SCJ", in both
+ *         3, 4          the version: 0x01 0x00         0x02 0x00
+ *         5             the first slot, 0 to 63        0 to 199
+ *         6             the kept number, 0 to 64       0 to 200
+ *         7 to 1023     not read and not written, in both
+ *         1024 to end   64 slots of 256 bytes for the  200 slots
+ *                       records
  *
  *     The records are the library's own and for sca_step_back alone; another
- *     version may lay them out otherwise. Number 4 means: another length than
- *     SCA_JOURNAL_BYTES, or one of bytes 0 to 6 that is not as the table says.
+ *     version may lay them out otherwise. Number 4 means: a length that is neither,
+ *     or one of bytes 0 to 6 that is not as the table says for this length: so
+ *     version 2 in a small journal, or version 1 in a large one.
  *     sca_step_back also gives it where the record that it would take back is
  *     damaged, or would leave the state handed in out of range. No journal that
  *     the calls themselves left is refused with the state that went with it.
  *
  *     A journal that a version before 1.2.0 of the library left has the same
  *     length, mark and version of its own, 1, but other records, and no call can
- *     tell. Make it empty with sca_empty first. What 1.2.0 left, state and journal,
- *     is good as it is.
+ *     tell. Make it empty with sca_empty first. What 1.2.0 and later left, state and
+ *     journal, is good as it is.
  *
  * THE CHIP
  *     A body is address, control, information. Address 0x00 is the chip's. The
@@ -553,10 +567,11 @@ uint64_t sca_create(uint8_t *state, size_t state_length, uint32_t id);
 /*
  * sca_empty - an empty journal
  *
- * Writes bytes 0 to 6, whatever the journal held before.
+ * Writes bytes 0 to 6, whatever the journal held before: those of a small journal
+ * or of a large one, as journal_length says.
  *
  * Number: 17 (SCA_NO_FRAME), or refused:
- *     4  journal_length is not SCA_JOURNAL_BYTES
+ *     4  journal_length is neither SCA_JOURNAL_BYTES nor SCA_LARGE_JOURNAL_BYTES
  */
 uint64_t sca_empty(uint8_t *journal, size_t journal_length);
 
@@ -569,6 +584,29 @@ uint64_t sca_empty(uint8_t *journal, size_t journal_length);
  *     4   as by the events
  */
 uint64_t sca_kept(const uint8_t *journal, size_t journal_length);
+
+/*
+ * sca_enlarge - a small journal as a large one
+ *
+ * Makes second a large journal that keeps the same events as the small journal,
+ * with the same kept number, whatever second held before. The small one is left
+ * as it was. Hand second to every call from then on: what they give is what they
+ * would have given with the small one, but that a step back is still granted
+ * where the small one had given its event up.
+ *
+ *     uint8_t second[SCA_LARGE_JOURNAL_BYTES];
+ *     result = sca_enlarge(journal, sizeof journal, second, sizeof second);
+ *
+ * Only the header of the small journal is looked at: a record that is damaged is
+ * copied, and refused by the step back that comes to it. Of second, bytes 0 to 6
+ * and the slots of the events kept are written, and no other byte.
+ *
+ * Number: 17 (SCA_NO_FRAME), or refused:
+ *     4  the journal is not a small one: journal_length is not SCA_JOURNAL_BYTES, or
+ *        its mark, version or layout is wrong; a large journal too
+ *     1  second_length is not SCA_LARGE_JOURNAL_BYTES, longer or shorter
+ */
+uint64_t sca_enlarge(const uint8_t *journal, size_t journal_length, uint8_t *second, size_t second_length);
 
 /*
  * sca_frame - a frame body arrives on a port
@@ -660,9 +698,9 @@ uint64_t sca_sample(uint8_t *state, size_t state_length, uint8_t *journal, size_
  * list holds count samples, the first one first, aligned as C aligns the struct.
  * State, journal and bodies are those of as many calls of sca_sample, one after
  * the other: each sample is an event of its own, kept and taken back by itself.
- * To take a batch back, call sca_step_back count times; of over SCA_KEPT_MOST
- * samples the newest SCA_KEPT_MOST can be taken back. With GPIO disabled each
- * sample is dropped, and kept all the same.
+ * To take a batch back, call sca_step_back count times; of more samples than the
+ * journal keeps, SCA_KEPT_MOST or SCA_LARGE_KEPT_MOST, the newest can be taken
+ * back. With GPIO disabled each sample is dropped, and kept all the same.
  *
  * The bodies stand one after the other from the front of output on,
  * SCA_REPLY_BYTES each, in the order in which they are to leave; no other byte

@@ -1,14 +1,16 @@
-//! Measures, in one run on the same events, the library's adapter beside the independent one with its own undo; and the library's
-//! batches of pin samples beside its own single calls.
+//! Measures, in one run on the same events, the library's adapter beside the independent one with its own undo; the
+//! library's batches of pin samples beside its own single calls; and the library with a large journal beside itself
+//! with a small one.
 
 #![forbid(unsafe_code)]
 
+mod journals;
 mod rows;
 
 use reference::adapter::{self, Journal, State};
 use rows::{compare, title, ROUNDS};
 use sca::boundary::{self, RawSample};
-use sca::{BATCH_LEAST, JOURNAL_BYTES, REPLY_BYTES, SAMPLES_MOST, STATE_BYTES};
+use sca::{BATCH_LEAST, JOURNAL_BYTES, LARGE_JOURNAL_BYTES, REPLY_BYTES, SAMPLES_MOST, STATE_BYTES};
 use std::time::Instant;
 
 /// Events in a round.
@@ -17,6 +19,8 @@ const EVENTS: usize = 4_096;
 const ADAPTERS: usize = 32;
 /// The most events that a journal keeps.
 const FULL: usize = 64;
+/// Enlargings in a round.
+const ENLARGINGS: usize = 128;
 /// The I2C master of the measurements, one of those with the longest record.
 const MASTER: u8 = 0x08;
 
@@ -308,6 +312,30 @@ fn compare_transactions() {
     );
 }
 
+/// A full journal made large, into the same second buffer over and over; the independent one makes a new one each time.
+fn compare_enlarging() {
+    let (ours, theirs) = (ready::<Ours>(), ready::<Theirs>());
+    let mut second = vec![0; LARGE_JOURNAL_BYTES];
+    let by_library = || {
+        let begin = Instant::now();
+        let sum = (0..ENLARGINGS)
+            .map(|_| boundary::sca_enlarge(&ours.journal, &mut second) as usize + boundary::sca_kept(&second).kept)
+            .sum();
+        (begin.elapsed().as_nanos() as f64 / ENLARGINGS as f64, sum)
+    };
+    let by_reference = || {
+        let begin = Instant::now();
+        let sum = (0..ENLARGINGS)
+            .map(|_| {
+                let (number, large) = adapter::enlarge(&theirs.journal, LARGE_JOURNAL_BYTES);
+                usize::from(number) + large.map_or(0, |large| adapter::kept(&large).1)
+            })
+            .sum();
+        (begin.elapsed().as_nanos() as f64 / ENLARGINGS as f64, sum)
+    };
+    compare("enlarging, 64 kept", by_library, by_reference);
+}
+
 /// How many samples of a batch interrupt: on both sides the same, the first time and again.
 fn interrupts(probe: &Probe) -> usize {
     let (mut ours, mut theirs) = (ready::<Ours>(), ready::<Theirs>());
@@ -395,8 +423,11 @@ fn main() {
     compare_transactions();
     let (ours, theirs) = (ready::<Ours>(), ready::<Theirs>());
     compare("step back", || steps_back(&ours), || steps_back(&theirs));
+    compare_enlarging();
     println!();
     println!("The library alone, as many samples by the batch and one by one. A ratio over 1: the batch is faster.");
     title("batch", "one by one", "one by one/batch");
     compare_with_single_calls();
+    println!();
+    journals::compare_sizes();
 }

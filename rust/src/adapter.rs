@@ -3,13 +3,16 @@
 use crate::answers::{done, dropped, looked_at, Answer, Batch, Edge, Port, Refusal, Sample};
 use crate::boundary::{self, RawAnswer, RawSample};
 use crate::bytes::{Bodies, Body};
-use crate::sizes::{BATCH_LEAST, JOURNAL_BYTES, OUTPUT_LEAST, SAMPLES_MOST, STATE_BYTES, TRANSFER_BYTES};
+use crate::sizes::{
+    JournalSize, BATCH_LEAST, LARGE_JOURNAL_BYTES, OUTPUT_LEAST, SAMPLES_MOST, STATE_BYTES, TRANSFER_BYTES,
+};
 use std::borrow::Borrow;
 
 /// A slow control adapter with its journal.
 ///
-/// Every event that is not refused is kept, dropped ones too, and can be taken back by [`Adapter::step_back`]; of over
-/// [`crate::KEPT_MOST`] events the oldest is given up. An accepted RESET empties the journal.
+/// Every event that is not refused is kept, dropped ones too, and can be taken back by [`Adapter::step_back`]; of more
+/// events than the journal keeps, [`crate::KEPT_MOST`] or, with a large one, [`crate::LARGE_KEPT_MOST`], the oldest is
+/// given up. An accepted RESET empties the journal.
 #[derive(Clone, PartialEq, Eq, Debug)]
 pub struct Adapter {
     state: [u8; STATE_BYTES],
@@ -33,10 +36,15 @@ fn raw(sample: &Sample) -> RawSample {
 }
 
 impl Adapter {
-    /// An adapter at power-on, with an empty journal. The ID is at most [`crate::ID_MOST`].
+    /// An adapter at power-on, with an empty small journal. The ID is at most [`crate::ID_MOST`].
     pub fn new(id: u32) -> Result<Adapter, Refusal> {
+        Adapter::with_journal(id, JournalSize::Small)
+    }
+
+    /// The same, with an empty journal of this size.
+    pub fn with_journal(id: u32, size: JournalSize) -> Result<Adapter, Refusal> {
         let mut state = [0; STATE_BYTES];
-        let mut journal = vec![0; JOURNAL_BYTES];
+        let mut journal = vec![0; size.bytes()];
         done(boundary::sca_create(&mut state, id) as u8)?;
         done(boundary::sca_empty(&mut journal) as u8)?;
         Ok(Adapter { state, journal })
@@ -75,9 +83,10 @@ impl Adapter {
     }
 
     /// The pins are sampled, many times in a row: state, journal and bodies are those of as many calls of
-    /// [`Adapter::sample`]. Each sample is an event of its own, kept and taken back by itself, with GPIO disabled too. They come
-    /// by value, or by reference as from a slice. Refused where they are over [`crate::SAMPLES_MOST`]; of an iterator that has
-    /// more, or never ends, no sample is asked for past the first one too many.
+    /// [`Adapter::sample`]. Each sample is an event of its own, kept and taken back by itself, with GPIO disabled too;
+    /// of more than the journal keeps, the newest can be taken back. They come by value, or by reference as from a
+    /// slice. Refused where they are over [`crate::SAMPLES_MOST`]; of an iterator that has more, or never ends, no
+    /// sample is asked for past the first one too many.
     pub fn samples(&mut self, samples: impl IntoIterator<Item = impl Borrow<Sample>>) -> Result<Batch, Refusal> {
         // Room for one too many, which the call then refuses.
         let mut list = [RawSample::default(); SAMPLES_MOST + 1];
@@ -106,12 +115,29 @@ impl Adapter {
         done(boundary::sca_step_back(&mut self.state, &mut self.journal).number)
     }
 
-    /// The number of events that can be taken back.
+    /// The number of events that can be taken back, at most [`JournalSize::kept_most`] of [`Adapter::journal_size`].
     pub fn kept(&self) -> usize {
         boundary::sca_kept(&self.journal).kept
     }
 
-    /// Gives up all events that could be taken back.
+    /// The size of the journal.
+    pub fn journal_size(&self) -> JournalSize {
+        match self.journal.len() {
+            LARGE_JOURNAL_BYTES => JournalSize::Large,
+            _ => JournalSize::Small,
+        }
+    }
+
+    /// Makes a small journal large. What could be taken back still can be, and from then on more is kept; what the
+    /// small one gave up does not come back. Refused with [`Refusal::BadJournal`] where the journal is large already.
+    pub fn enlarge(&mut self) -> Result<(), Refusal> {
+        let mut second = vec![0; LARGE_JOURNAL_BYTES];
+        done(boundary::sca_enlarge(&self.journal, &mut second) as u8)?;
+        self.journal = second;
+        Ok(())
+    }
+
+    /// Gives up all events that could be taken back. The journal's size stays.
     pub fn forget(&mut self) {
         boundary::sca_empty(&mut self.journal);
     }
@@ -126,8 +152,8 @@ impl Adapter {
         &self.journal
     }
 
-    /// An adapter that was kept as bytes; refused where the state is out of range or the journal is wrong. No event is
-    /// played.
+    /// An adapter that was kept as bytes, with a journal of either size; refused where the state is out of range or the
+    /// journal is wrong, as one whose version is not that of its length. No event is played.
     pub fn from_bytes(mut state: [u8; STATE_BYTES], journal: &[u8]) -> Result<Adapter, Refusal> {
         let mut journal = journal.to_vec();
         // Without output an event is refused, with 1 where it finds neither 6 nor 4.

@@ -48,7 +48,8 @@ pub struct Sample {
 #[derive(Clone, Copy, PartialEq, Eq, Debug)]
 #[non_exhaustive]
 pub enum Refusal {
-    /// The output is too short. This crate's outputs never are; [`crate::boundary`] takes any.
+    /// The output is too short, or the buffer to enlarge a journal into is not [`crate::LARGE_JOURNAL_BYTES`]. This
+    /// crate's own never are; [`crate::boundary`] takes any.
     ShortOutput = 1,
     /// The body is not 2 to 16 bytes.
     BadBody = 2,
@@ -56,7 +57,8 @@ pub enum Refusal {
     /// [`crate::SAMPLES_MOST`] samples. Or a port, edge kind or SPI completion of no meaning: this crate's types have none;
     /// [`crate::boundary`] takes any.
     BadArgument = 3,
-    /// The journal's length, mark, version or layout is wrong, or its newest record is damaged.
+    /// The journal's length, mark, version or layout is wrong, or its newest record is damaged; or a journal that is to
+    /// be enlarged is large already.
     BadJournal = 4,
     /// The kept number is 0: there is no event to take back.
     NoneKept = 5,
@@ -221,13 +223,13 @@ impl Reply {
 pub fn text(number: u8) -> &'static str {
     match number {
         0 => "a frame was read or sent, or a body written or read",
-        1 => "the output is under 16 bytes (transmitter: under 24, batch: under 2,560)",
+        1 => "the output is under 16 bytes (transmitter: under 24, batch: under 2,560; enlarging: not 52,224)",
         2 => "the body is not 2 to 16 bytes",
         3 => {
             "the port is not 0 or 1, the edge kind is over 2, the channel is not I2C, the completion is not 16 bytes (I2C: \
              over 16), or the batch is over 256 samples"
         }
-        4 => "the journal's length, mark, version or layout is wrong",
+        4 => "the journal's length, mark, version or layout is wrong (enlarging: it is not a small one)",
         5 => "the kept number is 0",
         6 => "the state, the receiver or the record of open transactions has another length, or a field out of range",
         7 => "the chip ID is over 0xFFFFFF",

@@ -23,6 +23,7 @@ mod library {
         pub fn sca_create(state: *mut u8, state_length: usize, id: u32) -> u64;
         pub fn sca_empty(journal: *mut u8, journal_length: usize) -> u64;
         pub fn sca_kept(journal: *const u8, journal_length: usize) -> u64;
+        pub fn sca_enlarge(journal: *const u8, journal_length: usize, second: *mut u8, second_length: usize) -> u64;
         pub fn sca_frame(
             state: *mut u8,
             state_length: usize,
@@ -264,6 +265,13 @@ pub fn sca_kept(journal: &[u8]) -> RawKept {
         number: result as u8,
         kept: (result >> 8) as usize,
     }
+}
+
+/// Makes a second buffer a large journal that keeps what a small one does; gives the whole value, in which nothing stands
+/// above the number.
+pub fn sca_enlarge(journal: &[u8], second: &mut [u8]) -> u64 {
+    // Sound: as above.
+    unsafe { library::sca_enlarge(journal.as_ptr(), journal.len(), second.as_mut_ptr(), second.len()) }
 }
 
 /// A frame body arrives on a port.

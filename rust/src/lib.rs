@@ -10,6 +10,9 @@
 //!
 //! What a logic probe saw goes in at once, as a [`Sample`] for each moment: [`Adapter::samples`].
 //!
+//! The last 64 events can be taken back, with a large journal the last 200: [`Adapter::with_journal`] begins with one,
+//! [`Adapter::enlarge`] goes over to one, in the middle of a branch too.
+//!
 //! At the other end of the link a [`ControlRoom`] writes requests, reads their replies and interrupts, and keeps which
 //! transactions are open. `examples/control_room.rs` has both ends, with a cable between them.
 //!
@@ -33,10 +36,11 @@ pub use answers::{Request, Sample, Transaction};
 pub use bytes::{Bodies, Body, Bytes, Frame};
 pub use control_room::ControlRoom;
 pub use link::{transmit, Listening, Receiver};
+pub use sizes::JournalSize;
 pub use sizes::{
     ANSWER_BYTES, BATCH_LEAST, BODY_LEAST, BODY_MOST, CABLE_MOST, I2C_FIRST, I2C_LAST, I2C_MOST, ID_MOST, INPUT_MOST,
-    JOURNAL_BYTES, KEPT_MOST, OUTPUT_LEAST, RECEIVER_BYTES, RECORD_BYTES, REPLY_BYTES, SAMPLES_MOST, STATE_BYTES,
-    TRANSACTIONS_MOST, TRANSFER_BYTES, VERSION,
+    JOURNAL_BYTES, KEPT_MOST, LARGE_JOURNAL_BYTES, LARGE_KEPT_MOST, OUTPUT_LEAST, RECEIVER_BYTES, RECORD_BYTES,
+    REPLY_BYTES, SAMPLES_MOST, STATE_BYTES, TRANSACTIONS_MOST, TRANSFER_BYTES, VERSION,
 };
 
 /// The version of the archive that was linked: [`VERSION`], where it is the one that this crate is made for.

@@ -1,8 +1,8 @@
 //! The version, the sizes of what calls take and the channels of the I2C masters, under the names of `include/sca.h`, there
 //! with `SCA_` in front.
 
-/// The version that this crate is made for, 1.4.0: major << 16 | minor << 8 | patch. [`crate::version`] gives the archive's.
-pub const VERSION: u64 = 0x01_0400;
+/// The version that this crate is made for, 1.5.0: major << 16 | minor << 8 | patch. [`crate::version`] gives the archive's.
+pub const VERSION: u64 = 0x01_0500;
 
 /// The bytes of the shortest body.
 pub const BODY_LEAST: usize = 2;
@@ -34,13 +34,44 @@ pub const ID_MOST: u32 = 0xFF_FFFF;
 pub const RECEIVER_BYTES: usize = 24;
 /// The bytes of an adapter's state.
 pub const STATE_BYTES: usize = 411;
-/// The bytes of a journal.
+/// The bytes of a small journal.
 pub const JOURNAL_BYTES: usize = 17_408;
-/// The most events that can be taken back.
+/// The most events that it can take back.
 pub const KEPT_MOST: usize = 64;
+/// The bytes of a large journal.
+pub const LARGE_JOURNAL_BYTES: usize = 52_224;
+/// The most events that it can take back.
+pub const LARGE_KEPT_MOST: usize = 200;
 /// The bytes of a record of open transactions.
 pub const RECORD_BYTES: usize = 510;
 /// The most transactions that can be open at once.
 pub const TRANSACTIONS_MOST: usize = 254;
 /// What is written of a reply or an interrupt.
 pub const ANSWER_BYTES: usize = 9;
+
+/// The two sizes of a journal, which differ in how many events can be taken back.
+#[derive(Clone, Copy, PartialEq, Eq, Debug)]
+pub enum JournalSize {
+    /// [`JOURNAL_BYTES`], for [`KEPT_MOST`] events.
+    Small,
+    /// [`LARGE_JOURNAL_BYTES`], for [`LARGE_KEPT_MOST`] events.
+    Large,
+}
+
+impl JournalSize {
+    /// The bytes of such a journal.
+    pub fn bytes(self) -> usize {
+        match self {
+            JournalSize::Small => JOURNAL_BYTES,
+            JournalSize::Large => LARGE_JOURNAL_BYTES,
+        }
+    }
+
+    /// The most events that it can take back.
+    pub fn kept_most(self) -> usize {
+        match self {
+            JournalSize::Small => KEPT_MOST,
+            JournalSize::Large => LARGE_KEPT_MOST,
+        }
+    }
+}

@@ -1,7 +1,7 @@
 //! Pin samples by the batch: what comes of them is what comes of the samples one by one, and nothing changes where it must not.
 
 use sca::boundary::{self, RawBatch, RawSample};
-use sca::{Adapter, Answer, Batch, Dropped, Edge, Port, Refusal, Sample, BATCH_LEAST, KEPT_MOST, SAMPLES_MOST};
+use sca::{Adapter, Answer, Batch, Dropped, Edge, JournalSize, Port, Refusal, Sample, BATCH_LEAST, SAMPLES_MOST};
 use std::cell::Cell;
 
 fn adapter() -> Adapter {
@@ -11,8 +11,13 @@ fn adapter() -> Adapter {
 /// The lines on and selected, some to interrupt on rising, the others on falling. Four requests were answered, so that the
 /// first interrupt's control is 2 * 4 + 32 * 4.
 fn armed(rising: u32) -> Adapter {
+    armed_with(JournalSize::Small, rising)
+}
+
+/// The same, with a journal of this size.
+fn armed_with(size: JournalSize, rising: u32) -> Adapter {
     let [d0, d1, d2, d3] = rising.to_le_bytes();
-    let mut adapter = adapter();
+    let mut adapter = Adapter::with_journal(0x00_000A, size).unwrap();
     for request in [
         [0x00, 0x00, 0x01, 0x00, 0x04, 0x02, 0x00, 0x04, 0x00, 0x00],
         [0x00, 0x02, 0x02, 0x02, 0x04, 0x30, 0xFF, 0xFF, 0xFF, 0xFF],
@@ -68,10 +73,10 @@ fn a_batch() {
 }
 
 /// State, journal and bodies are those of the samples one by one, and so are the states that steps back go through.
-#[test]
-fn batches_are_their_samples() {
-    for count in [0, 1, 2, 63, 64, 65, 255, SAMPLES_MOST] {
-        let (mut batched, mut single) = (armed(0xFFFF_0000), armed(0xFFFF_0000));
+fn is_its_samples(size: JournalSize, counts: &[usize]) {
+    for &count in counts {
+        let armed = || armed_with(size, 0xFFFF_0000);
+        let (mut batched, mut single) = (armed(), armed());
         let (mut states, mut bodies, mut ones) = (Vec::new(), Vec::new(), 0);
         let seen = batched.samples(probed(count)).unwrap();
         for Sample { levels, edge } in probed(count) {
@@ -85,19 +90,31 @@ fn batches_are_their_samples() {
         assert_eq!(batched, single);
         assert!(bodies.len() > count / 4 || count == 0);
         assert_eq!((seen.bodies.collect::<Vec<_>>(), seen.sum), (bodies, ones));
-        assert_eq!(batched.kept(), KEPT_MOST.min(4 + count));
-        for state in states.iter().rev().take(KEPT_MOST) {
+        assert_eq!(batched.kept(), size.kept_most().min(4 + count));
+        for state in states.iter().rev().take(size.kept_most()) {
             assert_eq!(batched.step_back(), Ok(()));
             assert_eq!(batched.state(), state);
         }
     }
 }
 
-/// All lines rise and fall: at each rising the 16 interrupt that are to, at each falling the other 16. The journal has but the
-/// newest samples; each of them is taken back alone.
+/// A batch that leaves room for an event more, fills the journal, or makes it give one up: four events came before.
 #[test]
-fn the_greatest_batch() {
-    let mut adapter = armed(0x0000_FFFF);
+fn batches_are_their_samples() {
+    is_its_samples(
+        JournalSize::Small,
+        &[0, 1, 2, 59, 60, 61, 63, 64, 65, 255, SAMPLES_MOST],
+    );
+    is_its_samples(
+        JournalSize::Large,
+        &[0, 1, 64, 65, 195, 196, 197, 199, 200, 201, 255, SAMPLES_MOST],
+    );
+}
+
+/// All lines rise and fall: at each rising the 16 interrupt that are to, at each falling the other 16. The journal has but the
+/// newest samples, 64 or 200; each of them is taken back alone.
+fn greatest_batch(size: JournalSize, most: usize) {
+    let mut adapter = armed_with(size, 0x0000_FFFF);
     let swinging = (0..SAMPLES_MOST).map(|at| clocked(if at % 2 == 0 { u32::MAX } else { 0 }));
     let seen = adapter.samples(swinging).unwrap();
     assert_eq!((seen.bodies.len(), seen.sum), (256, 256 * 16));
@@ -112,11 +129,17 @@ fn the_greatest_batch() {
         assert_eq!(body[..6], [0x00, control, 0xFF, 0x02, 0x00, 0x04]);
         assert_eq!(body[6..], lines);
     }
-    for kept in (0..KEPT_MOST).rev() {
+    for kept in (0..most).rev() {
         assert_eq!(adapter.step_back(), Ok(()));
         assert_eq!(adapter.kept(), kept);
     }
     assert_eq!(adapter.step_back(), Err(Refusal::NoneKept));
+}
+
+#[test]
+fn the_greatest_batch() {
+    greatest_batch(JournalSize::Small, 64);
+    greatest_batch(JournalSize::Large, 200);
 }
 
 /// By reference and by value, from whatever can be gone through.

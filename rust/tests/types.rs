@@ -6,10 +6,10 @@
 
 use sca::boundary::{self, RawSample};
 use sca::{text, transmit, Adapter, Answer, Broken, ControlRoom, Dropped, Edge, Heard, LinkCommand, Port, Receiver};
-use sca::{Refusal, Reply};
+use sca::{JournalSize, Refusal, Reply};
 use sca::{ANSWER_BYTES, BATCH_LEAST, BODY_LEAST, BODY_MOST, CABLE_MOST, I2C_FIRST, I2C_LAST, I2C_MOST, ID_MOST};
-use sca::{INPUT_MOST, KEPT_MOST, OUTPUT_LEAST, RECEIVER_BYTES, RECORD_BYTES, REPLY_BYTES, SAMPLES_MOST, STATE_BYTES};
-use sca::{TRANSACTIONS_MOST, TRANSFER_BYTES};
+use sca::{INPUT_MOST, JOURNAL_BYTES, KEPT_MOST, LARGE_JOURNAL_BYTES, LARGE_KEPT_MOST, OUTPUT_LEAST, RECEIVER_BYTES};
+use sca::{RECORD_BYTES, REPLY_BYTES, SAMPLES_MOST, STATE_BYTES, TRANSACTIONS_MOST, TRANSFER_BYTES};
 use std::mem::{align_of, size_of};
 
 fn adapter() -> Adapter {
@@ -54,6 +54,10 @@ fn masters() -> Adapter {
 fn ids() {
     assert!(Adapter::new(ID_MOST).is_ok());
     assert_eq!(Adapter::new(ID_MOST + 1), Err(Refusal::BadId));
+    for size in [JournalSize::Small, JournalSize::Large] {
+        assert!(Adapter::with_journal(ID_MOST, size).is_ok());
+        assert_eq!(Adapter::with_journal(ID_MOST + 1, size), Err(Refusal::BadId));
+    }
 }
 
 #[test]
@@ -178,33 +182,39 @@ fn the_layout_of_a_sample() {
 
 #[test]
 fn steps_back() {
-    let mut adapter = adapter();
-    let mut states = Vec::new();
-    for _ in 0..KEPT_MOST + 6 {
-        states.push(*adapter.state());
-        assert_eq!(adapter.upset(), Ok(Answer::NoFrame));
+    for size in [JournalSize::Small, JournalSize::Large] {
+        let mut adapter = Adapter::with_journal(0x00_000A, size).unwrap();
+        let mut states = Vec::new();
+        for _ in 0..size.kept_most() + 6 {
+            states.push(*adapter.state());
+            assert_eq!(adapter.upset(), Ok(Answer::NoFrame));
+        }
+        assert_eq!(adapter.kept(), size.kept_most());
+        for state in states.iter().rev().take(size.kept_most()) {
+            assert_eq!(adapter.step_back(), Ok(()));
+            assert_eq!(adapter.state(), state);
+        }
+        assert_eq!(adapter.step_back(), Err(Refusal::NoneKept));
+        adapter.upset().unwrap();
+        adapter.forget();
+        assert_eq!((adapter.kept(), adapter.journal_size()), (0, size));
     }
-    assert_eq!(adapter.kept(), KEPT_MOST);
-    for state in states.iter().rev().take(KEPT_MOST) {
-        assert_eq!(adapter.step_back(), Ok(()));
-        assert_eq!(adapter.state(), state);
-    }
-    assert_eq!(adapter.step_back(), Err(Refusal::NoneKept));
-    adapter.upset().unwrap();
-    adapter.forget();
-    assert_eq!(adapter.kept(), 0);
 }
 
 #[test]
 fn kept_as_bytes() {
-    let adapter = enabled();
-    let (state, journal) = (*adapter.state(), adapter.journal().to_vec());
-    assert_eq!(Adapter::from_bytes(state, &journal), Ok(adapter));
-    assert_eq!(Adapter::from_bytes(state, &journal[1..]), Err(Refusal::BadJournal));
-    let mut wrong = state;
-    wrong[0] = 8;
-    assert_eq!(Adapter::from_bytes(wrong, &journal), Err(Refusal::BadState));
-    assert_eq!(Adapter::from_bytes(wrong, &journal[1..]), Err(Refusal::BadState));
+    let small = enabled();
+    let mut large = small.clone();
+    large.enlarge().unwrap();
+    for adapter in [small, large] {
+        let (state, journal) = (*adapter.state(), adapter.journal().to_vec());
+        assert_eq!(Adapter::from_bytes(state, &journal), Ok(adapter));
+        assert_eq!(Adapter::from_bytes(state, &journal[1..]), Err(Refusal::BadJournal));
+        let mut wrong = state;
+        wrong[0] = 8;
+        assert_eq!(Adapter::from_bytes(wrong, &journal), Err(Refusal::BadState));
+        assert_eq!(Adapter::from_bytes(wrong, &journal[1..]), Err(Refusal::BadState));
+    }
 }
 
 /// A journal is for the state that it went with. The upset's record has CRB as it was, off, and nothing of SPI and GPIO: over a
@@ -222,21 +232,23 @@ fn a_journal_of_another_state() {
 /// No event is played: not a byte differs, at none kept, at some, and at the most, where an event would push one out.
 #[test]
 fn bytes_are_only_looked_at() {
-    let mut adapter = adapter();
-    for event in 0..=KEPT_MOST {
-        let (state, journal) = (*adapter.state(), adapter.journal().to_vec());
-        let mut again = Adapter::from_bytes(state, &journal).unwrap();
-        assert_eq!((again.state(), again.journal()), (&state, &journal[..]));
-        assert_eq!(again.kept(), event);
-        for _ in 0..event {
-            assert_eq!(again.step_back(), Ok(()));
+    for size in [JournalSize::Small, JournalSize::Large] {
+        let mut adapter = Adapter::with_journal(0x00_000A, size).unwrap();
+        for event in 0..=size.kept_most() {
+            let (state, journal) = (*adapter.state(), adapter.journal().to_vec());
+            let mut again = Adapter::from_bytes(state, &journal).unwrap();
+            assert_eq!((again.state(), again.journal()), (&state, &journal[..]));
+            assert_eq!(again.kept(), event);
+            for _ in 0..event {
+                assert_eq!(again.step_back(), Ok(()));
+            }
+            assert_eq!(again.step_back(), Err(Refusal::NoneKept));
+            adapter.upset().unwrap();
         }
-        assert_eq!(again.step_back(), Err(Refusal::NoneKept));
-        adapter.upset().unwrap();
+        assert_eq!(adapter.kept(), size.kept_most());
+        let again = Adapter::from_bytes(*adapter.state(), adapter.journal());
+        assert_eq!(again, Ok(adapter));
     }
-    assert_eq!(adapter.kept(), KEPT_MOST);
-    let again = Adapter::from_bytes(*adapter.state(), adapter.journal());
-    assert_eq!(again, Ok(adapter));
 }
 
 #[test]
@@ -298,10 +310,10 @@ fn wide_bits() {
 
 #[test]
 fn the_version() {
-    assert_eq!(sca::VERSION, 0x01_0400);
+    assert_eq!(sca::VERSION, 0x01_0500);
     assert_eq!(sca::version(), sca::VERSION);
     for manifest in [include_str!("../Cargo.toml"), include_str!("../Cargo.lock")] {
-        assert!(manifest.lines().any(|line| line == "version = \"1.4.0\""));
+        assert!(manifest.lines().any(|line| line == "version = \"1.5.0\""));
     }
 }
 
@@ -331,7 +343,8 @@ fn numbers_of_the_header() -> Vec<(&'static str, u8, String)> {
     let header = include_str!("../../include/sca.h");
     let texts = header.split("case SCA_").skip(1).map(|case| {
         let (name, rest) = case.split_once(':').unwrap();
-        let (returned, _) = rest.split_once(';').unwrap();
+        // A text may have a semicolon of its own.
+        let (returned, _) = rest.split_once("\";").unwrap();
         // What stands between quotes is one text in C, however many parts it has.
         (name, returned.split('"').skip(1).step_by(2).collect())
     });
@@ -462,8 +475,10 @@ fn sizes() {
         ("I2C_MOST", I2C_MOST),
         ("RECEIVER_BYTES", RECEIVER_BYTES),
         ("STATE_BYTES", STATE_BYTES),
-        ("JOURNAL_BYTES", sca::JOURNAL_BYTES),
+        ("JOURNAL_BYTES", JOURNAL_BYTES),
         ("KEPT_MOST", KEPT_MOST),
+        ("LARGE_JOURNAL_BYTES", LARGE_JOURNAL_BYTES),
+        ("LARGE_KEPT_MOST", LARGE_KEPT_MOST),
         ("RECORD_BYTES", RECORD_BYTES),
         ("TRANSACTIONS_MOST", TRANSACTIONS_MOST),
         ("ANSWER_BYTES", ANSWER_BYTES),
@@ -474,7 +489,24 @@ fn sizes() {
     assert!(header.contains(&format!("#define SCA_VERSION 0x{:06X}\n", sca::VERSION)));
     assert!(header.contains(&format!("    SCA_I2C_FIRST = 0x{:02X}, ", I2C_FIRST)));
     assert!(header.contains(&format!("    SCA_I2C_LAST = 0x{:02X}, ", I2C_LAST)));
-    assert_eq!(header.matches("#define SCA_").count(), 20); // with SCA_H
+    assert_eq!(header.matches("#define SCA_").count(), 22); // with SCA_H
+}
+
+/// As request 2026-06 has them; each journal is 1,024 bytes and 256 for an event.
+#[test]
+fn sizes_of_a_journal() {
+    assert_eq!((JOURNAL_BYTES, KEPT_MOST), (17_408, 64));
+    assert_eq!((LARGE_JOURNAL_BYTES, LARGE_KEPT_MOST), (52_224, 200));
+    for (size, bytes, most) in [(JournalSize::Small, 17_408, 64), (JournalSize::Large, 52_224, 200)] {
+        assert_eq!((size.bytes(), size.kept_most()), (bytes, most));
+        assert_eq!(bytes, 1_024 + 256 * most);
+        let adapter = Adapter::with_journal(0x00_000A, size).unwrap();
+        assert_eq!((adapter.journal_size(), adapter.journal().len()), (size, bytes));
+    }
+    assert_eq!(
+        Adapter::new(0x00_000A),
+        Adapter::with_journal(0x00_000A, JournalSize::Small)
+    );
 }
 
 /// The arguments of the header that have a type of their own here, each by its number.

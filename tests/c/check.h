@@ -6,8 +6,11 @@
 
 static int failures = 0;
 
+/* Stands before each text, where the same tests are gone through more than once: what they are about this time. */
+static const char *about = "";
+
 static void check(int holds, const char *what) {
-    printf("%s %s\n", holds ? "ok  " : "FAIL", what);
+    printf("%s %s%s\n", holds ? "ok  " : "FAIL", about, what);
     failures += !holds;
 }
 

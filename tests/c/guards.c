@@ -21,14 +21,22 @@ struct lent {
     size_t length;
 };
 
-static struct lent state, journal, output, body, received, list, receiver, input, record;
+static struct lent state, journal, second, output, body, received, list, receiver, input, record;
 static int at_end;
+
+/* What stands in every room before it is lent: bytes that differ within a slot of a journal, and from slot to slot. */
+static uint8_t rubbish[1 << 17];
+
+static void make_rubbish(void) {
+    for (size_t at = 0; at < sizeof rubbish; at++) rubbish[at] = (uint8_t)(at * 37 + at / 256 * 101 + 11);
+}
 
 static struct lent between_guards(size_t most) {
     size_t page = (size_t)sysconf(_SC_PAGESIZE), size = (most + page - 1) / page * page;
     uint8_t *all = mmap(NULL, size + 2 * page, PROT_NONE, MAP_PRIVATE | MAP_ANONYMOUS, -1, 0);
     struct lent lent = {NULL, malloc(size), size, NULL, 0};
-    if (all == MAP_FAILED || lent.was == NULL || mprotect(all + page, size, PROT_READ | PROT_WRITE) != 0) {
+    if (all == MAP_FAILED || lent.was == NULL || size > sizeof rubbish ||
+        mprotect(all + page, size, PROT_READ | PROT_WRITE) != 0) {
         puts("FAIL no guard pages");
         exit(1);
     }
@@ -38,7 +46,7 @@ static struct lent between_guards(size_t most) {
 
 /* Lends this many bytes, at one end of the room; of none, the address is in a guard page. */
 static uint8_t *lend(struct lent *lent, size_t length) {
-    for (size_t at = 0; at < lent->size; at++) lent->room[at] = (uint8_t)(at * 37 + 11);
+    memcpy(lent->room, rubbish, lent->size);
     lent->length = length;
     lent->at = at_end ? lent->room + lent->size - length : length ? lent->room : lent->room - 1;
     return lent->at;
@@ -71,6 +79,22 @@ static void touched(int signal) {
     static const char line[] = "FAIL a guard page was touched\n";
     (void)signal;
     _exit(write(1, line, sizeof line - 1) < 0 ? 2 : 1);
+}
+
+/* ----------------------------------------------------------------- journals */
+
+/* The two sizes of a journal. Each has a room of its own: what is lent of a small one stands between guards too. */
+static const struct format {
+    size_t bytes;
+    unsigned slots;
+} small = {SCA_JOURNAL_BYTES, SCA_KEPT_MOST}, large = {SCA_LARGE_JOURNAL_BYTES, SCA_LARGE_KEPT_MOST};
+
+static const struct format *format;
+static struct lent small_room, large_room;
+
+static void use(const struct format *of) {
+    format = of;
+    journal = of == &small ? small_room : large_room;
 }
 
 /* -------------------------------------------------------------------- calls */
@@ -117,7 +141,7 @@ static size_t group_at(uint8_t tag) { return groups[tag]; }
 static size_t group_bytes(uint8_t tag) { return tag == 0 ? 0 : groups[tag + 1] - groups[tag]; }
 
 static uint8_t *slot_of(uint8_t *bytes, unsigned after_first) {
-    return bytes + SLOTS_AT + SLOT_BYTES * (size_t)((bytes[5] + after_first) % SCA_KEPT_MOST);
+    return bytes + SLOTS_AT + SLOT_BYTES * (size_t)((bytes[5] + after_first) % format->slots);
 }
 
 /* The tag of the register that switches a channel. */
@@ -142,14 +166,14 @@ static int is_reset(enum call which) {
 
 /* Whether a batch gave and left what its samples do one by one, on copies of what it was lent: result, bodies, state and journal. */
 static int as_one_by_one(uint64_t result) {
-    static uint8_t state_due[SCA_STATE_BYTES], journal_due[SCA_JOURNAL_BYTES], body_due[SCA_OUTPUT_LEAST];
+    static uint8_t state_due[SCA_STATE_BYTES], journal_due[SCA_LARGE_JOURNAL_BYTES], body_due[SCA_OUTPUT_LEAST];
     size_t frames = 0;
     uint32_t sum = 0;
     int good = 1;
     memcpy(state_due, state.was + (state.at - state.room), sizeof state_due);
-    memcpy(journal_due, journal.was + (journal.at - journal.room), sizeof journal_due);
+    memcpy(journal_due, journal.was + (journal.at - journal.room), format->bytes);
     for (size_t at = 0; at < count(); at++) {
-        uint64_t one = sca_sample(state_due, sizeof state_due, journal_due, sizeof journal_due, samples()[at].levels, samples()[at].kind, body_due,
+        uint64_t one = sca_sample(state_due, sizeof state_due, journal_due, format->bytes, samples()[at].levels, samples()[at].kind, body_due,
                                   sizeof body_due);
         if (sca_number(one) != SCA_HAS_FRAME) continue;
         good &= memcmp(output.at + SCA_REPLY_BYTES * frames++, body_due, SCA_REPLY_BYTES) == 0 && sca_port(one) == sca_port(result);
@@ -157,16 +181,16 @@ static int as_one_by_one(uint64_t result) {
     }
     good &= sca_number(result) == (frames ? SCA_HAS_FRAME : SCA_NO_FRAME) && sca_length(result) == (frames ? SCA_REPLY_BYTES : 0);
     good &= sca_frames(result) == frames && sca_sum(result) == sum;
-    good &= memcmp(state_due, state.at, sizeof state_due) == 0 && memcmp(journal_due, journal.at, sizeof journal_due) == 0;
-    return good && unchanged_after(&journal, SCA_JOURNAL_BYTES);
+    good &= memcmp(state_due, state.at, sizeof state_due) == 0 && memcmp(journal_due, journal.at, format->bytes) == 0;
+    return good && unchanged_after(&journal, format->bytes);
 }
 
 /* Whether the call left the journal's bytes as it must, where it was not refused: each that it has to write, and no other one. */
 static int journal_as_left(enum call which) {
-    static uint8_t expected[SCA_JOURNAL_BYTES];
+    static uint8_t expected[SCA_LARGE_JOURNAL_BYTES];
     const uint8_t *state_was = state.was + (state.at - state.room);
     uint8_t *slot, tag = tag_of(which);
-    memcpy(expected, journal.was + (journal.at - journal.room), sizeof expected);
+    memcpy(expected, journal.was + (journal.at - journal.room), format->bytes);
     slot = slot_of(expected, expected[6]);
     if (which == STEP_BACK) {
         expected[6]--;
@@ -176,12 +200,12 @@ static int journal_as_left(enum call which) {
         slot[0] = tag;
         memcpy(slot + 1, state_was, CORE_BYTES);
         memcpy(slot + 1 + CORE_BYTES, state_was + group_at(tag), group_bytes(tag));
-        if (expected[6] == SCA_KEPT_MOST)
-            expected[5] = (expected[5] + 1) % SCA_KEPT_MOST;
+        if (expected[6] == format->slots)
+            expected[5] = (uint8_t)((expected[5] + 1u) % format->slots);
         else
             expected[6]++;
     }
-    return memcmp(expected, journal.at, sizeof expected) == 0 && unchanged_after(&journal, SCA_JOURNAL_BYTES);
+    return memcmp(expected, journal.at, format->bytes) == 0 && unchanged_after(&journal, format->bytes);
 }
 
 /* All that the last call gave. */
@@ -209,7 +233,7 @@ static unsigned number_of(enum call which, int *good) {
 
 /* ------------------------------------------------------------------- states */
 
-static uint8_t some_state[SCA_STATE_BYTES], some_journal[SCA_JOURNAL_BYTES];
+static uint8_t some_state[SCA_STATE_BYTES], some_journal[SCA_LARGE_JOURNAL_BYTES + 1];
 
 /* Plays requests on a new adapter: none, or enough to have something in the registers of every group, loopback, an open GO, and I2C starts open:
  * of a read of 16 bytes on channel 0x05, and one in each other group. Lines interrupt on rising. Then the event whose record has this tag: an
@@ -229,17 +253,17 @@ static void reach(int deep, uint8_t tag) {
     uint8_t sent[SCA_OUTPUT_LEAST];
     sca_create(some_state, sizeof some_state, deep ? SCA_ID_MOST : 0x00000A);
     memset(some_journal, deep ? 0x00 : 0xEE, sizeof some_journal);
-    sca_empty(some_journal, sizeof some_journal);
+    sca_empty(some_journal, format->bytes);
     for (size_t at = 0; deep && at < sizeof requests / sizeof requests[0]; at++)
-        sca_frame(some_state, sizeof some_state, some_journal, sizeof some_journal, 0, (const uint8_t *)requests[at], 10, sent, sizeof sent);
-    if (deep) sca_frame(some_state, sizeof some_state, some_journal, sizeof some_journal, 1, (const uint8_t *)"\x00\xE3", 2, sent, sizeof sent);
+        sca_frame(some_state, sizeof some_state, some_journal, format->bytes, 0, (const uint8_t *)requests[at], 10, sent, sizeof sent);
+    if (deep) sca_frame(some_state, sizeof some_state, some_journal, format->bytes, 1, (const uint8_t *)"\x00\xE3", 2, sent, sizeof sent);
     if (tag == 0) {
-        sca_upset(some_state, sizeof some_state, some_journal, sizeof some_journal, sent, sizeof sent);
+        sca_upset(some_state, sizeof some_state, some_journal, format->bytes, sent, sizeof sent);
     } else if (tag == 1) {
-        sca_sample(some_state, sizeof some_state, some_journal, sizeof some_journal, 0x12345678, SCA_SYSTEM_CLOCK, sent, sizeof sent);
+        sca_sample(some_state, sizeof some_state, some_journal, format->bytes, 0x12345678, SCA_SYSTEM_CLOCK, sent, sizeof sent);
     } else {
         uint8_t written[] = {0x00, (uint8_t)(2 * some_state[1]), 0x0A, 0x00, 0x04, (uint8_t)(2 * tag), 0x00, 0x19, 0x00, 0x00};
-        sca_frame(some_state, sizeof some_state, some_journal, sizeof some_journal, 0, written, sizeof written, sent, sizeof sent);
+        sca_frame(some_state, sizeof some_state, some_journal, format->bytes, 0, written, sizeof written, sent, sizeof sent);
     }
 }
 
@@ -248,7 +272,7 @@ static void lend_all(enum call which) {
     static const struct sca_pin_sample three[] = {{0xFFFF0000, SCA_SYSTEM_CLOCK}, {0x00000000, SCA_STROBE_RISING}, {0x0000FFFF, SCA_SYSTEM_CLOCK}};
     port = 0, kind = SCA_SYSTEM_CLOCK, channel = 0x05, acknowledge = 1, line_low = 0;
     lend_bytes(&state, some_state, sizeof some_state);
-    lend_bytes(&journal, some_journal, sizeof some_journal);
+    lend_bytes(&journal, some_journal, format->bytes);
     lend_bytes(&body, "\x00\x2F", 2);
     lend(&received, SCA_TRANSFER_BYTES);
     memcpy(lend_samples(3), three, sizeof three);
@@ -326,47 +350,78 @@ static void lengths_of_outputs(void) {
     check(good, "a batch's outputs of 2,535 to 2,561 bytes");
 }
 
+/* Lengths around both sizes, of a journal of this size: what is longer has other bytes behind it, what is shorter is
+ * cut. */
 static void lengths_of_journals(void) {
-    static const size_t lengths[] = {0, SCA_JOURNAL_BYTES - 1, SCA_JOURNAL_BYTES, SCA_JOURNAL_BYTES + 1};
+    static const size_t lengths[] = {0, 17407, 17408, 17409, 52223, 52224, 52225};
     int good = 1, others = 1;
+    journal = large_room;
     for (size_t at = 0; at < sizeof lengths / sizeof lengths[0]; at++) {
         size_t length = lengths[at];
-        int right = length == SCA_JOURNAL_BYTES;
+        int right = length == format->bytes, either = length == small.bytes || length == large.bytes;
+        const char *header = length == small.bytes ? "SCJ\x01\x00\x00\x00" : "SCJ\x02\x00\x00\x00";
+        uint64_t kept = SCA_NO_FRAME | (uint64_t)some_journal[6] << 8;
         EACH_CALL(STEP_BACK) {
             lend_all(which);
-            memcpy(lend(&journal, length), some_journal, length < SCA_JOURNAL_BYTES ? length : SCA_JOURNAL_BYTES);
+            memcpy(lend(&journal, length), some_journal, length);
             unsigned number = number_of(which, &good);
             good &= (number == SCA_BAD_JOURNAL) == !right;
         }
         for (at_end = 0; at_end <= 1; at_end++) {
-            lend(&journal, length);
-            note(&journal);
-            others &= sca_empty(journal.at, length) == (right ? SCA_NO_FRAME : SCA_BAD_JOURNAL);
-            others &= unchanged_after(&journal, right ? 7 : 0);
+            memcpy(lend(&journal, length), some_journal, length);
             note(&journal);
             writable(&journal, 0);
-            others &= sca_kept(journal.at, length) == (right ? SCA_NO_FRAME : SCA_BAD_JOURNAL);
+            others &= sca_kept(journal.at, length) == (right ? kept : SCA_BAD_JOURNAL);
+            writable(&journal, 1);
+            others &= unchanged(&journal);
+            lend(&journal, length);
+            note(&journal);
+            others &= sca_empty(journal.at, length) == (either ? SCA_NO_FRAME : SCA_BAD_JOURNAL);
+            others &= unchanged_after(&journal, either ? 7 : 0);
+            others &= !either || memcmp(journal.at, header, 7) == 0;
+            note(&journal);
+            writable(&journal, 0);
+            others &= sca_kept(journal.at, length) == (either ? SCA_NO_FRAME : SCA_BAD_JOURNAL);
             writable(&journal, 1);
             others &= unchanged(&journal);
         }
     }
-    check(good, "journals of 0, 17,407, 17,408 and 17,409 bytes");
+    check(good, "journals of 0, 17,407 to 17,409 and 52,223 to 52,225 bytes");
     check(others, "and in sca_empty and sca_kept");
 }
 
+/* Whether a header with this byte in this place is refused. */
+static int wrong_header(size_t at, unsigned byte) {
+    if (at == 5) return byte >= format->slots;
+    if (at == 6) return byte > format->slots;
+    return at < 7 && byte != some_journal[at];
+}
+
 static void headers_of_journals(void) {
-    int good = 1;
-    EACH_CALL(STEP_BACK)
+    int good = 1, others = 1;
     for (size_t at = 0; at < 8; at++)
         for (unsigned byte = 0; byte <= 0xFF; byte++) {
-            int layout = at == 5 ? byte > 63 : at == 6 ? byte > SCA_KEPT_MOST : at < 7 && byte != some_journal[at];
-            unsigned number;
-            lend_all(which);
-            journal.at[at] = (uint8_t)byte;
-            number = number_of(which, &good);
-            if (which != STEP_BACK || layout) good &= (number == SCA_BAD_JOURNAL) == layout;
+            int layout = wrong_header(at, byte);
+            EACH_CALL(STEP_BACK) {
+                unsigned number;
+                lend_all(which);
+                journal.at[at] = (uint8_t)byte;
+                number = number_of(which, &good);
+                if (which != STEP_BACK || layout) good &= (number == SCA_BAD_JOURNAL) == layout;
+            }
+            for (at_end = 0; at_end <= 1; at_end++) {
+                lend_all(STEP_BACK);
+                journal.at[at] = (uint8_t)byte;
+                note(&journal);
+                writable(&journal, 0);
+                others &= sca_kept(journal.at, journal.length) ==
+                          (layout ? SCA_BAD_JOURNAL : SCA_NO_FRAME | (uint64_t)journal.at[6] << 8);
+                writable(&journal, 1);
+                others &= unchanged(&journal);
+            }
         }
     check(good, "every byte in each place of a journal's header");
+    check(others, "and in sca_kept");
 }
 
 static void bits_of_states(void) {
@@ -429,6 +484,31 @@ static void altered_records(void) {
     check(bits, "records of each tag with any one bit flipped, and their slots");
     check(others, "and over a state that they did not go with");
     check(tags, "every tag, over both");
+}
+
+/* The newest record in every slot of the ring, the last of them right before a guard page. No other slot holds one. */
+static void records_in_each_slot(void) {
+    uint8_t newest[SLOT_BYTES], expected[SCA_STATE_BYTES];
+    int good = 1;
+    for (uint8_t tag = 0; tag <= 3; tag++) {
+        unsigned before;
+        reach(1, tag);
+        before = some_journal[6] - 1u; /* records that stand before it */
+        memcpy(newest, slot_of(some_journal, before), sizeof newest);
+        for (at_end = 0; at_end <= 1; at_end++)
+            for (unsigned slot = 0; slot < format->slots; slot++) {
+                unsigned number;
+                lend_all(STEP_BACK);
+                memcpy(expected, state.at, sizeof expected);
+                memset(journal.at + SLOTS_AT, 0xEE, SLOT_BYTES * (size_t)format->slots);
+                memcpy(journal.at + SLOTS_AT + SLOT_BYTES * (size_t)slot, newest, sizeof newest);
+                journal.at[5] = (uint8_t)((slot + format->slots - before) % format->slots);
+                good &= newest[0] == tag && restored(newest, expected);
+                number = number_of(STEP_BACK, &good);
+                good &= number == SCA_NO_FRAME && memcmp(state.at, expected, sizeof expected) == 0;
+            }
+    }
+    check(good, "the newest record in each slot");
 }
 
 /* The newest record over states that it did not go with. Each expectation is worked out from what was played. */
@@ -726,6 +806,119 @@ static void no_buffers(void) {
     good &= sca_receive(receiver.at, receiver.length, NULL, 0, 0, output.at, output.length) == SCA_NO_FRAME;
     good &= sca_receive(receiver.at, receiver.length, NULL, 0, 0, NULL, 0) == SCA_SHORT_OUTPUT;
     check(good, "NULL with length 0 for each buffer");
+}
+
+/* --------------------------------------------------------------- enlarging */
+
+/* Whether second is as it must be: a header, and the slots of the events kept, the oldest in slot 0. Every other byte
+ * of its room is as it was. */
+static int second_as_left(void) {
+    uint8_t *due = second.was + (second.at - second.room);
+    memcpy(due, "\x53\x43\x4A\x02\x00\x00", 6);
+    due[6] = journal.at[6];
+    for (unsigned k = 0; k < journal.at[6]; k++)
+        memcpy(due + SLOTS_AT + SLOT_BYTES * k, slot_of(journal.at, k), SLOT_BYTES);
+    return unchanged(&second);
+}
+
+/* The number that sca_enlarge gives, and whether it left what it must. */
+static unsigned enlarging(int *good) {
+    uint64_t result;
+    note(&journal), note(&second);
+    writable(&journal, 0);
+    result = sca_enlarge(journal.at, journal.length, second.at, second.length);
+    writable(&journal, 1);
+    *good &= result == sca_number(result) && unchanged(&journal);
+    *good &= sca_refused(result) ? unchanged(&second) : second_as_left();
+    return sca_number(result);
+}
+
+/* For each place of the journal, and of the second buffer. */
+#define EACH_END \
+    for (int journal_end = 0; journal_end <= 1; journal_end++) \
+        for (int second_end = 0; second_end <= 1; second_end++)
+
+static void lend_journals(int journal_end, size_t length, int second_end, size_t second_length) {
+    at_end = journal_end;
+    lend_bytes(&journal, some_journal, length);
+    at_end = second_end;
+    lend(&second, second_length);
+}
+
+/* Lengths around both sizes for either buffer, with a journal of each size cut or with more behind it. */
+static void lengths_at_enlarging(void) {
+    static const size_t lengths[] = {0, 1, 7, 1024, 17407, 17408, 17409, 52223, 52224, 52225};
+    enum { LENGTHS = sizeof lengths / sizeof lengths[0] };
+    for (unsigned of_large = 0; of_large <= 1; of_large++) {
+        int good = 1;
+        use(of_large ? &large : &small);
+        reach(1, 0);
+        journal = large_room;
+        EACH_END
+        for (size_t at = 0; at < LENGTHS; at++)
+            for (size_t second_at = 0; second_at < LENGTHS; second_at++) {
+                size_t length = lengths[at], second_length = lengths[second_at];
+                unsigned number, due = second_length == 52224 ? SCA_NO_FRAME : SCA_SHORT_OUTPUT;
+                if (of_large || length != 17408) due = SCA_BAD_JOURNAL;
+                lend_journals(journal_end, length, second_end, second_length);
+                number = enlarging(&good);
+                good &= number == due;
+            }
+        check(good, of_large ? "a large journal, cut and padded, into each" : "both buffers of 0 to 52,225 bytes");
+    }
+}
+
+/* A header's every byte in each place. A large journal is refused, whatever stands there. */
+static void headers_at_enlarging(void) {
+    for (unsigned of_large = 0; of_large <= 1; of_large++) {
+        int good = 1;
+        use(of_large ? &large : &small);
+        reach(1, 0);
+        EACH_END
+        for (size_t at = 0; at < 8; at++)
+            for (unsigned byte = 0; byte <= 0xFF; byte++) {
+                unsigned number, due = of_large || wrong_header(at, byte) ? SCA_BAD_JOURNAL : SCA_NO_FRAME;
+                lend_journals(journal_end, format->bytes, second_end, large.bytes);
+                journal.at[at] = (uint8_t)byte;
+                number = enlarging(&good);
+                good &= number == due;
+            }
+        check(good, of_large ? "in a large one's header, which is refused" : "every byte in each place of its header");
+    }
+}
+
+/* The last slot of the small journal stands right before a guard page. */
+static void rings_at_enlarging(void) {
+    int good = 1;
+    use(&small);
+    reach(1, 0);
+    EACH_END
+    for (unsigned first = 0; first <= 63; first++)
+        for (unsigned kept = 0; kept <= 64; kept++) {
+            unsigned number;
+            lend_journals(journal_end, small.bytes, second_end, large.bytes);
+            memcpy(journal.at + SLOTS_AT, rubbish + 7, SLOT_BYTES * 64);
+            journal.at[5] = (uint8_t)first, journal.at[6] = (uint8_t)kept;
+            number = enlarging(&good);
+            good &= number == SCA_NO_FRAME;
+        }
+    check(good, "every first slot and kept number, whatever the slots hold");
+}
+
+static void no_buffers_at_enlarging(void) {
+    int good = 1;
+    unsigned number;
+    use(&small);
+    reach(1, 0);
+    lend_journals(0, small.bytes, 0, large.bytes);
+    journal.at = NULL, journal.length = 0;
+    number = enlarging(&good);
+    good &= number == SCA_BAD_JOURNAL;
+    lend_journals(0, small.bytes, 0, large.bytes);
+    second.at = NULL, second.length = 0;
+    number = enlarging(&good);
+    good &= number == SCA_SHORT_OUTPUT && sca_enlarge(NULL, 0, NULL, 0) == SCA_BAD_JOURNAL;
+    check(good, "NULL with length 0 for either journal");
 }
 
 /* A reading's number, and whether it left what it must. */
@@ -1114,8 +1307,11 @@ static void guards(void) {
 }
 
 static void map_all(void) {
+    make_rubbish();
     state = between_guards(SCA_STATE_BYTES + 1);
-    journal = between_guards(SCA_JOURNAL_BYTES + 1);
+    small_room = between_guards(SCA_JOURNAL_BYTES + 1);
+    large_room = between_guards(SCA_LARGE_JOURNAL_BYTES + 1);
+    second = between_guards(SCA_LARGE_JOURNAL_BYTES + 1);
     output = between_guards(SCA_BATCH_LEAST + 1);
     body = between_guards(20);
     received = between_guards(20);
@@ -1127,25 +1323,47 @@ static void map_all(void) {
     signal(SIGBUS, touched);
 }
 
+/* What is done with a journal is done with one of each size. */
+static void with_each_journal(void) {
+    static void (*const tests[])(void) = {
+        lengths_of_outputs,
+        lengths_of_journals,
+        headers_of_journals,
+        lengths_of_states,
+        arguments,
+        receptions,
+        order,
+        i2c_order,
+        batch_order,
+        batches,
+        no_buffers,
+        bits_of_states,
+        altered_records,
+        records_in_each_slot,
+        records_apart,
+        records_of_frames,
+    };
+    for (unsigned other = 0; other <= 1; other++) {
+        about = other ? "large journal: " : "small journal: ";
+        for (size_t at = 0; at < sizeof tests / sizeof tests[0]; at++) {
+            use(other ? &large : &small);
+            reach(1, 0);
+            tests[at]();
+        }
+    }
+    about = "";
+}
+
 int main(void) {
     map_all();
     guards();
-    reach(1, 0);
-    lengths_of_outputs();
-    lengths_of_journals();
-    headers_of_journals();
-    lengths_of_states();
-    arguments();
-    receptions();
-    order();
-    i2c_order();
-    batch_order();
-    batches();
-    no_buffers();
-    bits_of_states();
-    altered_records();
-    records_apart();
-    records_of_frames();
+    with_each_journal();
+    about = "enlarging: ";
+    lengths_at_enlarging();
+    headers_at_enlarging();
+    rings_at_enlarging();
+    no_buffers_at_enlarging();
+    about = "";
     receivers();
     transmitters();
     lengths_in_the_room();

@@ -14,9 +14,13 @@
 
 enum { STACK = 1 << 14, MOST = 768, ANY = -1 };
 
-static uint8_t state[SCA_STATE_BYTES], journal[SCA_JOURNAL_BYTES], output[SCA_OUTPUT_LEAST], receiver[SCA_RECEIVER_BYTES];
+static uint8_t state[SCA_STATE_BYTES], output[SCA_OUTPUT_LEAST], receiver[SCA_RECEIVER_BYTES];
 static uint8_t cable[SCA_CABLE_MOST], batch_output[SCA_BATCH_LEAST], record[SCA_RECORD_BYTES];
 static struct sca_pin_sample list[SCA_SAMPLES_MOST];
+
+/* The journal, small or large as its length says, and room for an enlarged one. */
+static uint8_t journal[SCA_LARGE_JOURNAL_BYTES], second[SCA_LARGE_JOURNAL_BYTES];
+static size_t journal_length;
 
 /* ---- a call on the painted stack */
 
@@ -32,12 +36,14 @@ static struct call it;
 #define CALL(function, ...) \
     (it = (struct call){(void (*)(void))(function), {__VA_ARGS__}, sizeof((uint64_t[]){__VA_ARGS__}) / sizeof(uint64_t)})
 #define LENT(buffer) (uint64_t)(uintptr_t)(buffer), sizeof(buffer)
+#define JOURNAL (uint64_t)(uintptr_t)journal, journal_length
 
 static size_t words_on_the_stack(void) { return it.many > 6 ? it.many - 6 : 0; }
 
 /*
  * on_stack(top, function, words, more): calls the function with the stack pointer at top, the first six words in registers, the `more` words
- * behind them on that stack.
+ * behind them on that stack. The registers that the function has to save hold 0: the compiler may have the paint in
+ * one of them, and where that one is saved deepest of all, its lowest byte would go unseen.
  */
 uint64_t on_stack(unsigned char *top, void (*function)(void), const uint64_t *words, size_t more);
 __asm__(".text\n"
@@ -45,6 +51,11 @@ __asm__(".text\n"
         ".type on_stack, @function\n"
         "on_stack:\n"
         "    push %rbp\n"
+        "    push %rbx\n"
+        "    push %r12\n"
+        "    push %r13\n"
+        "    push %r14\n"
+        "    push %r15\n"
         "    mov %rsp, %rbp\n"
         "    mov %rdi, %rsp\n"
         "    mov %rsi, %rax\n"
@@ -60,8 +71,18 @@ __asm__(".text\n"
         "    mov 24(%r10), %rcx\n"
         "    mov 32(%r10), %r8\n"
         "    mov 40(%r10), %r9\n"
+        "    xor %ebx, %ebx\n"
+        "    xor %r12d, %r12d\n"
+        "    xor %r13d, %r13d\n"
+        "    xor %r14d, %r14d\n"
+        "    xor %r15d, %r15d\n"
         "    call *%rax\n"
         "    mov %rbp, %rsp\n"
+        "    pop %r15\n"
+        "    pop %r14\n"
+        "    pop %r13\n"
+        "    pop %r12\n"
+        "    pop %rbx\n"
         "    pop %rbp\n"
         "    ret\n"
         ".size on_stack, . - on_stack\n"
@@ -95,7 +116,7 @@ static size_t deepest_of(void (*prepare)(void)) {
 /* ---- states */
 
 static void send(const uint8_t *body, size_t length) {
-    sca_frame(state, sizeof state, journal, sizeof journal, SCA_PRIMARY, body, length, output, sizeof output);
+    sca_frame(state, sizeof state, journal, journal_length, SCA_PRIMARY, body, length, output, sizeof output);
 }
 
 /* The number that the next request has to have. */
@@ -116,9 +137,11 @@ static void request(uint8_t channel, uint8_t length, uint8_t command, uint32_t d
 
 static void fresh(void) {
     sca_create(state, sizeof state, 0x00000A);
-    sca_empty(journal, sizeof journal);
+    sca_empty(journal, journal_length);
     number = 0;
 }
+
+static unsigned most_kept(void) { return journal_length == SCA_JOURNAL_BYTES ? SCA_KEPT_MOST : SCA_LARGE_KEPT_MOST; }
 
 /* All channels on, SPI and all masters at work; every line interrupts on rising; the journal is full. */
 static void busy(void) {
@@ -134,8 +157,8 @@ static void busy(void) {
     request(0x02, 4, 0x30, 0xFFFFFFFF);
     request(0x02, 4, 0x40, 0xFFFFFFFF);
     request(0x02, 4, 0x60, 0x00000001);
-    while (sca_kept_in(sca_kept(journal, sizeof journal)) < SCA_KEPT_MOST)
-        sca_upset(state, sizeof state, journal, sizeof journal, output, sizeof output);
+    while (sca_kept_in(sca_kept(journal, journal_length)) < most_kept())
+        sca_upset(state, sizeof state, journal, journal_length, output, sizeof output);
 }
 
 /* So many transactions open, with commands of every channel. */
@@ -150,7 +173,7 @@ static void open_many(size_t many) {
 /* ---- the ways: what stands ready, and the call. In `busy` 6 looks at the open start of every master, in a record at
  * the command of every open transaction. */
 
-#define ADAPTER LENT(state), LENT(journal)
+#define ADAPTER LENT(state), JOURNAL
 
 static void version(void) { CALL(sca_version, 0); it.many = 0; }
 
@@ -158,13 +181,25 @@ static void create(void) { CALL(sca_create, LENT(state), 0x00000A); }
 
 static void empty(void) {
     busy();
-    CALL(sca_empty, LENT(journal));
+    CALL(sca_empty, JOURNAL);
 }
 
 static void kept(void) {
     busy();
-    CALL(sca_kept, LENT(journal));
+    CALL(sca_kept, JOURNAL);
 }
+
+static void enlarge(size_t of, size_t second_length) {
+    journal_length = of;
+    busy();
+    CALL(sca_enlarge, JOURNAL, (uint64_t)(uintptr_t)second, second_length);
+}
+
+static void enlarging(void) { enlarge(SCA_JOURNAL_BYTES, sizeof second); }
+
+static void enlarging_large(void) { enlarge(SCA_LARGE_JOURNAL_BYTES, sizeof second); }
+
+static void enlarging_into_less(void) { enlarge(SCA_JOURNAL_BYTES, sizeof second - 1); }
 
 static uint8_t body[SCA_BODY_MOST];
 static size_t body_length;
@@ -188,7 +223,7 @@ static void writing_data(void) { frame_with(0x02, 4, 0x10, 0x12345678); }
 static void starting(void) {
     frame_with(0x08, 4, 0x86, 0x50000000);
     /* The master is at rest. */
-    sca_i2c_completion(state, sizeof state, journal, sizeof journal, 0x08, 1, 0, NULL, 0, output, sizeof output);
+    sca_i2c_completion(state, sizeof state, journal, journal_length, 0x08, 1, 0, NULL, 0, output, sizeof output);
 }
 
 static void unknown_channel(void) { frame_with(0x20, 1, 0x00, 0); }
@@ -267,14 +302,14 @@ static void back_over_crc(void) {
 
 static void back_over_completion(void) {
     i2c_completion();
-    sca_i2c_completion(state, sizeof state, journal, sizeof journal, 0x0F, 1, 0, NULL, 0, output, sizeof output);
+    sca_i2c_completion(state, sizeof state, journal, journal_length, 0x0F, 1, 0, NULL, 0, output, sizeof output);
     CALL(sca_step_back, ADAPTER);
 }
 
 /* The newest record's second byte, the send number, is out of range. */
 static void back_damaged(void) {
     back();
-    journal[1024 + 256 * ((journal[5] + journal[6] - 1) % SCA_KEPT_MOST) + 1] = 0xFF;
+    journal[1024 + 256 * ((journal[5] + journal[6] - 1u) % most_kept()) + 1] = 0xFF;
 }
 
 static void receiver_new(void) { CALL(sca_receiver_new, LENT(receiver)); }
@@ -353,6 +388,9 @@ static const struct way {
     {"sca_create", "a new adapter", create, SCA_NO_FRAME},
     {"sca_empty", "a full journal", empty, SCA_NO_FRAME},
     {"sca_kept", "a full journal", kept, SCA_NO_FRAME},
+    {"sca_enlarge", "a full journal", enlarging, SCA_NO_FRAME},
+    {"sca_enlarge", "a large journal", enlarging_large, SCA_BAD_JOURNAL},
+    {"sca_enlarge", "one byte too few for it", enlarging_into_less, SCA_SHORT_OUTPUT},
     {"sca_frame", "CRB disables SPI, GPIO and five masters", disabling_crb, SCA_HAS_FRAME},
     {"sca_frame", "CRC disables eight masters", disabling_crc, SCA_HAS_FRAME},
     {"sca_frame", "CRD disables three masters", disabling_crd, SCA_HAS_FRAME},
@@ -416,14 +454,25 @@ static void check_that(int holds, const char *format, ...) {
     check(holds, text);
 }
 
+/* What a way takes with a journal of this size. */
+static size_t deepest_with(size_t length, const struct way *way) {
+    size_t bytes;
+    journal_length = length;
+    bytes = deepest_of(way->prepare);
+    if (way->number != ANY && (int)sca_number(result) != way->number)
+        check_that(0, "%s, %s, a journal of %zu: it goes this way", way->call, way->what, length);
+    return bytes;
+}
+
 static void measure(void) {
     for (size_t at = 0; at < WAYS; at++) {
         struct figure *figure = figure_of(ways[at].call);
-        took[at] = deepest_of(ways[at].prepare);
+        size_t with_small = deepest_with(SCA_JOURNAL_BYTES, &ways[at]);
+        size_t with_large = deepest_with(SCA_LARGE_JOURNAL_BYTES, &ways[at]);
+        took[at] = with_small > with_large ? with_small : with_large;
         figure->arguments = 8 * words_on_the_stack();
         figure->measured++;
         if (took[at] > figure->most) figure->most = took[at];
-        if (ways[at].number != ANY && (int)sca_number(result) != ways[at].number) check_that(0, "%s, %s: it goes this way", ways[at].call, ways[at].what);
     }
 }
 

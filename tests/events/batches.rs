@@ -2,15 +2,17 @@
 
 use crate::calls::Call;
 use crate::harness::report::{all, list, say};
+use crate::journals::Found;
+use crate::ring::{LARGE, SMALL};
+use crate::seen::each;
 use crate::tally::is_reset;
 use reference::adapter::State;
 use reference::numbers::{BAD_ARGUMENT, DONE, FRAME, GPIO_DISABLED, SHORT_OUTPUT};
 use sca::boundary::{RawBatch, RawSample};
-use sca::{BATCH_LEAST, KEPT_MOST, SAMPLES_MOST};
-use std::fmt::Display;
+use sca::{BATCH_LEAST, SAMPLES_MOST};
 
-/// The sizes that batches must have had: those around the ends of a journal and of a batch.
-pub const SIZES: [usize; 8] = [0, 1, 2, 63, 64, 65, 255, SAMPLES_MOST];
+/// The sizes that batches must have had: those around the ends of a journal, small or large, and of a batch.
+pub const SIZES: [usize; 11] = [0, 1, 2, 63, SMALL, 65, 199, LARGE, 201, 255, SAMPLES_MOST];
 /// And the one that must have been refused.
 pub const TOO_MANY: usize = SAMPLES_MOST + 1;
 
@@ -19,7 +21,7 @@ const PLACES: [&str; 3] = ["first", "in the middle", "last"];
 /// What came right after a batch.
 const NEXT: [&str; 4] = ["a single sample", "a RESET", "a request", "another batch"];
 /// The journal that a batch found.
-const FOUND: [&str; 3] = ["empty", "with room", "full"];
+const FOUND: [&str; 4] = ["empty", "with room", "small and full", "large and full"];
 
 /// A sample of a batch as it is taken by itself: the state before it, DATAIN after it, and the number of it alone.
 pub struct Taken {
@@ -42,8 +44,7 @@ impl Taken {
 pub struct Seen<'a> {
     pub list: &'a [RawSample],
     pub room: usize,
-    /// None where the journal is none.
-    pub kept_before: Option<usize>,
+    pub journal: Found,
     /// How many of the newest records were of batches' samples.
     pub sampled_before: usize,
     pub taken: &'a [Taken],
@@ -107,9 +108,9 @@ pub struct Batches {
     wide_sums: u64,
     found: [u64; FOUND.len()],
     next: [u64; NEXT.len()],
-    /// Steps back over a sample of a batch; and over 64 of them in a row.
+    /// Steps back over a sample of a batch; and in a row over as many as a journal keeps, small and large.
     back: u64,
-    all_back: u64,
+    all_back: [u64; 2],
 }
 
 impl Batches {
@@ -163,9 +164,10 @@ impl Batches {
         self.disabled += u64::from(seen.any(|taken| taken.number == GPIO_DISABLED));
         self.unsent += u64::from(seen.any(|taken| taken.number == DONE && taken.fired() != 0));
         self.next[3] += u64::from(seen.sampled_before > 0);
-        match seen.kept_before {
-            Some(0) => self.found[0] += 1,
-            Some(KEPT_MOST) => self.found[2] += 1,
+        match (seen.journal.kept, seen.journal.most) {
+            (0, _) => self.found[0] += 1,
+            (SMALL, SMALL) => self.found[2] += 1,
+            (LARGE, LARGE) => self.found[3] += 1,
             _ => self.found[1] += 1,
         }
         if frames == 0 {
@@ -200,10 +202,13 @@ impl Batches {
         }
     }
 
-    /// A step back over a sample of a batch; whether 63 such steps came right before it.
-    pub fn stepped_back(&mut self, after_63: bool) {
+    /// A step back over a sample of a batch, and how many of the newest records were of such samples.
+    pub fn stepped_back(&mut self, journal: &Found, sampled: usize) {
         self.back += 1;
-        self.all_back += u64::from(after_63);
+        for (count, most) in self.all_back.iter_mut().zip([SMALL, LARGE]) {
+            let last = sampled == 1 && journal.in_a_row + 1 == most;
+            *count += u64::from(last && journal.most == most);
+        }
     }
 
     /// That the runs had in them what they are for.
@@ -240,22 +245,16 @@ impl Batches {
             each("journals that batches found", &FOUND, &self.found),
             each("what came right after a batch", &NEXT, &self.next),
             some("steps back over a sample of a batch", self.back),
-            some("64 such steps in a row", self.all_back),
+            each(
+                "as many such steps in a row as a journal keeps",
+                &[SMALL, LARGE],
+                &self.all_back,
+            ),
         ]
     }
 }
 
-/// A line for counts that have names: each must be more than 0.
-fn each<T: Display>(what: &str, names: &[T], counts: &[u64]) -> bool {
-    let named = names.iter().zip(counts);
-    let listed: Vec<String> = named.map(|(name, count)| format!("{}: {}", name, count)).collect();
-    say(
-        counts.iter().all(|count| *count > 0),
-        &format!("{} ({})", what, listed.join(", ")),
-    )
-}
-
-/// The same for batches of these sizes.
+/// A line for batches of these sizes: each must have been seen.
 fn sizes(what: &str, counts: &[u64], sizes: &[usize]) -> bool {
     let of_each: Vec<u64> = sizes.iter().map(|size| counts[*size]).collect();
     each(what, sizes, &of_each)

@@ -22,11 +22,18 @@ pub enum Call {
         length: usize,
         id: u32,
     },
-    /// Makes a journal of this many bytes empty: the run's own, where they are a journal's.
+    /// Makes a journal of this many bytes empty: the run's own, or one of the other size, with which the run then goes
+    /// on.
     Empty {
         length: usize,
     },
     Kept,
+    /// Makes a second buffer of this many bytes a large journal that keeps the same; where that is done, the run goes
+    /// on with it. `held` says what the second held before.
+    Enlarge {
+        length: usize,
+        held: u32,
+    },
     Frame {
         port: u32,
         body: Vec<u8>,
@@ -112,12 +119,52 @@ pub enum Call {
         length: usize,
         call: Box<Call>,
     },
+    /// The same, with these bytes in front.
+    JournalWithFront {
+        length: usize,
+        front: Vec<u8>,
+        call: Box<Call>,
+    },
+    /// The calls one after the other on a copy of state and journal; the run then goes on as if they had not been.
+    Aside {
+        calls: Vec<Call>,
+    },
 }
 
 impl Call {
+    /// The call that this one does on a copy of state or journal; none where it is no such one.
+    pub fn on_copy(&self) -> Option<&Call> {
+        match self {
+            Call::FlippedState { call, .. } => Some(call),
+            Call::StateOfLength { call, .. } => Some(call),
+            Call::OtherState { call, .. } => Some(call),
+            Call::AlteredJournal { call, .. } => Some(call),
+            Call::AlteredRecord { call, .. } => Some(call),
+            Call::JournalOfLength { call, .. } => Some(call),
+            Call::JournalWithFront { call, .. } => Some(call),
+            _ => None,
+        }
+    }
+
+    /// This call, with another one on its copy.
+    pub fn with_on_copy(&self, other: Call) -> Call {
+        let mut changed = self.clone();
+        match &mut changed {
+            Call::FlippedState { call, .. } => **call = other,
+            Call::StateOfLength { call, .. } => **call = other,
+            Call::OtherState { call, .. } => **call = other,
+            Call::AlteredJournal { call, .. } => **call = other,
+            Call::AlteredRecord { call, .. } => **call = other,
+            Call::JournalOfLength { call, .. } => **call = other,
+            Call::JournalWithFront { call, .. } => **call = other,
+            _ => {}
+        }
+        changed
+    }
+
     /// The call as it is for the state that it finds: a request is the frame that it makes, an ending the completion.
+    /// Calls aside stay as they are: each of them finds what the one before it left.
     pub fn found_by(&self, state: &State) -> Call {
-        let inner = |call: &Call| Box::new(call.found_by(state));
         match self {
             Call::Request {
                 way,
@@ -153,33 +200,10 @@ impl Call {
                     room: *room,
                 }
             }
-            Call::FlippedState { bit, call } => Call::FlippedState {
-                bit: *bit,
-                call: inner(call),
+            _ => match self.on_copy() {
+                Some(call) => self.with_on_copy(call.found_by(state)),
+                None => self.clone(),
             },
-            Call::StateOfLength { length, call } => Call::StateOfLength {
-                length: *length,
-                call: inner(call),
-            },
-            Call::OtherState { state, call } => Call::OtherState {
-                state: state.clone(),
-                call: inner(call),
-            },
-            Call::AlteredJournal { at, byte, call } => Call::AlteredJournal {
-                at: *at,
-                byte: *byte,
-                call: inner(call),
-            },
-            Call::AlteredRecord { at, byte, call } => Call::AlteredRecord {
-                at: *at,
-                byte: *byte,
-                call: inner(call),
-            },
-            Call::JournalOfLength { length, call } => Call::JournalOfLength {
-                length: *length,
-                call: inner(call),
-            },
-            _ => self.clone(),
         }
     }
 }
@@ -197,6 +221,9 @@ fn ended(state: &State, nth: usize) -> usize {
     }
 }
 
+/// What ends each call of those that are aside. Inside them no call is aside.
+const END: &str = ";";
+
 /// As in a bench listing, with the output's room behind; the other calls by their names.
 impl fmt::Display for Call {
     fn fmt(&self, out: &mut fmt::Formatter) -> fmt::Result {
@@ -204,8 +231,18 @@ impl fmt::Display for Call {
             Call::Create { length, id } => write!(out, "create {} {}", length, id),
             Call::Empty { length } => write!(out, "empty {}", length),
             Call::Kept => write!(out, "kept"),
+            Call::Enlarge { length, held } => write!(out, "enlarge {} {}", length, held),
             Call::Frame { port, body, room } => write!(out, "F {} {} {}", port, Hex(body), room),
-            Call::Request { information, .. } => write!(out, "request {}", Hex(information)),
+            Call::Request {
+                way,
+                skew,
+                high,
+                information,
+                room,
+            } => {
+                let way = if *way == Way::Active { "active" } else { "other" };
+                write!(out, "request {} {} {} {} {}", way, skew, high, Hex(information), room)
+            }
             Call::Completion { received, room } => write!(out, "S {} {}", Hex(received), room),
             Call::I2cCompletion {
                 channel,
@@ -217,7 +254,21 @@ impl fmt::Display for Call {
                 let bytes = Hex(received);
                 write!(out, "I {:02x} {} {} {} {}", channel, acknowledge, line_low, bytes, room)
             }
-            Call::Ending { nth, bytes, .. } => write!(out, "ending {} {}", nth, Hex(bytes)),
+            Call::Ending {
+                nth,
+                acknowledge,
+                line_low,
+                more,
+                bytes,
+                room,
+            } => {
+                let bytes = Hex(bytes);
+                write!(
+                    out,
+                    "ending {} {} {} {} {} {}",
+                    nth, acknowledge, line_low, more, bytes, room
+                )
+            }
             Call::Sample { levels, kind, room } => write!(out, "P {:08x} {} {}", levels, kind, room),
             Call::Samples { list, room } => {
                 write!(out, "samples {}", room)?;
@@ -233,6 +284,11 @@ impl fmt::Display for Call {
             Call::AlteredJournal { at, byte, call } => write!(out, "alter {} {} {}", at, byte, call),
             Call::AlteredRecord { at, byte, call } => write!(out, "record {} {} {}", at, byte, call),
             Call::JournalOfLength { length, call } => write!(out, "journal {} {}", length, call),
+            Call::JournalWithFront { length, front, call } => write!(out, "front {} {} {}", length, Hex(front), call),
+            Call::Aside { calls } => {
+                write!(out, "aside")?;
+                calls.iter().try_for_each(|call| write!(out, " {} {}", call, END))
+            }
         }
     }
 }
@@ -255,6 +311,25 @@ fn call_of(words: &[&str]) -> Option<Call> {
             length: number(length)?,
         }),
         ["kept"] => Some(Call::Kept),
+        ["enlarge", length, held] => Some(Call::Enlarge {
+            length: number(length)?,
+            held: word(held)?,
+        }),
+        ["request", way, skew, high, information, room] => Some(Call::Request {
+            way: way_in(way)?,
+            skew: skew.parse().ok()?,
+            high: high.parse().ok()?,
+            information: bytes_in(information)?,
+            room: number(room)?,
+        }),
+        ["ending", nth, acknowledge, line_low, more, bytes, room] => Some(Call::Ending {
+            nth: number(nth)?,
+            acknowledge: word(acknowledge)?,
+            line_low: word(line_low)?,
+            more: more.parse().ok()?,
+            bytes: bytes_in(bytes)?.try_into().ok()?,
+            room: number(room)?,
+        }),
         ["F", port, body, room] => Some(Call::Frame {
             port: word(port)?,
             body: bytes_in(body)?,
@@ -311,6 +386,22 @@ fn call_of(words: &[&str]) -> Option<Call> {
             length: number(length)?,
             call: inner(&words[2..])?,
         }),
+        ["front", length, front, ..] => Some(Call::JournalWithFront {
+            length: number(length)?,
+            front: bytes_in(front)?,
+            call: inner(&words[3..])?,
+        }),
+        ["aside", ref calls @ .., END] => Some(Call::Aside {
+            calls: calls.split(|word| *word == END).map(call_of).collect::<Option<_>>()?,
+        }),
+        _ => None,
+    }
+}
+
+fn way_in(text: &str) -> Option<Way> {
+    match text {
+        "active" => Some(Way::Active),
+        "other" => Some(Way::Other),
         _ => None,
     }
 }

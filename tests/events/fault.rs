@@ -24,8 +24,13 @@ pub enum Fault {
     RefusedOutput,
     KeptNumber,
     Created,
+    /// In a large journal: 64 kept, and version 1 after an emptying.
+    KeepsSixtyFour,
+    EmptiedAsSmall,
     /// In a batch of pin samples.
     Batch(BatchFault),
+    /// In an enlarging.
+    Enlarge(EnlargeFault),
 }
 
 /// What a batch could do wrong.
@@ -56,7 +61,31 @@ pub enum BatchFault {
     RefusedOutput,
 }
 
-const FAULTS: [(Fault, &str); 21] = [
+/// What an enlarging could do wrong.
+#[derive(Clone, Copy, PartialEq, Eq, Debug)]
+pub enum EnlargeFault {
+    Number,
+    FirstChanged,
+    SlotOfFirstChanged,
+    KeptTooHigh,
+    KeptTooLow,
+    Version,
+    FirstKept,
+    OldestForgotten,
+    NewestForgotten,
+    RingOrder,
+    BehindRecord,
+    BehindKept,
+    Unused,
+    OutsideSecond,
+    LargeTaken,
+    LongerTaken,
+    SecondFirst,
+    RefusedSecond,
+    RefusedFirst,
+}
+
+const FAULTS: [(Fault, &str); 23] = [
     (Fault::Number, "an event's number changed"),
     (Fault::Port, "a frame's port changed"),
     (Fault::Length, "a frame's length changed"),
@@ -78,6 +107,8 @@ const FAULTS: [(Fault, &str); 21] = [
     (Fault::RefusedOutput, "a byte of output at a refused call changed"),
     (Fault::KeptNumber, "the kept number changed"),
     (Fault::Created, "a bit of a new state changed"),
+    (Fault::KeepsSixtyFour, "64 kept in a large journal"),
+    (Fault::EmptiedAsSmall, "version 1 in a large journal made empty"),
 ];
 
 const BATCH_FAULTS: [(BatchFault, &str); 23] = [
@@ -121,8 +152,70 @@ const BATCH_FAULTS: [(BatchFault, &str); 23] = [
     (BatchFault::RefusedOutput, "a byte of output at a refused batch changed"),
 ];
 
+const ENLARGE_FAULTS: [(EnlargeFault, &str); 19] = [
+    (EnlargeFault::Number, "an enlarging's number changed"),
+    (
+        EnlargeFault::FirstChanged,
+        "a bit of the journal that is enlarged changed",
+    ),
+    (
+        EnlargeFault::SlotOfFirstChanged,
+        "a bit of a slot of the journal that is enlarged changed",
+    ),
+    (
+        EnlargeFault::KeptTooHigh,
+        "an enlarged journal's kept number, one too high",
+    ),
+    (
+        EnlargeFault::KeptTooLow,
+        "an enlarged journal's kept number, one too low",
+    ),
+    (EnlargeFault::Version, "version 1 in an enlarged journal"),
+    (
+        EnlargeFault::FirstKept,
+        "the first slot as it was in an enlarged journal",
+    ),
+    (
+        EnlargeFault::OldestForgotten,
+        "an enlarged journal without its oldest record",
+    ),
+    (
+        EnlargeFault::NewestForgotten,
+        "an enlarged journal without its newest record",
+    ),
+    (
+        EnlargeFault::RingOrder,
+        "records of an enlarged journal in the order of their slots",
+    ),
+    (
+        EnlargeFault::BehindRecord,
+        "a slot of an enlarged journal not copied to its end",
+    ),
+    (
+        EnlargeFault::BehindKept,
+        "a bit of an enlarged journal behind the kept slots changed",
+    ),
+    (
+        EnlargeFault::Unused,
+        "a bit of an enlarged journal that no call uses changed",
+    ),
+    (EnlargeFault::OutsideSecond, "a byte behind the second buffer changed"),
+    (EnlargeFault::LargeTaken, "a large journal enlarged"),
+    (EnlargeFault::LongerTaken, "a second buffer taken that is too long"),
+    (EnlargeFault::SecondFirst, "1 before 4 by an enlarging"),
+    (
+        EnlargeFault::RefusedSecond,
+        "a bit of the second buffer at a refused enlarging changed",
+    ),
+    (
+        EnlargeFault::RefusedFirst,
+        "a bit of the journal at a refused enlarging changed",
+    ),
+];
+
 /// Every fault, with its name.
 pub fn faults() -> impl Iterator<Item = (Fault, &'static str)> {
     let in_a_batch = BATCH_FAULTS.map(|(fault, name)| (Fault::Batch(fault), name));
-    FAULTS.into_iter().chain(in_a_batch)
+    let in_an_enlarging = ENLARGE_FAULTS.map(|(fault, name)| (Fault::Enlarge(fault), name));
+    FAULTS.into_iter().chain(in_a_batch).chain(in_an_enlarging)
 }

@@ -3,9 +3,9 @@
 use crate::calls::Call;
 use crate::harness::chance::Chance;
 use crate::streams::stream;
-use reference::adapter::{self, Journal, State};
+use reference::adapter::{self, Journal, Size, State};
 
-/// The chip of the bench program.
+/// The chip of the bench program. Its journal is a large one.
 const ID: u32 = 0x00_000A;
 /// The runs that one listing is made of.
 const RUNS: usize = 6;
@@ -14,7 +14,7 @@ const RUNS: usize = 6;
 pub fn listing(chance: &mut Chance) -> Vec<u8> {
     let mut player = Player {
         state: State::power_on(ID),
-        journal: Journal::new(),
+        journal: Journal::sized(Size::Large),
     };
     let mut text = Vec::new();
     for _ in 0..RUNS {

@@ -1,4 +1,5 @@
-//! Compares the library's adapter with the independent implementation on random runs.
+//! Compares the library's adapter with the independent implementation on random runs, and on some that are the same
+//! every time.
 //!
 //!     events [--seed N] [--runs N]     runs 0 to N - 1 of a seed
 //!     events --seed N --only RUN       one of them
@@ -12,20 +13,25 @@
 
 mod batches;
 mod calls;
+mod directed;
 mod exchanges;
 mod fault;
 #[path = "../harness/mod.rs"]
 mod harness;
 mod image;
+mod journals;
+mod lengths;
 mod listing;
 mod masters;
 mod probes;
 mod record;
 mod ring;
 mod run;
+mod seen;
 mod shrink;
 mod streams;
 mod tally;
+mod twins;
 
 use calls::Call;
 use fault::Fault;
@@ -38,6 +44,8 @@ use tally::Tally;
 
 /// The events that a comparison of all runs has at least.
 const EVENTS: u64 = 1_000_000;
+/// The runs whose calls are printed and read.
+const READ: u64 = 300;
 /// The listings written.
 const LISTINGS: u64 = 60;
 
@@ -45,7 +53,7 @@ const LISTINGS: u64 = 60;
 fn run(calls: &[Call], fault: Option<Fault>, tally: &mut Tally) -> (Option<String>, bool) {
     let mut run = Run::new(tally, fault);
     let difference = run.all(calls).err();
-    (difference, run.faulted)
+    (difference, run.faulted())
 }
 
 /// A failing run, made short: the difference, and its calls as the states found them.
@@ -64,17 +72,26 @@ fn shortest(calls: &[Call], fault: Option<Fault>) -> (String, Vec<Call>) {
     (difference(&short).unwrap_or_default(), found)
 }
 
+/// Whether both sides agree on a run; where they do not, how, and the run made short.
+fn agree(name: &str, calls: &[Call], tally: &mut Tally) -> bool {
+    if let (Some(difference), _) = run(calls, None, tally) {
+        say(false, &format!("{}: {}", name, difference));
+        let (difference, short) = shortest(calls, None);
+        println!("made short ({}); replay these lines:", difference);
+        short.iter().for_each(|call| println!("{}", call));
+        return false;
+    }
+    true
+}
+
 fn compare(options: &Options) -> bool {
     let mut tally = Tally::new();
     let numbers = options.numbers();
     println!("seed {}, runs {} to {}", options.seed, numbers.start, numbers.end - 1);
     for number in numbers {
         let calls = streams::stream(&mut Chance::new(options.seed, number));
-        if let (Some(difference), _) = run(&calls, None, &mut tally) {
-            say(false, &format!("seed {}, run {}: {}", options.seed, number, difference));
-            let (difference, short) = shortest(&calls, None);
-            println!("made short ({}); replay these lines:", difference);
-            short.iter().for_each(|call| println!("{}", call));
+        let name = format!("seed {}, run {}", options.seed, number);
+        if !agree(&name, &calls, &mut tally) {
             return false;
         }
     }
@@ -82,7 +99,50 @@ fn compare(options: &Options) -> bool {
         "{} calls, {} of them events and steps back, agree",
         tally.calls, tally.events
     );
-    say(true, &what) && (options.only.is_some() || all_seen(&tally))
+    let more = || {
+        all_of(&[
+            all_seen(&tally),
+            all_directed(),
+            twins::agree(),
+            read_as_printed(options.seed),
+        ])
+    };
+    say(true, &what) && (options.only.is_some() || more())
+}
+
+fn all_of(results: &[bool]) -> bool {
+    results.iter().all(|holds| *holds)
+}
+
+/// The runs that are the same every time: both sides agree on each, and what must come of them came.
+fn all_directed() -> bool {
+    let mut results = Vec::new();
+    for directed in directed::directed() {
+        let mut tally = Tally::new();
+        let mut runs = directed.runs.iter();
+        results.push(runs.all(|calls| agree(directed.name, calls, &mut tally)));
+        results.push(say(
+            (directed.holds)(&tally),
+            &format!("{} ({} calls)", directed.name, tally.calls),
+        ));
+    }
+    all_of(&results)
+}
+
+/// That a run which fails can be run again: each call is printed so that it is read as itself.
+fn read_as_printed(seed: u64) -> bool {
+    let random = (0..READ).flat_map(|number| streams::stream(&mut Chance::new(seed, number)));
+    let directed = directed::directed()
+        .into_iter()
+        .flat_map(|directed| directed.runs.concat());
+    let calls: Vec<Call> = random.chain(directed).collect();
+    let other = calls
+        .iter()
+        .find(|call| calls::call_in(&call.to_string()).as_ref() != Some(call));
+    match other {
+        Some(call) => say(false, &format!("read otherwise than printed: {:?}", call)),
+        None => say(true, &format!("{} calls read as they are printed", calls.len())),
+    }
 }
 
 /// That the runs had in them what they are for.
@@ -156,15 +216,15 @@ fn all_seen(tally: &Tally) -> bool {
         some("GO dropped by a disabling", tally.go_dropped),
         some("GO open through a CONNECT", tally.go_connected),
         some("the SEU counter from its end to 0", tally.counter_wrapped),
-        some("64 steps back in a row and one more", tally.whole_journals_back),
     ];
     results.extend(tally.masters.all_seen());
     results.extend(tally.batches.all_seen());
-    results.iter().all(|holds| *holds)
+    results.extend(tally.journals.all_seen());
+    all_of(&results)
 }
 
-/// Each fault is laid once, into the first run from the thousandth on where it applies, and that run must fail; made short,
-/// it must still.
+/// Each fault is laid once, into the first run from the thousandth on where it applies, and that run must fail; made
+/// short, it must still.
 fn find_faults(seed: u64) -> bool {
     let mut found = true;
     for (fault, name) in fault::faults() {
@@ -173,14 +233,14 @@ fn find_faults(seed: u64) -> bool {
         let difference = match tried.find(|((_, faulted), _)| *faulted) {
             Some(((Some(_), _), calls)) => {
                 let (difference, short) = shortest(&calls, Some(fault));
-                format!("{} calls, {:.100}", short.len(), difference)
+                format!("{} calls, {}", short.len(), difference)
             }
             Some(((None, _), _)) => "NOT FOUND".to_string(),
             None => "NEVER LAID".to_string(),
         };
         found &= say(
             difference.contains("the library has") || difference.contains("differs"),
-            &format!("{}: {}", name, difference),
+            &format!("{}: {:.110}", name, difference),
         );
     }
     found

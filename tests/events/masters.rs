@@ -3,12 +3,12 @@
 use crate::exchanges::{length_of, MULTI_BYTE, STARTS};
 use crate::harness::report::{all, list, say};
 use crate::image::{MASTERS_AT, MASTER_BYTES};
+use crate::seen::whole;
 use reference::adapter::{Master, State};
 use reference::numbers::{BAD_ARGUMENT, FRAME, NOT_BUSY};
 use sca::{I2C_FIRST, I2C_MOST};
 use std::cmp::Ordering;
 use std::collections::BTreeSet;
-use std::fmt::Debug;
 
 const COUNT: usize = 16;
 /// A count for each master.
@@ -350,17 +350,6 @@ fn field_at(own: usize) -> Field {
         4 => Field::Command,
         _ => Field::Data,
     }
-}
-
-/// A line for things that must all have been seen; it names those that were not.
-fn whole<T: Ord + Debug>(what: &str, seen: &BTreeSet<T>, wanted: impl IntoIterator<Item = T>) -> bool {
-    let missing: Vec<T> = wanted.into_iter().filter(|thing| !seen.contains(thing)).collect();
-    let names = if missing.is_empty() {
-        format!("{}", seen.len())
-    } else {
-        format!("missing: {:.300}", format!("{:x?}", missing))
-    };
-    say(missing.is_empty(), &format!("{} ({})", what, names))
 }
 
 fn up_to(most: usize) -> Vec<usize> {

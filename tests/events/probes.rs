@@ -3,6 +3,7 @@
 use crate::batches::{SIZES, TOO_MANY};
 use crate::calls::Call;
 use crate::harness::chance::Chance;
+use crate::lengths::most;
 use crate::streams::{any_request, damaged_by, link_frame, many, request, sample, wide, word};
 use sca::boundary::RawSample;
 use sca::{BATCH_LEAST, SAMPLES_MOST};
@@ -146,7 +147,10 @@ fn too_short(chance: &mut Chance) -> usize {
 fn between(chance: &mut Chance) -> Vec<Call> {
     match chance.below(12) {
         0 => many(chance, 1, 12, |_| Call::StepBack),
-        1 => many(chance, 60, 70, |_| Call::StepBack),
+        1 => {
+            let most = most(chance);
+            many(chance, most - 4, most + 6, |_| Call::StepBack)
+        }
         2 => many(chance, 1, 6, sample),
         3 => vec![link_frame(chance, RESET)],
         4 => READ.map(|command| request(chance, GPIO, command, 1, 0)).to_vec(),

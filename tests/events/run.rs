@@ -2,169 +2,43 @@
 //! call gives and leaves.
 
 mod batch;
+mod enlarge;
+mod pair;
 
-use crate::batches::Taken;
 use crate::calls::Call;
 use crate::fault::Fault;
 use crate::harness::output::Output;
 use crate::harness::same::{same, same_bytes, Checked};
 use crate::image::{bytes_of, state_in};
-use crate::record::{tag_of, tag_of_channel, CORE, CRB};
-use crate::ring::Ring;
-use crate::tally::{Back, Tally};
-use reference::adapter::{self, Condition, Journal, State};
+use crate::journals::Kind;
+use crate::record::{tag_of, CORE};
+use crate::ring::{FIRST, KEPT, LARGE, SMALL, VERSION};
+use crate::tally::{Back, Step, Tally};
+use pair::Pair;
+use reference::adapter::{self, Journal, State};
 use reference::numbers::{BAD_ID, BAD_JOURNAL, DONE, FRAME, NOTHING_KEPT, OUT_OF_RANGE, UNREADABLE};
 use sca::boundary::{self, RawAnswer};
-use sca::{I2C_FIRST, JOURNAL_BYTES, STATE_BYTES};
-
-/// The chip that a run starts with.
-const FIRST_ID: u32 = 0x00_000A;
+use sca::STATE_BYTES;
 
 pub fn refused(number: u8) -> bool {
     (1..=UNREADABLE).contains(&number)
 }
 
-/// A state and a journal: the library's bytes, and what they are expected to be.
-#[derive(Clone)]
-struct Pair {
-    state: Vec<u8>,
-    journal: Vec<u8>,
-    /// None where the bytes spell no state; they are then to stay as they were handed in.
-    expected: Option<State>,
-    handed_in: Vec<u8>,
-    earlier: Journal,
-    ring: Ring,
-    /// How many of the newest records are of events since the state was last put in from elsewhere. The journal did not go with
-    /// it further back.
-    together: usize,
-    /// How many of the newest records are of batches' samples.
-    sampled: usize,
-    /// The journal's bytes were altered, so that `earlier` does not stand for them.
-    altered: bool,
-}
-
-impl Pair {
-    fn new() -> Pair {
-        let state = State::power_on(FIRST_ID);
-        let mut ring = Ring::unwritten(JOURNAL_BYTES);
-        ring.empty();
-        Pair {
-            state: bytes_of(&state),
-            journal: ring.0.clone(),
-            expected: Some(state),
-            handed_in: Vec::new(),
-            earlier: Journal::new(),
-            ring,
-            together: 0,
-            sampled: 0,
-            altered: false,
-        }
-    }
-
-    fn set_state(&mut self, bytes: Vec<u8>) {
-        self.expected = state_in(&bytes);
-        self.handed_in = bytes.clone();
-        self.state = bytes;
-        self.together = 0;
-        self.sampled = 0;
-    }
-
-    fn set_journal(&mut self, bytes: Vec<u8>) {
-        self.ring = Ring(bytes.clone());
-        self.journal = bytes;
-        self.sampled = 0;
-        self.altered = true;
-        self.earlier.condition = if self.journal.len() != JOURNAL_BYTES {
-            Condition::WrongLength
-        } else if self.ring.well_formed() {
-            Condition::Whole
-        } else {
-            Condition::WrongLayout
-        };
-    }
-
-    fn empty_ring(&mut self) {
-        self.ring.empty();
-        self.together = 0;
-        self.sampled = 0;
-    }
-
-    fn push(&mut self, tag: u8, before: &State) {
-        self.ring.push(tag, before);
-        self.together = self.ring.kept().min(self.together + 1);
-        self.sampled = 0;
-    }
-
-    /// A record for each sample of a batch.
-    fn push_samples(&mut self, taken: &[Taken]) {
-        let sampled = self.sampled + taken.len();
-        taken.iter().for_each(|taken| self.push(CRB, &taken.before));
-        self.sampled = self.ring.kept().min(sampled);
-    }
-
-    fn lower(&mut self) {
-        self.ring.lower();
-        self.together = self.together.saturating_sub(1);
-        self.sampled = self.sampled.saturating_sub(1);
-    }
-
-    /// What a step back is on.
-    fn back(&self) -> Back {
-        if self.altered {
-            Back::Altered
-        } else if self.together == 0 && self.ring.kept() > 0 {
-            Back::Apart
-        } else {
-            Back::Together
-        }
-    }
-
-    /// What the independent implementation makes of a step back. It keeps whole states: over a state that the journal did not
-    /// go with, what the record lacks stays as handed in, and what then is no state is refused.
-    fn by_reference_back(&mut self, state: State) -> (u8, State) {
-        let (mut after, tag) = (state, self.ring.newest_tag());
-        let earlier = (self.back() == Back::Apart).then(|| self.earlier.clone());
-        let number = adapter::step_back(&mut after, &mut self.earlier);
-        if let (DONE, Some(earlier)) = (number, earlier) {
-            stay(&state, tag, &mut after);
-            if !adapter::in_range(&after) {
-                self.earlier = earlier;
-                return (BAD_JOURNAL, state);
-            }
-        }
-        (number, after)
-    }
-}
-
-/// What a record of this tag lacks stays as it was handed in.
-fn stay(handed_in: &State, tag: Option<u8>, after: &mut State) {
-    if tag != Some(CRB) {
-        after.spi = handed_in.spi;
-        after.gpio = handed_in.gpio;
-    }
-    for (place, master) in after.masters.iter_mut().enumerate() {
-        if tag != Some(tag_of_channel(u32::from(I2C_FIRST) + place as u32)) {
-            *master = handed_in.masters[place];
-        }
-    }
-}
-
-/// Both sides of a run.
+/// A run's own state and journal, and what is done to them.
 pub struct Run<'a> {
     own: Pair,
-    tally: &'a mut Tally,
-    fault: Option<Fault>,
-    /// The fault was laid in; it is laid in once.
-    pub faulted: bool,
+    both: Both<'a>,
 }
 
 impl<'a> Run<'a> {
     pub fn new(tally: &'a mut Tally, fault: Option<Fault>) -> Run<'a> {
         Run {
             own: Pair::new(),
-            tally,
-            fault,
-            faulted: false,
+            both: Both {
+                tally,
+                fault,
+                faulted: false,
+            },
         }
     }
 
@@ -172,83 +46,122 @@ impl<'a> Run<'a> {
     pub fn all(&mut self, calls: &[Call]) -> Checked {
         for (at, call) in calls.iter().enumerate() {
             self.call(call)
-                .map_err(|how| format!("call {}, {}: {}", at + 1, self.found(call), how))?;
+                .map_err(|how| format!("call {}, {:.1000}: {}", at + 1, self.found(call).to_string(), how))?;
         }
         self.records()
     }
 
     /// A call as the run's state finds it.
     pub fn found(&self, call: &Call) -> Call {
-        call.found_by(&self.own.expected.expect("a run's own state is one"))
+        self.own.finds(call)
     }
 
     pub fn call(&mut self, call: &Call) -> Checked {
-        let call = self.found(call);
-        self.tally.calls += 1;
-        match &call {
-            Call::Create { length, id } => self.create(*length, *id),
-            Call::Empty { length } => self.empty(*length),
+        self.both.on(&mut self.own, call)
+    }
+
+    /// The fault was laid in.
+    pub fn faulted(&self) -> bool {
+        self.both.faulted
+    }
+
+    /// The records take the state back, one after the other, to those that the independent implementation can go back
+    /// to. One of an event that happened to another state has that state's bytes: it leaves it as it was.
+    fn records(&self) -> Checked {
+        let earlier: Vec<&State> = self.own.earlier.earlier().collect();
+        let mut state = self.own.expected.expect("a run's own state is one");
+        for (newest, before) in earlier.into_iter().rev().enumerate() {
+            let handed_in = if newest < self.own.together { &state } else { before };
+            same("a record", self.own.ring.record(newest, handed_in), Some(*before))?;
+            state = *before;
+        }
+        Ok(())
+    }
+}
+
+/// Both sides, on whichever state and journal.
+struct Both<'a> {
+    tally: &'a mut Tally,
+    fault: Option<Fault>,
+    /// The fault was laid in; it is laid in once.
+    faulted: bool,
+}
+
+impl Both<'_> {
+    fn on(&mut self, pair: &mut Pair, call: &Call) -> Checked {
+        match pair.finds(call) {
             Call::Adopt { state } => {
-                if state_in(state).as_ref().map_or(false, adapter::in_range) {
-                    self.own.set_state(state.clone());
+                if state_in(&state).as_ref().map_or(false, adapter::in_range) {
+                    pair.set_state(state);
                 }
                 Ok(())
             }
             Call::FlippedState { bit, call } => {
-                let mut copy = self.own.clone();
-                let mut bytes = copy.state.clone();
+                let mut bytes = pair.state.clone();
                 bytes[bit / 8] ^= 1 << (bit % 8);
-                copy.set_state(bytes);
-                if let (Some(state), false) = (self.own.expected, **call == Call::Kept) {
-                    let taken = copy.expected.as_ref().map_or(false, adapter::in_range);
-                    self.tally.masters.flipped(*bit, &state, taken);
+                let taken = state_in(&bytes).as_ref().map_or(false, adapter::in_range);
+                if let (Some(state), false) = (pair.expected, *call == Call::Kept) {
+                    self.tally.masters.flipped(bit, &state, taken);
                 }
-                self.on(&mut copy, call)
+                self.on_state(pair, bytes, &call)
             }
-            Call::StateOfLength { length, call } => {
-                let mut copy = self.own.clone();
-                let mut bytes = copy.state.clone();
-                bytes.resize(*length, 0);
-                copy.set_state(bytes);
-                self.on(&mut copy, call)
+            Call::StateOfLength { length, call } => self.on_state(pair, resized(&pair.state, length), &call),
+            Call::OtherState { state, call } => self.on_state(pair, state, &call),
+            Call::AlteredJournal { at, byte, call } => self.on_altered(pair, at, byte, &call),
+            Call::AlteredRecord { at, byte, call } => self.on_altered(pair, pair.ring.newest_at() + at, byte, &call),
+            Call::JournalOfLength { length, call } => self.on_journal(pair, resized(&pair.journal, length), &call),
+            Call::JournalWithFront { length, front, call } => {
+                let mut bytes = resized(&pair.journal, length);
+                let front = &front[..front.len().min(length)];
+                bytes[..front.len()].copy_from_slice(front);
+                self.on_journal(pair, bytes, &call)
             }
-            Call::OtherState { state, call } => {
-                let mut copy = self.own.clone();
-                copy.set_state(state.clone());
-                self.on(&mut copy, call)
-            }
-            Call::AlteredJournal { at, byte, call } => self.on_altered(*at, *byte, call),
-            Call::AlteredRecord { at, byte, call } => self.on_altered(self.own.ring.newest_at() + at, *byte, call),
-            Call::JournalOfLength { length, call } => {
-                let mut copy = self.own.clone();
-                let mut bytes = copy.journal.clone();
-                bytes.resize(*length, 0);
-                copy.set_journal(bytes);
-                self.on(&mut copy, call)
-            }
-            _ => {
-                let mut own = std::mem::replace(&mut self.own, Pair::new());
-                let checked = self.on(&mut own, &call);
-                self.own = own;
-                checked
-            }
+            Call::Aside { calls } => self.aside(&mut pair.clone(), &calls),
+            call => self.does(pair, &call),
         }
     }
 
-    /// A call on a copy of the journal with one byte altered.
-    fn on_altered(&mut self, at: usize, byte: u8, call: &Call) -> Checked {
-        let mut copy = self.own.clone();
-        let mut bytes = copy.journal.clone();
-        bytes[at] = byte;
-        copy.set_journal(bytes);
+    /// A call on a copy with another state.
+    fn on_state(&mut self, pair: &Pair, bytes: Vec<u8>, call: &Call) -> Checked {
+        let mut copy = pair.clone();
+        copy.set_state(bytes);
         self.on(&mut copy, call)
     }
 
-    /// An event, a batch of them, a step back or a counting, on a pair.
-    fn on(&mut self, pair: &mut Pair, call: &Call) -> Checked {
+    /// A call on a copy with another journal.
+    fn on_journal(&mut self, pair: &Pair, bytes: Vec<u8>, call: &Call) -> Checked {
+        let mut copy = pair.clone();
+        copy.set_journal(bytes);
+        self.tally.journals.altered(&pair.found(), &copy.found());
+        self.on(&mut copy, call)
+    }
+
+    /// A call on a copy of the journal with one byte altered; a place behind its end is one from its front on again.
+    fn on_altered(&mut self, pair: &Pair, at: usize, byte: u8, call: &Call) -> Checked {
+        let mut bytes = pair.journal.clone();
+        let at = at % bytes.len();
+        bytes[at] = byte;
+        self.on_journal(pair, bytes, call)
+    }
+
+    fn aside(&mut self, pair: &mut Pair, calls: &[Call]) -> Checked {
+        for (at, call) in calls.iter().enumerate() {
+            let here = |how: String| format!("call {} of these, {}: {}", at + 1, call, how);
+            self.on(pair, call).map_err(here)?;
+        }
+        Ok(())
+    }
+
+    /// A call of the library.
+    fn does(&mut self, pair: &mut Pair, call: &Call) -> Checked {
+        self.tally.calls += 1;
         match call {
+            Call::Create { length, id } => return self.create(pair, *length, *id),
+            Call::Empty { length } if *length == pair.journal.len() => self.empty(pair)?,
+            Call::Empty { length } => self.empty_another(pair, *length)?,
             Call::StepBack => self.step_back(pair)?,
             Call::Kept => {}
+            Call::Enlarge { length, held } => self.enlarge(pair, *length, *held)?,
             Call::Samples { list, room } => self.batch(pair, list, *room)?,
             _ => self.event(pair, call)?,
         }
@@ -262,7 +175,7 @@ impl<'a> Run<'a> {
         now
     }
 
-    fn create(&mut self, length: usize, id: u32) -> Checked {
+    fn create(&mut self, pair: &mut Pair, length: usize, id: u32) -> Checked {
         let (made, state) = adapter::create(id);
         let fill = |length: usize| (0..length).map(|at| (at * 31) as u8 ^ 0xC3).collect::<Vec<u8>>();
         let mut bytes = fill(length);
@@ -279,27 +192,36 @@ impl<'a> Run<'a> {
         same("the number", number, u64::from(expected))?;
         same("the new state", &bytes, &after)?;
         if expected == DONE {
-            self.own.set_state(bytes);
+            pair.set_state(bytes);
         }
         Ok(())
     }
 
-    fn empty(&mut self, length: usize) -> Checked {
-        if length == JOURNAL_BYTES {
-            let expected = adapter::empty(&mut self.own.earlier);
-            self.own.empty_ring();
-            self.tally.empty[usize::from(expected)] += 1;
-            same(
-                "the number",
-                boundary::sca_empty(&mut self.own.journal),
-                u64::from(expected),
-            )?;
-            return same("the journal", self.own.journal == self.own.ring.0, true);
+    /// Another journal than the one at hand, which takes its place where it is one.
+    fn empty_another(&mut self, pair: &mut Pair, length: usize) -> Checked {
+        let mut other = pair.clone();
+        other.set_unwritten(length);
+        self.empty(&mut other)?;
+        if other.ring.well_formed() {
+            *pair = other;
         }
-        let mut bytes = Ring::unwritten(length).0;
-        self.tally.empty[usize::from(BAD_JOURNAL)] += 1;
-        same("the number", boundary::sca_empty(&mut bytes), u64::from(BAD_JOURNAL))?;
-        same("the journal is unchanged", bytes == Ring::unwritten(length).0, true)
+        Ok(())
+    }
+
+    fn empty(&mut self, pair: &mut Pair) -> Checked {
+        let found = pair.found();
+        let number = boundary::sca_empty(&mut pair.journal);
+        let expected = adapter::empty(&mut pair.earlier);
+        if expected == DONE {
+            pair.empty_ring();
+        }
+        if self.lay(Fault::EmptiedAsSmall, pair.ring.most() == LARGE) {
+            pair.journal[VERSION] = 1;
+        }
+        self.tally.empty[usize::from(expected)] += 1;
+        self.tally.journals.seen(Kind::Emptying, &found, expected);
+        same("the number", number, u64::from(expected))?;
+        same_bytes("the journal", &pair.journal, &pair.ring.0)
     }
 
     fn event(&mut self, pair: &mut Pair, call: &Call) -> Checked {
@@ -311,8 +233,9 @@ impl<'a> Run<'a> {
             Call::Upset { room } => *room,
             _ => unreachable!("no event: {}", call),
         };
+        let found = pair.found();
         let (mut ours, mut expected_output) = (Output::new(room), Output::new(room));
-        let mut answer = by_library(pair, call, ours.lent());
+        let mut answer = by_library(&mut pair.state, &mut pair.journal, call, ours.lent());
         let before = pair.expected;
         let expected = match &mut pair.expected {
             None => RawAnswer {
@@ -338,6 +261,7 @@ impl<'a> Run<'a> {
         self.break_event(pair, &mut answer, &mut ours, kept);
         self.tally
             .event(call, &before, &pair.expected, &expected, expected_output.lent());
+        self.tally.journals.seen(Kind::of(call), &found, expected.number);
         same("the answer", answer, expected)?;
         same("the output", ours, expected_output)?;
         self.left(pair)
@@ -376,6 +300,11 @@ impl<'a> Run<'a> {
         if let (true, Some(tag)) = (kept, pair.ring.newest_tag()) {
             self.break_record(pair, tag);
         }
+        let over_64 = kept && (pair.ring.most(), pair.ring.kept()) == (LARGE, SMALL + 1);
+        if self.lay(Fault::KeepsSixtyFour, over_64) {
+            pair.journal[FIRST] = ((pair.ring.first() + 1) % LARGE) as u8;
+            pair.journal[KEPT] = SMALL as u8;
+        }
         if self.lay(Fault::UnusedJournal, kept) {
             pair.journal[1_000] ^= 1;
         }
@@ -403,8 +332,10 @@ impl<'a> Run<'a> {
         }
     }
 
-    /// What docs/JOURNAL.md says a step back does; where no byte was altered, the independent implementation says it too.
+    /// What docs/JOURNAL.md says a step back does; where no byte was altered, the independent implementation says it
+    /// too.
     fn step_back(&mut self, pair: &mut Pair) -> Checked {
+        let (found, back) = (pair.found(), pair.back());
         let answer = boundary::sca_step_back(&mut pair.state, &mut pair.journal);
         let before = pair.expected;
         let (number, after) = match before.filter(adapter::in_range) {
@@ -421,13 +352,20 @@ impl<'a> Run<'a> {
             same("docs/JOURNAL.md's number", number, theirs)?;
             same("docs/JOURNAL.md's state", after, Some(left))?;
         }
-        self.tally
-            .step_back(number, pair.back(), pair.ring.newest_tag(), pair.sampled);
-        if let (DONE, Back::Together, Some(before), Some(after)) = (number, pair.back(), &before, &after) {
+        self.tally.step_back(&Step {
+            number,
+            back,
+            tag: pair.ring.newest_tag(),
+            sampled: pair.sampled,
+            journal: found,
+        });
+        if let (DONE, Back::Together, Some(before), Some(after)) = (number, back, &before, &after) {
             self.tally.masters.stepped_back(before, after);
         }
-        if number == DONE {
-            pair.lower();
+        match number {
+            DONE => pair.lower(),
+            NOTHING_KEPT => pair.reach_end(),
+            _ => {}
         }
         pair.expected = after;
         if self.lay(Fault::RestoredState, number == DONE) {
@@ -464,25 +402,13 @@ impl<'a> Run<'a> {
             ours.kept += 1;
         }
         self.tally.kept[usize::from(expected.0)] += 1;
+        self.tally.journals.seen(Kind::Counting, &pair.found(), expected.0);
         same("the kept number", (ours.number, ours.kept), expected)
-    }
-
-    /// The records take the state back, one after the other, to those that the independent implementation can go back to. One of
-    /// an event that happened to another state has that state's bytes: it leaves it as it was.
-    fn records(&self) -> Checked {
-        let earlier: Vec<&State> = self.own.earlier.earlier().collect();
-        let mut state = self.own.expected.expect("a run's own state is one");
-        for (newest, before) in earlier.into_iter().rev().enumerate() {
-            let handed_in = if newest < self.own.together { &state } else { before };
-            same("a record", self.own.ring.record(newest, handed_in), Some(*before))?;
-            state = *before;
-        }
-        Ok(())
     }
 }
 
-fn by_library(pair: &mut Pair, call: &Call, output: &mut [u8]) -> RawAnswer {
-    let (state, journal) = (&mut pair.state, &mut pair.journal);
+/// An event by the library.
+pub fn by_library(state: &mut [u8], journal: &mut [u8], call: &Call, output: &mut [u8]) -> RawAnswer {
     match call {
         Call::Frame { port, body, .. } => boundary::sca_frame(state, journal, *port, body, output),
         Call::Completion { received, .. } => boundary::sca_completion(state, journal, received, output),
@@ -496,6 +422,13 @@ fn by_library(pair: &mut Pair, call: &Call, output: &mut [u8]) -> RawAnswer {
         Call::Sample { levels, kind, .. } => boundary::sca_sample(state, journal, *levels, *kind, output),
         _ => boundary::sca_upset(state, journal, output),
     }
+}
+
+/// Bytes cut, or lengthened with zeros.
+fn resized(bytes: &[u8], length: usize) -> Vec<u8> {
+    let mut bytes = bytes.to_vec();
+    bytes.resize(length, 0);
+    bytes
 }
 
 fn by_reference(state: &mut State, journal: &mut Journal, call: &Call, output: &mut [u8]) -> RawAnswer {

@@ -5,10 +5,13 @@ use crate::exchanges::{any_channel, at_once, bit, ending, exchange, i2c_commands
 use crate::exchanges::{is_start, master, some_master, unknown_code, whole_start};
 use crate::harness::chance::Chance;
 use crate::image::{bytes_of, DATA_AT, MASTERS_AT, MASTER_BYTES};
+use crate::lengths::{
+    emptied, enlarge, enlarged_aside, enlarged_back, enlarging, front_byte, most, no_length, of_other_length,
+};
 use crate::masters::is_on;
 use crate::probes::{any_batch, probing, wrong_batch};
 use reference::adapter::{Gpio, Spi, State};
-use sca::{I2C_FIRST, I2C_LAST, JOURNAL_BYTES, STATE_BYTES};
+use sca::{I2C_FIRST, I2C_LAST, LARGE_JOURNAL_BYTES, STATE_BYTES};
 
 const CONTROLLER: u8 = 0x00;
 const SPI: u8 = 0x01;
@@ -89,7 +92,7 @@ pub fn commands() -> Vec<(u8, u8, u8)> {
 }
 
 pub fn stream(chance: &mut Chance) -> Vec<Call> {
-    let mut calls = vec![create(chance)];
+    let mut calls = vec![emptied(chance), create(chance)];
     if chance.once_in(4) {
         calls.push(adopt(chance));
     } else {
@@ -109,7 +112,7 @@ fn create(chance: &mut Chance) -> Call {
 }
 
 fn phase(chance: &mut Chance) -> Vec<Call> {
-    match chance.below(30) {
+    match chance.below(32) {
         0..=3 => many(chance, 1, 20, request_or_ending),
         4..=6 => transfer(chance),
         7..=9 => pins(chance),
@@ -117,7 +120,7 @@ fn phase(chance: &mut Chance) -> Vec<Call> {
         11 => many(chance, 1, 10, any_frame),
         12 => many(chance, 1, 10, |chance| Call::Upset { room: room(chance) }),
         13 => {
-            let most = if chance.once_in(3) { 80 } else { 12 };
+            let most = [12, 12, 80, 220][chance.below(4)];
             many(chance, 1, most, |_| Call::StepBack)
         }
         14 => filled_then_back(chance),
@@ -129,9 +132,11 @@ fn phase(chance: &mut Chance) -> Vec<Call> {
         23 | 24 => at_once(chance),
         25 => many(chance, 1, 12, unknown_code),
         26..=28 => probing(chance),
-        _ => vec![match chance.below(3) {
-            0 => Call::Empty { length: JOURNAL_BYTES },
+        29 | 30 => enlarging(chance),
+        _ => vec![match chance.below(4) {
+            0 => emptied(chance),
             1 => create(chance),
+            2 => enlarged_aside(chance),
             _ => adopt(chance),
         }],
     }
@@ -163,7 +168,7 @@ pub fn word(chance: &mut Chance) -> u32 {
     }
 }
 
-fn information(transaction: u8, channel: u8, length: u8, command: u8, data: u32) -> Vec<u8> {
+pub fn information(transaction: u8, channel: u8, length: u8, command: u8, data: u32) -> Vec<u8> {
     let [d0, d1, d2, d3] = data.to_le_bytes();
     vec![transaction, channel, length, command, d2, d3, d0, d1]
 }
@@ -422,7 +427,7 @@ fn any_frame(chance: &mut Chance) -> Call {
     }
 }
 
-fn event(chance: &mut Chance) -> Call {
+pub fn event(chance: &mut Chance) -> Call {
     if chance.once_in(24) {
         return any_batch(chance);
     }
@@ -437,8 +442,10 @@ fn event(chance: &mut Chance) -> Call {
 
 /// More events than a journal keeps, some or all of them taken back, and on again.
 fn filled_then_back(chance: &mut Chance) -> Vec<Call> {
-    let mut calls = many(chance, 50, 140, event);
-    let back = if chance.once_in(2) { 66 } else { chance.between(1, 70) };
+    let most = most(chance);
+    let mut calls = many(chance, most - 14, most + 76, event);
+    let all = chance.once_in(2);
+    let back = if all { most + 2 } else { chance.between(1, most + 6) };
     calls.extend(vec![Call::StepBack; back]);
     calls.extend(many(chance, 0, 20, event));
     calls
@@ -502,7 +509,7 @@ fn refused(chance: &mut Chance) -> Call {
         },
         8 => wrong_batch(chance),
         _ => Call::Empty {
-            length: other_length(chance, JOURNAL_BYTES),
+            length: no_length(chance),
         },
     }
 }
@@ -534,23 +541,26 @@ fn refused_event(chance: &mut Chance) -> Call {
     }
 }
 
-fn kept_event_or_step_back(chance: &mut Chance) -> Call {
+/// Any call that a journal is handed to.
+fn any_on_journal(chance: &mut Chance) -> Call {
     match chance.below(8) {
         0 => Call::Kept,
+        1 => enlarge(chance),
+        2 => enlarged_aside(chance),
         _ => event_or_step_back(chance),
     }
 }
 
-/// An event or a step back on a damaged copy of the state or of the journal, or on both.
+/// A call on a damaged copy of the state or of the journal.
 pub fn damaged(chance: &mut Chance) -> Call {
-    let call = kept_event_or_step_back(chance);
+    let call = any_on_journal(chance);
     damaged_by(chance, call)
 }
 
 /// This call on such a copy, or a step back.
 pub fn damaged_by(chance: &mut Chance, call: Call) -> Call {
     let call = Box::new(call);
-    match chance.below(11) {
+    match chance.below(13) {
         0..=2 => Call::FlippedState {
             bit: some_bit(chance),
             call,
@@ -559,17 +569,19 @@ pub fn damaged_by(chance: &mut Chance, call: Call) -> Call {
             length: other_length(chance, STATE_BYTES),
             call,
         },
-        4 => Call::JournalOfLength {
-            length: other_length(chance, JOURNAL_BYTES),
-            call,
-        },
-        5..=7 => {
+        4 | 5 => of_other_length(chance, call),
+        6 => {
+            let (at, byte) = front_byte(chance);
+            Call::AlteredJournal { at, byte, call }
+        }
+        7..=9 => {
+            let most = most(chance);
             let at = match chance.below(3) {
                 0 => chance.below(8),
-                1 => 1_024 + 256 * chance.below(64) + chance.below(RECORD_MOST + 8),
-                _ => chance.below(JOURNAL_BYTES),
+                1 => 1_024 + 256 * chance.below(most) + chance.below(RECORD_MOST + 8),
+                _ => chance.below(LARGE_JOURNAL_BYTES),
             };
-            let byte = [chance.byte(), chance.below(66) as u8][chance.below(2)];
+            let byte = [chance.byte(), chance.below(most + 2) as u8][chance.below(2)];
             let call = if chance.once_in(2) {
                 Box::new(Call::StepBack)
             } else {
@@ -577,10 +589,14 @@ pub fn damaged_by(chance: &mut Chance, call: Call) -> Call {
             };
             Call::AlteredJournal { at, byte, call }
         }
-        8 | 9 => Call::AlteredRecord {
+        10 | 11 => Call::AlteredRecord {
             at: [0, chance.below(17), chance.below(RECORD_MOST + 8)][chance.below(3)],
             byte: [chance.byte(), chance.below(8) as u8][chance.below(2)],
-            call: Box::new(Call::StepBack),
+            call: Box::new(if chance.once_in(3) {
+                enlarged_back(chance)
+            } else {
+                Call::StepBack
+            }),
         },
         _ => Call::OtherState {
             state: other_state(chance),

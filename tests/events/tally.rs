@@ -2,11 +2,12 @@
 
 use crate::batches::{Batches, Seen};
 use crate::calls::Call;
+use crate::journals::{Found, Journals, Kind};
 use crate::masters::{End, Masters};
 use crate::record::{CRB, CRD};
 use crate::run::refused;
 use reference::adapter::{Gpio, State};
-use reference::numbers::{BAD_ARGUMENT, BAD_JOURNAL, DONE, FRAME, NOTHING_KEPT, OTHER_ADDRESS, WRONG_INFORMATION};
+use reference::numbers::{BAD_ARGUMENT, BAD_JOURNAL, DONE, FRAME, OTHER_ADDRESS, WRONG_INFORMATION};
 use sca::boundary::RawAnswer;
 use std::collections::BTreeSet;
 
@@ -19,6 +20,17 @@ pub enum Back {
     Apart,
     /// A journal with a byte altered, or of another length.
     Altered,
+}
+
+/// A step back, and what it found.
+pub struct Step {
+    pub number: u8,
+    pub back: Back,
+    /// The tag of the newest record, if there is one.
+    pub tag: Option<u8>,
+    /// How many of the newest records are of batches' samples.
+    pub sampled: usize,
+    pub journal: Found,
 }
 
 /// With bit 4 clear.
@@ -75,9 +87,7 @@ pub struct Tally {
     pub counter_wrapped: u64,
     pub masters: Masters,
     pub batches: Batches,
-    /// A full journal taken back to its end: 64 steps in a row, and one more.
-    pub whole_journals_back: u64,
-    steps_in_a_row: usize,
+    pub journals: Journals,
 }
 
 impl Tally {
@@ -116,8 +126,7 @@ impl Tally {
             counter_wrapped: 0,
             masters: Masters::new(),
             batches: Batches::new(),
-            whole_journals_back: 0,
-            steps_in_a_row: 0,
+            journals: Journals::new(),
         }
     }
 
@@ -131,7 +140,6 @@ impl Tally {
         output: &[u8],
     ) {
         self.events += 1;
-        self.steps_in_a_row = 0;
         let number = usize::from(answer.number);
         let (state, after) = (before.unwrap_or_default(), after.unwrap_or_default());
         let frame = answer.number == FRAME;
@@ -187,7 +195,6 @@ impl Tally {
     /// A batch of pin samples.
     pub fn batch(&mut self, seen: &Seen) {
         self.events += 1;
-        self.steps_in_a_row = 0;
         if !refused(seen.answer.number) {
             self.masters.left(&seen.after);
             for taken in seen.taken {
@@ -195,6 +202,7 @@ impl Tally {
             }
         }
         self.batches.seen(seen);
+        self.journals.seen(Kind::Batch, &seen.journal, seen.answer.number);
     }
 
     /// Lines that a sample moved to these levels.
@@ -246,30 +254,23 @@ impl Tally {
         self.dropped_tags[usize::from(tag)] += u64::from((OTHER_ADDRESS..=WRONG_INFORMATION).contains(&number));
     }
 
-    /// A step back, the tag of the newest record, if there is one, and how many of the newest are of batches' samples.
-    pub fn step_back(&mut self, number: u8, back: Back, tag: Option<u8>, sampled: usize) {
+    pub fn step_back(&mut self, step: &Step) {
         self.events += 1;
-        if number == DONE && sampled > 0 {
-            let after_63 = sampled == 1 && self.steps_in_a_row == 63;
-            self.batches.stepped_back(after_63);
+        self.journals.seen(Kind::StepBack, &step.journal, step.number);
+        if step.number == DONE && step.sampled > 0 {
+            self.batches.stepped_back(&step.journal, step.sampled);
         }
-        let (counts, tags) = match back {
+        let (counts, tags) = match step.back {
             Back::Together => (&mut self.step_back, Some(&mut self.tags_back)),
             Back::Apart => (&mut self.apart_back, Some(&mut self.tags_back_apart)),
             Back::Altered => (&mut self.altered_back, None),
         };
-        counts[usize::from(number)] += 1;
-        if let (DONE, Some(tags), Some(tag)) = (number, tags, tag) {
+        counts[usize::from(step.number)] += 1;
+        if let (DONE, Some(tags), Some(tag)) = (step.number, tags, step.tag) {
             tags[usize::from(tag)] += 1;
         }
-        if back == Back::Altered {
-            self.unknown_tags += u64::from(number == BAD_JOURNAL && tag.map_or(false, |tag| tag > CRD));
-            return;
-        }
-        match number {
-            DONE => self.steps_in_a_row += 1,
-            NOTHING_KEPT => self.whole_journals_back += u64::from(self.steps_in_a_row == 64),
-            _ => {}
+        if step.back == Back::Altered {
+            self.unknown_tags += u64::from(step.number == BAD_JOURNAL && step.tag.map_or(false, |tag| tag > CRD));
         }
     }
 }

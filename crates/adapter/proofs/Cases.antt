@@ -25,13 +25,14 @@ use Rattle.chip.specs.Inner.{Said, said, says}
 use Rattle.chip.specs.Chip.{reaction, acceptedReset}
 use Rattle.chip.specs.Group.{groupOf}
 use Rattle.chip.proofs.Cases.{tested}
-use Rattle.journal.specs.Layout.{keptOf, wellFormed, past, lowered}
+use Rattle.journal.specs.Layout.{slotsOf, wrongLength, keptOf, wellFormed, isSmall, past, lowered, enlarged}
 use Rattle.journal.specs.Record.{keptFor, before, sound, restored}
+use Rattle.journal.proofs.Enlarged.{small-well, large-size, large-room}
 use Rattle.adapter.specs.declared.Answer.{Answer}
 use Rattle.adapter.specs.declared.Verdict.{Verdict}
 use Rattle.adapter.specs.declared.Verdict.the-variants.{Refused, Passed}
 use Rattle.adapter.specs.Refusals.{wrongArgument, wrongBody, inOrder, verdict, backVerdict}
-use Rattle.adapter.specs.Calls.{made, created, Outcome, outcome, plain, shown, joined, happened, done, called, Stepped, stepped, judgedBack, steppedBack}
+use Rattle.adapter.specs.Calls.{made, created, copied, madeLarge, Outcome, outcome, plain, shown, joined, happened, done, called, Stepped, stepped, judgedBack, steppedBack}
 
 -- ---- a state's bytes, part by part
 
@@ -81,6 +82,37 @@ module _ (s : List ℕ) (id : ℕ) where
         simp (eq-eqb (length s) stateSize n, le-ltb 0xFFFFFF id h, spelled, g, e)
 
 pub ruleset creations = (other-length, too-long, in-24-bits)
+
+-- ---- enlarging
+
+-- b: whether the first is a small journal
+module _ (j second : List ℕ) (b : Bool) (e : b ≡ isSmall j) where
+  pub no-small : not b ≡ true → copied 4 j second ≡ madeLarge j second
+  unfolding madeLarge
+  no-small h = simp (sym e) (simp h)
+
+  module _ (h : not b ≡ false) where
+    small : isSmall j ≡ true
+    small = sym e ∙ not-false b h
+
+    pub other-size : (length second ≡ 52224 → ⊥) → copied 1 j second ≡ madeLarge j second
+    unfolding madeLarge
+    other-size n = simp (small, ne-eqb (length second) 52224 n)
+
+    pub small-formed : length second ≡ 52224 → wellFormed j ≡ true
+    small-formed n = small-well j second small n
+
+    pub large-sized : length second ≡ 52224 → wrongLength second ≡ false
+    large-sized n = large-size j second small n
+
+    pub all-fit : length second ≡ 52224 → keptOf j ≤ slotsOf second
+    all-fit n = large-room j second small n
+
+    pub made-large : length second ≡ 52224 → (after : List ℕ) → after ≡ enlarged j second → copied 17 j after ≡ madeLarge j second
+    unfolding madeLarge
+    made-large n after g = simp (small, eq-eqb (length second) 52224 n) (ap (copied 17 j) g)
+
+pub ruleset enlargings = (no-small, other-size, small-formed, large-sized, all-fit, made-large)
 
 -- ---- an event on a state's bytes: the chip's reaction to its link and registers, and the link stored
 

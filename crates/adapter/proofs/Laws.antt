@@ -2,10 +2,10 @@
 -- back makes of it. A journal that is well formed stays so. Assumes nothing.
 use Prim.Native.Nat.{ℕ, suc, _+_, min, _<_}
 use mathlib.Core.Path.{_≡_, refl, sym, ap}
-use mathlib.Core.Bool.{Bool, true, false, cond}
+use mathlib.Core.Bool.{Bool, true, false, not, cond}
 use mathlib.Core.List.{List, _++_}
 use lib.ListN.{length}
-use lib.Dec.{ltb}
+use lib.Dec.{eqb, ltb}
 use Rattle.bits.proofs.Tests.{either}
 use Rattle.state.specs.State.{Adapter}
 use Rattle.state.specs.Bytes.{stateBytes, isState}
@@ -15,14 +15,15 @@ use Rattle.chip.specs.Event.{Event}
 use Rattle.chip.specs.Chip.{reaction, acceptedReset}
 use Rattle.chip.proofs.EventFits.{EventFits}
 use Rattle.chip.proofs.Bodies.{silent}
-use Rattle.journal.specs.Layout.{slotsOf, wrongLength, keptOf, past, emptied, pushed, lowered}
+use Rattle.journal.specs.Layout.{slotsOf, wrongLength, keptOf, past, emptied, pushed, lowered, enlarged}
 use Rattle.journal.specs.Record.{before, restored, sound}
 use Rattle.journal.proofs.Record.{length-before, taken-back, sound-back}
+use Rattle.journal.proofs.Enlarged.{small-by-slots}
 use Rattle.journal.proofs.Ring.{Well, well-of, emptied-well, emptied-slots, emptied-kept, behind, pushed-well, pushed-slots, pushed-kept, pushed-newest, pushed-older}
 use Rattle.adapter.specs.declared.Verdict.the-variants.{Refused, Passed}
 use Rattle.adapter.specs.Refusals.{wrongArgument, wrongBody, inOrder, verdict}
 use Rattle.adapter.proofs.Cases.{back-none, back-tried}
-use Rattle.adapter.specs.Calls.{outcome, plain, recorded, done, called, stepped, steppedBack, made, madeEmpty}
+use Rattle.adapter.specs.Calls.{outcome, plain, recorded, done, called, stepped, steppedBack, made, madeEmpty, copied, madeLarge}
 
 -- ---- an event
 
@@ -94,3 +95,12 @@ module _ (s j : List ℕ) (h : isState s ≡ true) (w : Well j) where
 pub empty-done : (j : List ℕ) → wrongLength j ≡ false → madeEmpty j ≡ made 17 (emptied j)
 unfolding madeEmpty
 empty-done j h = simp h
+
+-- ---- a journal made large
+
+-- of a well-formed journal its slots, and the second buffer's length, tell the refusals
+pub large-told : (j second : List ℕ) (most : ℕ) → Well j → slotsOf j ≡ most
+    → madeLarge j second
+    ≡ cond (not (eqb most 64)) (copied 4 j second) (cond (not (eqb (length second) 52224)) (copied 1 j second) (copied 17 j (enlarged j second)))
+unfolding madeLarge
+large-told j second most w e = rw (small-by-slots j w, e) refl

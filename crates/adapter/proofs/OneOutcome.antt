@@ -1,7 +1,7 @@
 -- Any two outcomes that a function's contract allows coincide: the result and every lent byte, for every public function.
 use mathlib.Core.Path.{sym, _∙_}
 use denote.Ref.{now}
-use Rattle.adapter.specs.Calls.{made, outcome, stepped}
+use Rattle.adapter.specs.Calls.{made, copied, outcome, stepped}
 use Rattle.parts.proofs.Outcome.{One}
 use Rattle.adapter.proofs as this
 
@@ -13,6 +13,9 @@ empty-one κs a x y s t p q = p ∙ sym q
 
 pub kept-one : One 1 this.kept.Kinds.ps this.kept.Kinds.r this.kept.Reads.Post (λ κs x s. x)
 kept-one κs a x y s t p q = p ∙ sym q
+
+pub enlarge-one : One 2 this.enlarge.Kinds.ps this.enlarge.Kinds.r this.enlarge.Reads.Post (λ κs x s. copied x (now (s .0)) (now (s .1 .0)))
+enlarge-one κs a x y s t p q = p ∙ sym q
 
 pub frame-one : One 4 this.frame.Kinds.ps this.frame.Kinds.r this.frame.Reads.Post (λ κs x s. outcome x (now (s .0)) (now (s .1 .0)) (now (s .1 .1 .1 .1 .0)))
 frame-one κs a x y s t p q = p ∙ sym q

@@ -4,14 +4,14 @@ use mathlib.Core.Bool.{Bool, not, cond}
 use mathlib.Core.List.{List}
 use lib.ListN.{length}
 use lib.Dec.{eqb, ltb}
-use Rattle.numbers.specs.Numbers.{noFrame, badJournal, badState, badId, idMost}
+use Rattle.numbers.specs.Numbers.{noFrame, shortOutput, badJournal, badState, badId, idMost}
 use Rattle.state.specs.State.{powerOn}
 use Rattle.state.specs.Bytes.{stateSize, stateBytes, stateIn}
 use Rattle.chip.specs.declared.Response.{Response}
 use Rattle.chip.specs.Event.{Event}
 use Rattle.chip.specs.Chip.{reaction, acceptedReset}
 use Rattle.chip.specs.Answer.{response, laid}
-use Rattle.journal.specs.Layout.{wrongLength, keptOf, wellFormed, past, emptied, pushed, lowered}
+use Rattle.journal.specs.Layout.{sizeOf, large, wrongLength, keptOf, wellFormed, isSmall, past, emptied, pushed, lowered, enlarged}
 use Rattle.journal.specs.Record.{before, restored}
 use Rattle.adapter.specs.declared.Answer.{Answer}
 use Rattle.adapter.specs.declared.KeptNumber.{KeptNumber}
@@ -43,6 +43,23 @@ unfoldable pub keptIn : List ℕ → KeptNumber
 keptIn journal =
     cond (wellFormed journal) (record { number = noFrame; kept = keptOf journal })
     (record { number = badJournal; kept = 0 })
+
+-- ---- enlarging: a number, and two buffers afterwards
+
+pub record Copied : Type 0 where
+  pub number : ℕ
+  pub first : List ℕ
+  pub second : List ℕ
+
+abbrev pub copied : ℕ → List ℕ → List ℕ → Copied
+copied number first second = record { number = number; first = first; second = second }
+
+-- What is no small journal, a large one too, is 4; then a second buffer that is not of a large one's length is 1.
+unfoldable pub madeLarge : List ℕ → List ℕ → Copied
+madeLarge journal second =
+    cond (not (isSmall journal)) (copied badJournal journal second)
+    (cond (not (eqb (length second) (sizeOf large))) (copied shortOutput journal second)
+    (copied noFrame journal (enlarged journal second)))
 
 -- ---- events
 

@@ -29,7 +29,7 @@ ghost use Rattle.numbers.specs.Numbers.{noFrame, badJournal, outputLeast};
 ghost use Rattle.journal.specs.Layout.{keptOf, wellFormed, past, lowered};
 ghost use Rattle.journal.specs.Record.{restored, sound};
 ghost use Rattle.adapter.specs.Refusals.{inOrder};
-ghost use Rattle.adapter.specs.Calls.{made, created, madeEmpty, keptIn, outcome, plain, called, stepped, steppedBack};
+ghost use Rattle.adapter.specs.Calls.{made, created, madeEmpty, keptIn, copied, madeLarge, outcome, plain, called, stepped, steppedBack};
 
 // An event's answer: document 01's number, and with number 0 the port and the length of the frame in the output.
 pub struct Answer {
@@ -90,6 +90,20 @@ pub fn kept(journal: &[u8]) -> KeptNumber
         number: BAD_JOURNAL,
         kept: 0,
     }
+}
+
+// Makes a second buffer a large journal that takes back what this small one does.
+pub fn enlarge(journal: &[u8], second: &mut [u8]) -> u8
+    ensures { λ r. ⌜ copied r (now (journal .exit)) (now (second .exit)) ≡ madeLarge (now (journal .entry)) (now (second .entry)) ⌝ }
+{
+    if !journal::is_small(journal) {
+        return BAD_JOURNAL;
+    }
+    if second.len() != journal::LARGE {
+        return SHORT_OUTPUT;
+    }
+    journal::enlarge(journal, second);
+    NO_FRAME
 }
 
 // The first refusal that applies, in document 01's order.

@@ -122,7 +122,7 @@ fn run(
 fn main() {
     let mut block = [0u8; BLOCK_ROOM];
     let mut state = [0u8; state::BYTES];
-    let mut journal = [0u8; journal::SIZE];
+    let mut journal = [0u8; journal::LARGE];
     let mut line = [0u8; LINE_ROOM];
     let mut out = [0u8; OUTPUT_ROOM];
     player::start(&mut state);

@@ -1,10 +1,10 @@
 -- The laws of the table of formats, row by row: bytes of no wrong length are as long as their format's slots ask, and a kept number is a
--- byte. A row more in the table is a row more in `all-fine`; what says that 17,408 bytes and 64 slots are the only ones (`only-length`, and in
--- crate promises `no-other-length`, `always-64`, `at-most-64`, `up-to-64`, `never-over-64`) then goes. Assumes nothing.
+-- byte. A row more in the table is a row more in `all-fine` and in what says that there are no other lengths (`only-lengths`). Assumes nothing.
 use Prim.Native.Nat.{ℕ, _+_, _*_, _<_}
 use mathlib.Core.Path.{_≡_, refl, ap, _∙_}
 use mathlib.Core.List.{List, [], _∷_}
 use mathlib.Core.Bool.{false, true≢false}
+use mathlib.Core.Logic.{_⊎_, inl, inr}
 use native.Mathlib.Nat.{pos-of-ne-zero}
 use lib.Dec.{eqb, lit<}
 use lib.ListN.{length}
@@ -40,7 +40,7 @@ looked-small (r ∷ rs) n f = cond-cases (λ (x : Format). x .slots < 256) (eqb 
 
 all-fine : AllFine formats
 unfolding AllFine
-all-fine = (record { size = refl; small = lit< tt }, tt)
+all-fine = (record { size = refl; small = lit< tt }, (record { size = refl; small = lit< tt }, tt))
 
 pub its-size : (j : List ℕ) → wrongLength j ≡ false → length j ≡ 1024 + 256 * slotsOf j
 unfolding wrongLength formatOf
@@ -54,12 +54,24 @@ pub slots-small : (j : List ℕ) → slotsOf j < 256
 unfolding formatOf
 slots-small j = looked-small formats (length j) all-fine
 
--- the table's one row
-pub only-length : (j : List ℕ) → wrongLength j ≡ false → length j ≡ 17408
+-- the table's two rows
+pub only-lengths : (j : List ℕ) → wrongLength j ≡ false → (length j ≡ 17408) ⊎ (length j ≡ 52224)
 unfolding wrongLength formatOf
-only-length j h =
-    cond-cases (λ (f : Format). eqb (f .slots) 0 ≡ false → length j ≡ 17408) (eqb (length j) 17408) (λ t _. eqb-true (length j) 17408 t)
-    (λ _ g. absurd (true≢false g)) h
+only-lengths j =
+    cond-cases Known (eqb (length j) 17408) (λ t _. inl (eqb-true (length j) 17408 t))
+    (λ _. cond-cases Known (eqb (length j) 52224) (λ t _. inr (eqb-true (length j) 52224 t)) (λ _ h. absurd (true≢false h)))
+  where
+    Known : Format → Type 0
+    Known f = eqb (f .slots) 0 ≡ false → (length j ≡ 17408) ⊎ (length j ≡ 52224)
+
+-- what the large one has room for
+pub of-large : (j : List ℕ) → length j ≡ 52224 → slotsOf j ≡ 200
+unfolding formatOf
+of-large j h = ap (λ (n : ℕ). formatOf n .slots) h
+
+pub of-small : (j : List ℕ) → length j ≡ 17408 → slotsOf j ≡ 64
+unfolding formatOf
+of-small j h = ap (λ (n : ℕ). formatOf n .slots) h
 
 -- only the length counts
 pub same-length : (j k : List ℕ) → length j ≡ length k → wrongLength k ≡ false → wrongLength j ≡ false

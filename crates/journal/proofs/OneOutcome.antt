@@ -15,6 +15,9 @@ is-wrong-length-one κs a x y s t p q = p ∙ sym q
 pub is-well-formed-one : One 1 this.is_well_formed.Kinds.ps this.is_well_formed.Kinds.r this.is_well_formed.Reads.Post (λ κs x s. x)
 is-well-formed-one κs a x y s t p q = p ∙ sym q
 
+pub is-small-one : One 1 this.is_small.Kinds.ps this.is_small.Kinds.r this.is_small.Reads.Post (λ κs x s. x)
+is-small-one κs a x y s t p q = p ∙ sym q
+
 pub empty-one : One 1 this.empty.Kinds.ps this.empty.Kinds.r this.empty.Reads.Post (λ κs x s. now (s .0))
 empty-one κs a x y s t p q = p ∙ sym q
 
@@ -32,3 +35,6 @@ restore-one κs a x y s t p q =
 
 pub lower-one : One 1 this.lower.Kinds.ps this.lower.Kinds.r this.lower.Reads.Post (λ κs x s. now (s .0))
 lower-one κs a x y s t p q = p ∙ sym q
+
+pub enlarge-one : One 2 this.enlarge.Kinds.ps this.enlarge.Kinds.r this.enlarge.Reads.Post (λ κs x s. now (s .1 .0))
+enlarge-one κs a x y s t p q = p ∙ sym q

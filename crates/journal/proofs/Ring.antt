@@ -1,6 +1,6 @@
 -- The laws of the ring, for every format of the table: a record pushed is the newest, the others are each one older; one given up, each is one newer.
 -- Assumes nothing.
-use Prim.Native.Nat.{ℕ, suc, _+_, _*_, _-_, _/_, _%_, min, _≤_, _<_}
+use Prim.Native.Nat.{ℕ, suc, _+_, _*_, _-_, _/_, _%_, _^_, min, _≤_, _<_}
 use mathlib.Core.Path.{_≡_, refl, sym, ap, _∙_}
 use mathlib.Core.List.{List, _++_}
 use mathlib.Core.Bool.{Bool, true, false, cond, _&&_}
@@ -16,8 +16,8 @@ use Rattle.bits.proofs.Tests.{both, cond-cases}
 use Rattle.parts.specs.Parts.{part, put}
 use Rattle.parts.proofs.Laws.{length-put, length-part, part-put-front, part-put-before, part-put-after, getD-put-before, part-set}
 use Rattle.journal.specs.declared.Format.{Format}
-use Rattle.journal.specs.Layout.{header, formatOf, slotsOf, wrongLength, firstOf, keptOf, wellFormed, placeOf, past, emptied, firstAfter, keptUp, pushed, lowered}
-use Rattle.journal.proofs.Formats.{its-size, some-slots, same-length}
+use Rattle.journal.specs.Layout.{header, headed, formatOf, slotsOf, wrongLength, firstOf, keptOf, wellFormed, placeOf, past, emptied, firstAfter, keptUp, pushed, lowered}
+use Rattle.journal.proofs.Formats.{its-size, some-slots, slots-small, same-length}
 
 -- ---- a well-formed journal, as facts
 
@@ -66,29 +66,38 @@ of-well j h =
       few = leb-true _ _ (q6 .1);
     }
 
--- ---- an emptied journal
+-- ---- a header of its own format
 
-emptied-size : (j : List ℕ) → wrongLength j ≡ false → length (emptied j) ≡ length j
-unfolding emptied
-emptied-size j s = length-put 0 (header (formatOf (length j)) 0 0) j (omega (arith, its-size j s))
+module _ (kept : ℕ) (j : List ℕ) (s : wrongLength j ≡ false) where
+  pub headed-size : length (headed kept j) ≡ length j
+  headed-size = length-put 0 (header (formatOf (length j)) 0 kept) j (omega (arith, its-size j s))
 
+  pub headed-slots : slotsOf (headed kept j) ≡ slotsOf j
+  headed-slots = ap (λ (n : ℕ). formatOf n .slots) headed-size
+
+  pub headed-well : kept ≤ slotsOf j → Well (headed kept j)
+  unfolding put
+  headed-well few =
+      let l = headed-size in
+      record {
+        size = same-length (headed kept j) j l s;
+        m0 = refl;
+        m1 = refl;
+        m2 = refl;
+        v0 = ap (λ (n : ℕ). formatOf n .version % 256) (sym l);
+        v1 = ap (λ (n : ℕ). formatOf n .version / 256) (sym l);
+        first = rw headed-slots (some-slots j s);
+        few = rw headed-slots few;
+      }
+
+-- an emptied journal
 pub emptied-slots : (j : List ℕ) → wrongLength j ≡ false → slotsOf (emptied j) ≡ slotsOf j
-emptied-slots j s = ap (λ (n : ℕ). formatOf n .slots) (emptied-size j s)
+unfolding emptied
+emptied-slots j s = headed-slots 0 j s
 
 pub emptied-well : (j : List ℕ) → wrongLength j ≡ false → Well (emptied j)
-unfolding emptied put
-emptied-well j s =
-    let l = emptied-size j s in
-    record {
-      size = same-length (emptied j) j l s;
-      m0 = refl;
-      m1 = refl;
-      m2 = refl;
-      v0 = ap (λ (n : ℕ). formatOf n .version % 256) (sym l);
-      v1 = ap (λ (n : ℕ). formatOf n .version / 256) (sym l);
-      first = rw (emptied-slots j s) (some-slots j s);
-      few = omega arith;
-    }
+unfolding emptied
+emptied-well j s = headed-well 0 j s (omega arith)
 
 pub emptied-kept : (j : List ℕ) → keptOf (emptied j) ≡ 0
 unfolding emptied put
@@ -106,6 +115,17 @@ wraps n x h = go (decLt x n)
         let l : n ≤ x = omega arith in
         let m : x - n < n = omega arith in
         inr (l, mod-eq-sub-mod l ∙ mod-eq-of-lt m)
+
+-- so the code goes round it
+pub not-round : (n first k : ℕ) → k < n - first → first + k ≡ (first + k) % n
+not-round n first k h = sym (mod-eq-of-lt (omega arith))
+
+pub once-round : (n first k : ℕ) → first < n → k ≤ n → n - first ≤ k → k - (n - first) ≡ (first + k) % n
+once-round n first k l m h =
+    let over : n ≤ first + k = omega arith in
+    let rest : first + k - n < n = omega arith in
+    let same : k - (n - first) ≡ first + k - n = omega arith in
+    same ∙ sym (mod-eq-sub-mod over ∙ mod-eq-of-lt rest)
 
 -- two slots less than the whole ring apart are not one
 ring-apart : (n first k m : ℕ) → first < n → k < m → m ≤ n → m < k + n → (first + k) % n ≡ (first + m) % n → ⊥
@@ -336,11 +356,27 @@ module _ (j : List ℕ) (f : Format) (h : wellFormed j ≡ true) (e : f ≡ form
   pub kept-in : keptOf j ≤ f .slots
   kept-in = rw its-slots (of-well j h .few)
 
+  pub kept-byte : keptOf j < 256
+  kept-byte = let h = kept-in in omega (arith, its-slots, slots-small j)
+
+  -- that of the newest, and that of any other
+  pub newest-few : keptOf j - 1 ≤ f .slots
+  newest-few = let h = kept-in in omega arith
+
+  pub any-few : (k : ℕ) → k < keptOf j → k ≤ f .slots
+  any-few k l = let h = kept-in in omega arith
+
   pub slot-in : (at k : ℕ) → at ≡ placeOf (f .slots) (firstOf j) k → at + 256 ≤ length j
   slot-in at k q =
       let l = slot-small (slotsOf j) (firstOf j + k) (some-slots j (size-in j h)) in
       let p : at ≡ placeOf (slotsOf j) (firstOf j) k = rw its-slots at q in
       omega (arith, its-size j (size-in j h))
+
+  pub end-in : (at k : ℕ) → at ≡ placeOf (f .slots) (firstOf j) k → at + 256 < 2 ^ 64
+  end-in at k q =
+      let l = slot-small (slotsOf j) (firstOf j + k) (some-slots j (size-in j h)) in
+      let p : at ≡ placeOf (slotsOf j) (firstOf j) k = rw its-slots at q in
+      omega (arith, slots-small j)
 
   pub room-in : (at k n : ℕ) → at ≡ placeOf (f .slots) (firstOf j) k → n ≤ 256 → at + n ≤ length j
   room-in at k n q l = let m = slot-in at k q in omega arith
@@ -374,4 +410,4 @@ unfolding past
 length-past j h =
     length-part _ 256 j (slot-in j (formatOf (length j)) h refl (placeOf (slotsOf j) (firstOf j) (keptOf j - 1 - 0)) (keptOf j - 1 - 0) refl)
 
-pub ruleset journal-needs = (in-journal, some-in, first-in, kept-in, slot-in, room-in, lit<)
+pub ruleset journal-needs = (in-journal, some-in, first-in, kept-in, kept-byte, newest-few, any-few, slot-in, end-in, room-in, lit<)

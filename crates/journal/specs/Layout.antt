@@ -1,7 +1,7 @@
 -- The journal's bytes: a header of 1,024, then a ring of slots of 256 bytes for the records. docs/JOURNAL.md has it byte by byte.
-use Prim.Native.Nat.{ℕ, _+_, _*_, _-_, _/_, _%_, min}
+use Prim.Native.Nat.{ℕ, zero, suc, _+_, _*_, _-_, _/_, _%_, min}
 use mathlib.Core.Bool.{Bool, not, cond, _&&_}
-use mathlib.Core.List.{List, [], _∷_}
+use mathlib.Core.List.{List, [], _∷_, _++_}
 use lib.ListN.{length, getD, set}
 use lib.Dec.{eqb, leb, ltb}
 use Rattle.bits.specs.Table.{Row, row, look}
@@ -23,9 +23,15 @@ sizeOf f = headerBytes + slotBytes * f .slots
 abbrev pub sized : Format → Row Format
 sized f = row (sizeOf f) f
 
--- THE FORMATS THAT ARE KNOWN, found by a journal's length. 17,408 bytes: 64 records, version 1.
+-- THE FORMATS THAT ARE KNOWN, found by a journal's length. 17,408 bytes: 64 records, version 1. 52,224 bytes: 200 records, version 2.
+abbrev pub small : Format
+small = record { slots = 64; version = 1 }
+
+abbrev pub large : Format
+large = record { slots = 200; version = 2 }
+
 abbrev pub formats : List (Row Format)
-formats = sized (record { slots = 64; version = 1 }) ∷ []
+formats = sized small ∷ sized large ∷ []
 
 -- of bytes that no row is as long as: one without slots
 abbrev pub noFormat : Format
@@ -67,21 +73,38 @@ wellFormed j =
     && ltb (firstOf j) (f .slots)
     && leb (keptOf j) (f .slots))
 
+-- What the enlarging call takes: a journal of the small size.
+unfoldable pub isSmall : List ℕ → Bool
+isSmall j = eqb (length j) (sizeOf small) && wellFormed j
+
 -- ---- the ring
 
 -- where the slot stands that is k slots after the first
 abbrev pub placeOf : (slots first k : ℕ) → ℕ
 placeOf slots first k = headerBytes + slotBytes * ((first + k) % slots)
 
+-- the slot of the k-th oldest record: the oldest is 0
+abbrev pub slotOf : List ℕ → ℕ → List ℕ
+slotOf j k = part (placeOf (slotsOf j) (firstOf j) k) slotBytes j
+
 -- the slot of the i-th newest record: the newest is 0
 unfoldable pub past : List ℕ → ℕ → List ℕ
-past j i = part (placeOf (slotsOf j) (firstOf j) (keptOf j - 1 - i)) slotBytes j
+past j i = slotOf j (keptOf j - 1 - i)
+
+-- the slots of the k oldest records, the oldest first, one behind the other
+unfoldable pub oldest : ℕ → List ℕ → List ℕ
+oldest zero j = []
+oldest (suc k) j = oldest k j ++ slotOf j k
 
 -- ---- what is written
 
--- An empty journal: the header's seven bytes are written, no other.
+-- The header's seven bytes, no other: those of the length's own format, of a ring that starts at its first slot.
+abbrev pub headed : ℕ → List ℕ → List ℕ
+headed kept j = put 0 (header (formatOf (length j)) 0 kept) j
+
+-- An empty journal.
 unfoldable pub emptied : List ℕ → List ℕ
-emptied j = put 0 (header (formatOf (length j)) 0 0) j
+emptied j = headed 0 j
 
 -- A record more: in the slot after the newest, which in a full ring is the oldest's, so that the ring then starts one slot later.
 abbrev pub firstAfter : (slots first kept : ℕ) → ℕ
@@ -99,3 +122,7 @@ pushed r j =
 -- The newest record given up: the kept number goes down by one, no other byte changes.
 unfoldable pub lowered : List ℕ → List ℕ
 lowered j = set j 6 (keptOf j - 1)
+
+-- An enlarged journal: a second buffer that holds the same records, in their order, from its first slot on. No other byte of it changes.
+unfoldable pub enlarged : List ℕ → List ℕ → List ℕ
+enlarged j second = headed (keptOf j) (put headerBytes (oldest (keptOf j) j) second)

@@ -5,19 +5,19 @@ mod records;
 use channels::groups::Group;
 ghost use mathlib.Core.Path.{_≡_};
 ghost use mathlib.Core.Bool.{true, false, cond};
-ghost use Prim.Native.Nat.{_+_, _-_, _<_, _≤_};
+ghost use Prim.Native.Nat.{_+_, _-_, _%_, _<_, _≤_};
 ghost use lib.ListN.{length};
+ghost use Rattle.parts.specs.Parts.{put};
 ghost use Rattle.state.specs.Bytes.{stateSize};
-ghost use Rattle.journal.specs.Layout.{formatOf, slotsOf, wrongLength, firstOf, keptOf, wellFormed, placeOf, firstAfter, keptUp, past, emptied, pushed, lowered};
+ghost use Rattle.journal.specs.Layout.{headerBytes, formatOf, slotsOf, wrongLength, firstOf, keptOf, wellFormed, isSmall, placeOf, past};
+ghost use Rattle.journal.specs.Layout.{headed, emptied, firstAfter, keptUp, pushed, lowered, oldest, enlarged};
 ghost use Rattle.journal.specs.Inner.{recordMost};
 ghost use Rattle.journal.specs.Record.{coreBytes, recordOf, keptFor, restored, sound};
 
-// The one format known: its length, slots and version.
-pub const SIZE: usize = 17408;
+// The bytes of a small journal and of a large one.
+pub const SMALL: usize = 17408;
 
-const SLOTS: u8 = 64;
-
-const VERSION: u16 = 1;
+pub const LARGE: usize = 52224;
 
 const HEADER_BYTES: usize = 1024;
 
@@ -41,20 +41,32 @@ struct Format {
     version: u16,
 }
 
+const OF_SMALL: Format = Format {
+    slots: 64,
+    version: 1,
+};
+
+const OF_LARGE: Format = Format {
+    slots: 200,
+    version: 2,
+};
+
+const NONE: Format = Format {
+    slots: 0,
+    version: 0,
+};
+
 // The format of as many bytes; one without slots where there is none.
 fn format_of(size: usize) -> Format
     ensures { λ r. ⌜ r ≡ formatOf size ⌝ }
 {
-    if size == SIZE {
-        return Format {
-            slots: SLOTS,
-            version: VERSION,
-        };
+    if size == SMALL {
+        return OF_SMALL;
     }
-    Format {
-        slots: 0,
-        version: 0,
+    if size == LARGE {
+        return OF_LARGE;
     }
+    NONE
 }
 
 // No journal has this length.
@@ -83,24 +95,53 @@ pub fn is_well_formed(j: &[u8]) -> bool
     m0 & m1 & m2 & v0 & v1 & first & kept
 }
 
+// A journal of the small size, well formed.
+pub fn is_small(j: &[u8]) -> bool
+    ensures { λ r. ⌜ r ≡ isSmall (now (j .entry)) ⌝ }
+{
+    if j.len() == SMALL {
+        return is_well_formed(j);
+    }
+    false
+}
+
+// Writes the header of a ring that starts at its first slot.
+fn head(j: &mut [u8], kept: u8)
+    requires { ⌜ wrongLength (now j) ≡ false ⌝ }
+    ensures { λ _. ⌜ now (j .exit) ≡ headed kept (now (j .entry)) ⌝ }
+{
+    let f = format_of(j.len());
+    let v0 = (f.version % 256) as u8;
+    let v1 = (f.version / 256) as u8;
+    let header = [MARK0, MARK1, MARK2, v0, v1, 0, kept];
+    parts::store(j, 0, &header);
+}
+
 // Makes a journal empty, whatever it held.
 pub fn empty(j: &mut [u8])
     requires { ⌜ wrongLength (now j) ≡ false ⌝ }
     ensures { λ _. ⌜ now (j .exit) ≡ emptied (now (j .entry)) ⌝ }
 {
-    let f = format_of(j.len());
-    let v0 = (f.version % 256) as u8;
-    let v1 = (f.version / 256) as u8;
-    let header = [MARK0, MARK1, MARK2, v0, v1, 0, 0];
-    parts::store(j, 0, &header);
+    head(j, 0);
+}
+
+// The slot that is k after the first, round the ring.
+fn slot_after(slots: u8, first: u8, k: u8) -> u8
+    requires { ⌜ first < slots ⌝ }
+    requires { ⌜ k ≤ slots ⌝ }
+    ensures { λ r. ⌜ r ≡ (first + k) % slots ⌝ }
+{
+    let ahead = slots - first;
+    if k < ahead { first + k } else { k - ahead }
 }
 
 // Where the slot stands that is k slots after the first.
 fn place(slots: u8, first: u8, k: u8) -> usize
-    requires { ⌜ 0 < slots ⌝ }
+    requires { ⌜ first < slots ⌝ }
+    requires { ⌜ k ≤ slots ⌝ }
     ensures { λ r. ⌜ r ≡ placeOf slots first k ⌝ }
 {
-    HEADER_BYTES + SLOT_BYTES * (((first as usize) + (k as usize)) % (slots as usize))
+    HEADER_BYTES + SLOT_BYTES * (slot_after(slots, first, k) as usize)
 }
 
 fn first_after(slots: u8, first: u8, kept: u8) -> u8
@@ -108,7 +149,7 @@ fn first_after(slots: u8, first: u8, kept: u8) -> u8
     ensures { λ r. ⌜ r ≡ firstAfter slots first kept ⌝ }
 {
     if kept == slots {
-        (first + 1) % slots
+        slot_after(slots, first, 1)
     } else {
         first
     }
@@ -183,4 +224,35 @@ pub fn lower(j: &mut [u8])
 {
     let kept = j[KEPT];
     j[KEPT] = kept - 1;
+}
+
+// Copies the kept records into a second buffer's slots, the oldest into the first.
+fn copy_kept(j: &[u8], second: &mut [u8])
+    requires { ⌜ wellFormed (now j) ≡ true ⌝ }
+    requires { ⌜ wrongLength (now second) ≡ false ⌝ }
+    requires { ⌜ keptOf (now j) ≤ slotsOf (now second) ⌝ }
+    ensures { λ _. ⌜ now (second .exit) ≡ put headerBytes (oldest (keptOf (now (j .entry))) (now (j .entry))) (now (second .entry)) ⌝ }
+{
+    let f = format_of(j.len());
+    let first = j[FIRST];
+    let kept = j[KEPT];
+    let mut k: u8 = 0;
+    while k < kept {
+        let from = place(f.slots, first, k);
+        let end = from + SLOT_BYTES;
+        let to = HEADER_BYTES + SLOT_BYTES * (k as usize);
+        parts::store(second, to, &j[from..end]);
+        k += 1;
+    }
+}
+
+// Makes a second buffer a journal of its own size with the same records kept.
+pub fn enlarge(j: &[u8], second: &mut [u8])
+    requires { ⌜ wellFormed (now j) ≡ true ⌝ }
+    requires { ⌜ wrongLength (now second) ≡ false ⌝ }
+    requires { ⌜ keptOf (now j) ≤ slotsOf (now second) ⌝ }
+    ensures { λ _. ⌜ now (second .exit) ≡ enlarged (now (j .entry)) (now (second .entry)) ⌝ }
+{
+    copy_kept(j, second);
+    head(second, j[KEPT]);
 }

@@ -6,6 +6,7 @@ use lib.ListN.{take, replicate}
 use lib.Dec.{eqb}
 use Rattle.numbers.specs.Numbers as numbers
 use Rattle.state.specs.Bytes.{stateSize}
+use Rattle.journal.specs.Layout.{sizeOf, large}
 use Rattle.adapter.specs.Calls.{Outcome, outcome, plain, called, steppedBack, keptIn, created, madeEmpty}
 use Rattle.listing.specs.Characters.{lineFeed}
 use Rattle.listing.specs.Line.{Line, happens, back, unreadable, read}
@@ -63,9 +64,9 @@ chipId = 0x00000A
 abbrev pub newState : List ℕ
 newState = created (replicate stateSize 0) chipId .bytes
 
--- a journal of 17,408 bytes that the emptying call made of zeros
+-- a large journal that the emptying call made of zeros
 abbrev pub emptyJournal : List ℕ
-emptyJournal = madeEmpty (replicate 17408 0) .bytes
+emptyJournal = madeEmpty (replicate (sizeOf large) 0) .bytes
 
 unfoldable pub played : List ℕ → List ℕ
 played input = answers newState emptyJournal (linesFrom [] input)

@@ -28,7 +28,7 @@ use Rattle.chip.specs.Frame.{isResetFrame, commanded, numbered, carried, addres
 use Rattle.chip.specs.Chip.{reaction, onSample}
 use Rattle.batch.specs.declared.Sample.{Sample}
 use Rattle.batch.specs.Batch.{eventOf, linesIn, someWrong, wrongList}
-use Rattle.promises.specs.Runs.{Call, event, batch, back, empty, Given, Calls, SamplesOfTypes, AllOfTheirTypes, Run, left, batchRefused}
+use Rattle.promises.specs.Runs.{Call, event, batch, back, empty, enlarge, Given, Calls, SamplesOfTypes, AllOfTheirTypes, Run, left, batchRefused}
 use Rattle.promises.specs.Runs.{dueState, dueFrames, dueBatch, Demand3}
 use Rattle.promises.specs.Ours.{Handed, handed, givesOurs, leavesOurs, ours}
 use Rattle.promises.specs.Table.{F}
@@ -189,12 +189,14 @@ stopping-gives p (event e o) = givesOurs p (event e o)
 stopping-gives p (batch list o) = givesOurs p (batch (upToFrame (stateIn (p .state)) list) o)
 stopping-gives p back = givesOurs p back
 stopping-gives p empty = givesOurs p empty
+stopping-gives p (enlarge second) = givesOurs p (enlarge second)
 
 stopping-leaves : Handed → Call → Handed
 stopping-leaves p (event e o) = leavesOurs p (event e o)
 stopping-leaves p (batch list o) = leavesOurs p (batch (upToFrame (stateIn (p .state)) list) o)
 stopping-leaves p back = leavesOurs p back
 stopping-leaves p empty = leavesOurs p empty
+stopping-leaves p (enlarge second) = leavesOurs p (enlarge second)
 
 pub stopping : Calls
 stopping =
@@ -228,6 +230,7 @@ lumping-leaves p (event e o) = leavesOurs p (event e o)
 lumping-leaves p (batch list o) = handed (leavesOurs p (batch list o) .state) (leavesOurs p (batch (take 1 list) o) .journal)
 lumping-leaves p back = leavesOurs p back
 lumping-leaves p empty = leavesOurs p empty
+lumping-leaves p (enlarge second) = leavesOurs p (enlarge second)
 
 pub lumping : Calls
 lumping = record { Pair = Handed; start = ours .start; gives = givesOurs; leaves = lumping-leaves; state = ours .state; kept = ours .kept }
@@ -251,6 +254,7 @@ silent-gives p (batch list o) =
     record { number = g .number; port = g .port; length = g .length; frames = g .frames; sum = allFiring (stateIn (p .state)) list; output = g .output }
 silent-gives p back = givesOurs p back
 silent-gives p empty = givesOurs p empty
+silent-gives p (enlarge second) = givesOurs p (enlarge second)
 
 pub counting-all : Calls
 counting-all = record { Pair = Handed; start = ours .start; gives = silent-gives; leaves = leavesOurs; state = ours .state; kept = ours .kept }

@@ -8,7 +8,7 @@ use mathlib.Core.Logic.{_⊎_, inl, inr}
 use native.Mathlib.Omega.{arith}
 use lib.ListN.{length}
 use lib.Dec.{eqb, ltb, leb}
-use borrow.Author.Tests.{leb-true, ltb-false, not-false}
+use borrow.Author.Tests.{eqb-true, leb-true, ltb-false, not-false}
 use Rattle.numbers.specs.Numbers as number
 use Rattle.bits.proofs.Tests.{and-left, and-right, or-second, cond-cases, either}
 use Rattle.parts.specs.Parts.{put}
@@ -22,12 +22,12 @@ use Rattle.receiver.specs.Receive as receive
 use Rattle.state.specs.State.{powerOn}
 use Rattle.state.specs.Bytes.{stateSize, stateBytes, isState}
 use Rattle.chip.specs.Event.{Event}
-use Rattle.journal.specs.Layout.{wrongLength, wellFormed, keptOf, past, emptied, lowered}
+use Rattle.journal.specs.Layout.{wrongLength, wellFormed, isSmall, keptOf, past, emptied, lowered, enlarged}
 use Rattle.journal.specs.Record.{restored, sound}
 use Rattle.adapter.specs.declared.Verdict.{Verdict}
 use Rattle.adapter.specs.declared.Verdict.the-variants.{Refused, Passed}
 use Rattle.adapter.specs.Refusals.{wrongArgument, wrongBody, inOrder, verdict, backVerdict}
-use Rattle.adapter.specs.Calls.{Made, made, created, madeEmpty, Outcome, outcome, plain, done, judged, called, Stepped, stepped, judgedBack, steppedBack}
+use Rattle.adapter.specs.Calls.{Made, made, created, madeEmpty, Copied, copied, madeLarge, Outcome, outcome, plain, done, judged, called, Stepped, stepped, judgedBack, steppedBack}
 use Rattle.adapter.proofs.Cases.{unrefused}
 use Rattle.batch.specs.declared.Sample.{Sample}
 use Rattle.batch.specs.Batch as batches
@@ -134,6 +134,14 @@ module _ (s j : List ℕ) where
 pub empty-cases : (j : List ℕ) (P : Made → Type 0) → ((n : ℕ) → isRefusal n ≡ true → P (made n j)) → P (made 17 (emptied j)) → P (madeEmpty j)
 unfolding madeEmpty
 empty-cases j P refused done = either P (wrongLength j) _ _ (refused 4 refl) done
+
+pub enlarge-cases : (j second : List ℕ) (P : Copied → Type 0) → ((n : ℕ) → isRefusal n ≡ true → P (copied n j second))
+    → (isSmall j ≡ true → length second ≡ 52224 → P (copied 17 j (enlarged j second))) → P (madeLarge j second)
+unfolding madeLarge
+enlarge-cases j second P refused done =
+    cond-cases P (not (isSmall j)) (λ _. refused 4 refl)
+    (λ small. cond-cases P (not (eqb (length second) 52224)) (λ _. refused 1 refl)
+    (λ size. done (not-false _ small) (eqb-true (length second) 52224 (not-false _ size))))
 
 pub create-cases : (s : List ℕ) (id : ℕ) (P : Made → Type 0) → ((n : ℕ) → isRefusal n ≡ true → P (made n s))
     → (id ≤ 0xFFFFFF → P (made 17 (stateBytes (powerOn id)))) → P (created s id)

@@ -29,13 +29,13 @@ use Rattle.listing.specs.Answer.{decimal, frameText, answerText}
 use Rattle.player.specs.Play as Listing
 use Rattle.player.specs.Play.{linesFrom}
 use Rattle.batch.specs.declared.Sample.{Sample}
-use Rattle.promises.specs.Runs.{Call, event, batch, back, empty, SamplesOfTypes, AllOfTheirTypes, atStart}
+use Rattle.promises.specs.Runs.{Call, event, batch, back, empty, enlarge, SamplesOfTypes, AllOfTheirTypes, atStart}
 use Rattle.promises.specs.Ours.{ours}
 use Rattle.promises.specs.Text.{text}
 use Rattle.promises.specs.Table.{listing, listingOutput, inputText, outputText, request, Give, everything, everythingOutput, Table}
 use Rattle.bits.proofs.Tests.{both, and-left, and-right}
 use Rattle.promises.proofs.Runs.{demand3}
-use Rattle.promises.proofs.Formats.{slots-64, any-17408}
+use Rattle.promises.proofs.Formats.{slots-200, any-52224}
 use Rattle.promises.proofs.Lines.{textLines, lines-told}
 use Rattle.promises.proofs.Text.{ofLine, joined, Says, none, happens, steps, answers-text}
 
@@ -70,6 +70,7 @@ literal (event upset o ∷ ks) = literal ks
 literal (batch list o ∷ ks) = words list && literal ks
 literal (back ∷ ks) = literal ks
 literal (empty ∷ ks) = literal ks
+literal (enlarge second ∷ ks) = literal ks
 
 pub typed : (ks : List Call) → literal ks ≡ true → AllOfTheirTypes ks
 unfolding literal
@@ -82,14 +83,15 @@ typed (event upset o ∷ ks) h = (tt, typed ks h)
 typed (batch list o ∷ ks) h = let b = both (words list) (literal ks) h in (typed-samples list (b .0), typed ks (b .1))
 typed (back ∷ ks) h = (tt, typed ks h)
 typed (empty ∷ ks) h = (tt, typed ks h)
+typed (enlarge second ∷ ks) h = (tt, typed ks h)
 
-listing-text : textLines 0x00000A (atStart 64) listing ≡ listingOutput
+listing-text : textLines 0x00000A (atStart 200) listing ≡ listingOutput
 unfolding
     reaction onFrame addressed commanded carried numbered requested replied performed decoded replies poweredOn isResetFrame put channelOf codeOf
     read store zeroed held heldAll part number digits bank masterControl masterBit marked
 listing-text = refl
 
-everything-text : textLines 0x00000A (atStart 64) everything ≡ everythingOutput
+everything-text : textLines 0x00000A (atStart 200) everything ≡ everythingOutput
 unfolding
     reaction onFrame addressed commanded carried numbered requested replied performed decoded replies onSample onUpset poweredOn isResetFrame put
     channelOf codeOf read store zeroed held heldAll interrupts sampled datainAfter firingLines word part number digits bank masterControl masterBit marked
@@ -109,16 +111,16 @@ unfolding joined ofLine answerText decimal frameText hexText hexDigit text
 listing-joined = refl
 
 -- the answers due to calls are the lines that the delivered calls give
-give : (calls : List Call) (output : List (List ℕ)) → literal calls ≡ true → textLines 0x00000A (atStart 64) calls ≡ output → Give calls output
+give : (calls : List Call) (output : List (List ℕ)) → literal calls ≡ true → textLines 0x00000A (atStart 200) calls ≡ output → Give calls output
 give calls output t e b size =
-    lines-told ours demand3 0x00000A (lit≤ tt) b (any-17408 b size) calls (typed calls t)
-    ∙ ap (λ (most : ℕ). textLines 0x00000A (atStart most) calls) (slots-64 b size) ∙ e
+    lines-told ours demand3 0x00000A (lit≤ tt) b (any-52224 b size) calls (typed calls t)
+    ∙ ap (λ (most : ℕ). textLines 0x00000A (atStart most) calls) (slots-200 b size) ∙ e
 
 eight-text : Listing.played (text inputText) ≡ text outputText
 unfolding Listing.played literal below
 eight-text =
     answers-text listing-says _ _
-    ∙ ap joined (give listing listingOutput refl listing-text (replicate 17408 0) (length-replicate {A = ℕ} 17408 0))
+    ∙ ap joined (give listing listingOutput refl listing-text (replicate 52224 0) (length-replicate {A = ℕ} 52224 0))
     ∙ listing-joined
 
 -- THE TABLE HOLDS.

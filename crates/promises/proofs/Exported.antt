@@ -26,7 +26,7 @@ use Rattle.adapter.specs.declared.Answer.{Answer}
 use Rattle.adapter.specs.declared.KeptNumber.{KeptNumber}
 use Rattle.adapter.specs.declared.Verdict.the-variants.{Passed}
 use Rattle.adapter.specs.Refusals.{wrongArgument, wrongBody, verdict}
-use Rattle.adapter.specs.Calls.{created, madeEmpty, keptIn, called, done, steppedBack}
+use Rattle.adapter.specs.Calls.{created, madeEmpty, keptIn, madeLarge, called, done, steppedBack}
 use Rattle.adapter.proofs.Cases.{passing, body-short}
 use Rattle.batch.specs.declared.Sample.{Sample}
 use Rattle.batch.specs.declared.Batch.{Batch}
@@ -34,11 +34,11 @@ use Rattle.batch.specs.Batch.{Course, onward, oneByOne}
 use Rattle.batch.specs.Batch as batches
 use Rattle.batch.proofs.Course.{port-in, one-more}
 use Rattle.sca.specs.Adapter.{packAnswer, packKept, packBatch}
-use Rattle.promises.specs.Runs.{Call, event, batch, back, empty, Given, Run, left, bare, batchGiven, isRefusal, refuses, Demand3}
+use Rattle.promises.specs.Runs.{Call, event, batch, back, empty, enlarge, Given, Run, left, bare, batchGiven, isRefusal, refuses, Demand3}
 use Rattle.promises.specs.Ours.{Handed, given, givesOurs, ours, unpacked, unpackedKept, givesExported, exported}
 use Rattle.promises.proofs.Runs.{demand3}
 use Rattle.promises.proofs.Steps.{split}
-use Rattle.promises.proofs.Cases.{refusal-most, event-cases, batch-cases, batch-passing, back-cases, empty-cases, create-cases}
+use Rattle.promises.proofs.Cases.{refusal-most, event-cases, batch-cases, batch-passing, back-cases, empty-cases, enlarge-cases, create-cases}
 
 -- ---- packing loses nothing
 
@@ -205,6 +205,9 @@ back-number s j = back-cases s j (λ x. x .number < 256) refusal-small (λ _ _ _
 pub empty-number : (j : List ℕ) → madeEmpty j .number < 256
 empty-number j = empty-cases j (λ m. m .number < 256) refusal-small (lit< tt)
 
+pub enlarge-number : (j second : List ℕ) → madeLarge j second .number < 256
+enlarge-number j second = enlarge-cases j second (λ x. x .number < 256) refusal-small (λ _ _. lit< tt)
+
 pub create-number : (s : List ℕ) (id : ℕ) → created s id .number < 256
 create-number s id = create-cases s id (λ m. m .number < 256) refusal-small (λ _. lit< tt)
 
@@ -221,6 +224,7 @@ gives-same p (batch list o) =
     unpacked-batch (x .answer) (x .output) (batch-small (p .state) (p .journal) list o)
 gives-same p back = unpacked-number (steppedBack (p .state) (p .journal) .number) (back-number (p .state) (p .journal))
 gives-same p empty = unpacked-number (madeEmpty (p .journal) .number) (empty-number (p .journal))
+gives-same p (enlarge second) = unpacked-number (madeLarge (p .journal) second .number) (enlarge-number (p .journal) second)
 
 pub kept-same : (j : List ℕ) → unpackedKept (packKept (keptIn j)) ≡ keptIn j
 unfolding keptIn
@@ -231,7 +235,7 @@ kept-same j =
 pub demand3-exported : Demand3 exported
 demand3-exported =
     record {
-      undamaged = λ r k. rw (gives-same (left ours r) k) (demand3 .undamaged r k);
+      undamaged = λ r k h. rw (gives-same (left ours r) k) (demand3 .undamaged r k h);
       state = λ r. demand3 .state r;
       reply = λ r e output. gives-same (left ours r) (event e output) ∙ demand3 .reply r e output;
       batch-reply = λ r list output. gives-same (left ours r) (batch list output) ∙ demand3 .batch-reply r list output;
@@ -241,6 +245,7 @@ demand3-exported =
           let d = demand3 .refused-at-zero r (sym (same r) ∙ z) in (gives-same (left ours r) back ∙ d .0, d .1);
       kept = λ r. kept-same (left ours r .journal) ∙ demand3 .kept r;
       empties = λ r. gives-same (left ours r) empty ∙ demand3 .empties r;
+      enlarges = λ r second. gives-same (left ours r) (enlarge second) ∙ demand3 .enlarges r second;
       unchanged = λ r k h.
           let d = demand3 .unchanged r k (ap refuses (sym (gives-same (left ours r) k)) ∙ h) in
           (d .0, ap (λ (g : Given). g .output) (gives-same (left ours r) k) ∙ d .1);

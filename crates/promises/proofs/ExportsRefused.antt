@@ -15,7 +15,7 @@ use Rattle.wire.specs.Bits.{wire}
 use Rattle.receiver.specs.declared.Receiver.{Receiver}
 use Rattle.receiver.specs.Receiver.{view}
 use Rattle.receiver.specs.Receive.{received}
-use Rattle.adapter.specs.Calls.{Outcome, created, madeEmpty, called, steppedBack, stepped}
+use Rattle.adapter.specs.Calls.{Outcome, created, madeEmpty, copied, madeLarge, called, steppedBack, stepped}
 use Rattle.batch.specs.declared.Sample.{Sample}
 use Rattle.batch.specs.Batch as batches
 use Rattle.sca.specs.Adapter.{left, packAnswer, packed, packBatch, packedBatch}
@@ -23,11 +23,11 @@ use Rattle.sca.specs.Link.{receiverBytes, receiverOf, transmitResult, transmitO
 use Rattle.sca.proofs.Spelling.{spelled-again}
 use Rattle.promises.specs.Runs.{isRefusal}
 use Rattle.promises.specs.Ours.{resultNumber}
-use Rattle.promises.proofs.Exported.{refusal-small, its-number, called-number, batch-number, back-number, create-number, empty-number}
+use Rattle.promises.proofs.Exported.{refusal-small, its-number, called-number, batch-number, back-number, create-number, empty-number, enlarge-number}
 use Rattle.promises.proofs.Steps.{split}
 use Rattle.promises.proofs.Cases.{transmit-cases, receive-cases}
-use Rattle.promises.proofs.Refused.{event-unchanged, batch-unchanged, back-unchanged, create-unchanged, empty-unchanged, transmit-unchanged}
-use Rattle.promises.proofs.Refused.{reading-number, receive-unchanged}
+use Rattle.promises.proofs.Refused.{event-unchanged, batch-unchanged, back-unchanged, create-unchanged, empty-unchanged, enlarge-unchanged}
+use Rattle.promises.proofs.Refused.{transmit-unchanged, reading-number, receive-unchanged}
 
 -- ---- the adapter's calls
 
@@ -60,6 +60,11 @@ create-keeps s id h = create-unchanged s id (ap isRefusal (sym (mod-eq-of-lt (cr
 -- sca_empty
 pub empty-keeps : (journal : List ℕ) → isRefusal (resultNumber (madeEmpty journal .number)) ≡ true → madeEmpty journal .bytes ≡ journal
 empty-keeps journal h = empty-unchanged journal (ap isRefusal (sym (mod-eq-of-lt (empty-number journal))) ∙ h)
+
+-- sca_enlarge
+pub enlarge-keeps : (journal second : List ℕ) → isRefusal (resultNumber (madeLarge journal second .number)) ≡ true
+    → madeLarge journal second ≡ copied (madeLarge journal second .number) journal second
+enlarge-keeps journal second h = enlarge-unchanged journal second (ap isRefusal (sym (mod-eq-of-lt (enlarge-number journal second))) ∙ h)
 
 -- ---- the link's calls
 

@@ -1,9 +1,9 @@
 -- THE KEPT NUMBER, for any calls that meet demand 3, in the words of the demand and of `kept` alone. Assumes nothing.
 use Prim.Native.Nat.{ℕ, _+_, _-_, min, _≤_}
-use mathlib.Core.Path.{_≡_, refl, sym, ap, ap₂, _∙_}
-use mathlib.Core.List.{List, [], _∷_, foldl, foldl-append}
-use mathlib.Core.Bool.{true, false}
-use mathlib.Core.Logic.{_↔_}
+use mathlib.Core.Path.{_≡_, refl, sym, ap, _∙_}
+use mathlib.Core.List.{List, [], _∷_, _++_, foldl, foldl-append}
+use mathlib.Core.Bool.{true, false, true≢false}
+use mathlib.Core.Logic.{_⊎_, inl, inr, ⊎-elim, _↔_}
 use native.Mathlib.Omega.{arith}
 use borrow.Author.Tests.{ne-eqb, eqb-true, eqb-false}
 use lib.Dec.{eqb}
@@ -14,10 +14,11 @@ use Rattle.chip.specs.Chip.{acceptedReset}
 use Rattle.journal.specs.Layout.{slotsOf}
 use Rattle.adapter.specs.declared.KeptNumber.{KeptNumber}
 use Rattle.batch.specs.declared.Sample.{Sample}
-use Rattle.promises.specs.Runs.{Call, event, batch, back, empty, Calls, Given, OfItsTypes, Run, left, refused, batchRefused, Standing, atStart}
-use Rattle.promises.specs.Runs.{keepsSample, keeps, standing, Demand3}
-use Rattle.promises.proofs.Formats.{always-64}
-use Rattle.promises.proofs.Runs.{most-standing, at-most-slots, at-most-64}
+use Rattle.promises.specs.Runs.{Call, event, batch, back, empty, enlarge, enlarging, Calls, Given, OfItsTypes, AllOfTheirTypes, Run, left}
+use Rattle.promises.specs.Runs.{refused, batchRefused, enlargeRefused, Standing, atStart, keepsSample, keeps, standing, Demand3}
+use Rattle.bits.proofs.Tests.{either}
+use Rattle.promises.proofs.Formats.{slots-64, slots-200, no-other-length}
+use Rattle.promises.proofs.Runs.{at-most-most}
 use Rattle.promises.proofs.Standing.{typed-more, further}
 use Rattle.promises.proofs.Steps.{split}
 
@@ -36,12 +37,12 @@ pub record KeptRule (c : Calls) : Type 0 where
   -- and after an accepted RESET,
   pub after-reset : (r : Run) (e : Event) (o : List ℕ) → OfItsTypes (event e o) → refused e o ≡ false → acceptedReset e ≡ true
       → keptThen c r (event e o) ≡ 0
-  -- goes up by one with each other event not refused, to at most 64 [the slots of the run's bytes: `up-to-64`],
+  -- goes up by one with each other event not refused, to at most 64 [or 200, as the journal's size is by then: `up-to-64`, `up-to-200`],
   pub up : (r : Run) (e : Event) (o : List ℕ) → OfItsTypes (event e o) → refused e o ≡ false → acceptedReset e ≡ false
-      → keptThen c r (event e o) ≡ min (slotsOf (r .bytes)) (keptAfter c r + 1)
+      → keptThen c r (event e o) ≡ min (standing r .most) (keptAfter c r + 1)
   -- [so with each sample of a batch not refused,]
   pub up-by-samples : (r : Run) (list : List Sample) (o : List ℕ) → OfItsTypes (batch list o) → batchRefused list o ≡ false
-      → keptThen c r (batch list o) ≡ min (slotsOf (r .bytes)) (keptAfter c r + length list)
+      → keptThen c r (batch list o) ≡ min (standing r .most) (keptAfter c r + length list)
   -- and down by one with each step granted."
   pub down : (r : Run) → (keptAfter c r ≡ 0 → ⊥) → keptThen c r back ≡ keptAfter c r - 1
   -- A refused event leaves it.
@@ -49,6 +50,8 @@ pub record KeptRule (c : Calls) : Type 0 where
   -- So does a refused batch.
   pub batch-stays : (r : Run) (list : List Sample) (o : List ℕ) → OfItsTypes (batch list o) → batchRefused list o ≡ true
       → keptThen c r (batch list o) ≡ keptAfter c r
+  -- An enlarging, refused or not: "the kept number staying as it was".
+  pub through-enlarging : (r : Run) (second : List ℕ) → keptThen c r (enlarge second) ≡ keptAfter c r
 
 -- along the samples of a batch
 samples-number : (list : List Sample) (s : Standing) → s .number ≤ s .most → foldl keepsSample s list .number ≡ min (s .most) (s .number + length list)
@@ -73,25 +76,109 @@ kept-rule c d =
       at-start = λ r h. number-after c d r ∙ rw h refl;
       after-emptying = λ r. number-then c d r empty tt;
       after-reset = λ r e o t h q. number-then c d r (event e o) t ∙ simp (h, q);
-      up = λ r e o t h q. number-then c d r (event e o) t ∙ simp (h, q) (ap₂ (λ (m n : ℕ). min m (n + 1)) (most-standing r) (sym (number-after c d r)));
+      up = λ r e o t h q. number-then c d r (event e o) t ∙ simp (h, q) (ap (λ (n : ℕ). min (standing r .most) (n + 1)) (sym (number-after c d r)));
       up-by-samples = λ r list o t h.
-          let few : standing r .number ≤ standing r .most = omega (arith, most-standing r, at-most-slots r) in
           number-then c d r (batch list o) t
-          ∙ simp h (samples-number list (standing r) few ∙ ap₂ (λ (m n : ℕ). min m (n + length list)) (most-standing r) (sym (number-after c d r)));
+          ∙ simp h (samples-number list (standing r) (at-most-most r) ∙ ap (λ (n : ℕ). min (standing r .most) (n + length list)) (sym (number-after c d r)));
       down = λ r z.
           let s : standing r .number ≡ 0 → ⊥ = λ q. z (number-after c d r ∙ q) in
           number-then c d r back tt ∙ simp (ne-eqb (standing r .number) 0 s) (ap (λ (n : ℕ). n - 1) (sym (number-after c d r)));
       stays = λ r e o t h. number-then c d r (event e o) t ∙ simp h (sym (number-after c d r));
       batch-stays = λ r list o t h. number-then c d r (batch list o) t ∙ simp h (sym (number-after c d r));
+      through-enlarging = λ r second.
+          number-then c d r (enlarge second) tt
+          ∙ either (λ (s : Standing). s .number ≡ standing r .number) (enlargeRefused (standing r) second) _ _ refl refl ∙ sym (number-after c d r);
     }
 
--- TO AT MOST 64.
-pub up-to-64 : (c : Calls) → Demand3 c → (r : Run) (e : Event) (o : List ℕ) → OfItsTypes (event e o) → refused e o ≡ false → acceptedReset e ≡ false
-    → keptThen c r (event e o) ≡ min 64 (keptAfter c r + 1)
-up-to-64 c d r e o t h q = kept-rule c d .up r e o t h q ∙ ap (λ (m : ℕ). min m (keptAfter c r + 1)) (always-64 (r .bytes) (r .size))
+-- ---- how far it goes up: 64 in a small journal, 200 in a large one
 
-pub never-over-64 : (c : Calls) → Demand3 c → (r : Run) → keptAfter c r ≤ 64
-never-over-64 c d r = let n = number-after c d r in omega (arith, at-most-64 r)
+samples-most : (list : List Sample) (s : Standing) → foldl keepsSample s list .most ≡ s .most
+samples-most [] s = refl
+samples-most (x ∷ list) s = samples-most list (keepsSample s x)
+
+-- any call but an enlarging leaves it
+most-left : (s : Standing) (k : Call) → enlarging k ≡ false → keeps s k .most ≡ s .most
+most-left s (event e o) h = either (λ (x : Standing). x .most ≡ s .most) (refused e o) _ _ refl refl
+most-left s (batch list o) h = either (λ (x : Standing). x .most ≡ s .most) (batchRefused list o) _ _ refl (samples-most list s)
+most-left s back h = either (λ (x : Standing). x .most ≡ s .most) (eqb (s .number) 0) _ _ refl refl
+most-left s empty h = refl
+most-left s (enlarge second) h = absurd (true≢false h)
+
+-- no call leads from 200 to another
+stays-200 : (s : Standing) (k : Call) → s .most ≡ 200 → keeps s k .most ≡ 200
+stays-200 s (event e o) h = most-left s (event e o) refl ∙ h
+stays-200 s (batch list o) h = most-left s (batch list o) refl ∙ h
+stays-200 s back h = most-left s back refl ∙ h
+stays-200 s empty h = most-left s empty refl ∙ h
+stays-200 s (enlarge second) h = either (λ (x : Standing). x .most ≡ 200) (enlargeRefused s second) _ _ h refl
+
+all-200 : (ks : List Call) (s : Standing) → s .most ≡ 200 → foldl keeps s ks .most ≡ 200
+all-200 [] s h = h
+all-200 (k ∷ ks) s h = all-200 ks (keeps s k) (stays-200 s k h)
+
+-- none of these calls enlarges
+abbrev pub NoneEnlarges : List Call → Type 0
+NoneEnlarges [] = Unit
+NoneEnlarges (k ∷ ks) = (enlarging k ≡ false) × NoneEnlarges ks
+
+all-left : (ks : List Call) (s : Standing) → NoneEnlarges ks → foldl keeps s ks .most ≡ s .most
+all-left [] s n = refl
+all-left (k ∷ ks) s n = all-left ks (keeps s k) (n .1) ∙ most-left s k (n .0)
+
+either-most : (ks : List Call) (s : Standing) → (s .most ≡ 64) ⊎ (s .most ≡ 200) → (foldl keeps s ks .most ≡ 64) ⊎ (foldl keeps s ks .most ≡ 200)
+either-most [] s h = h
+either-most (k ∷ ks) s (inr h) = inr (all-200 ks (keeps s k) (stays-200 s k h))
+either-most (k ∷ ks) s (inl h) =
+    either-most ks (keeps s k)
+    (split (enlarging k) (λ e. by k e) (λ e. inl (most-left s k e ∙ h)))
+  where
+    by : (k : Call) → enlarging k ≡ true → (keeps s k .most ≡ 64) ⊎ (keeps s k .most ≡ 200)
+    by (event e o) q = absurd (true≢false (sym q))
+    by (batch list o) q = absurd (true≢false (sym q))
+    by back q = absurd (true≢false (sym q))
+    by empty q = absurd (true≢false (sym q))
+    by (enlarge second) q = either (λ (x : Standing). (x .most ≡ 64) ⊎ (x .most ≡ 200)) (enlargeRefused s second) _ _ (inl h) (inr refl)
+
+module _ (r : Run) where
+  -- 64 from 17,408 bytes on, as long as nothing enlarges;
+  pub most-64 : length (r .bytes) ≡ 17408 → NoneEnlarges (r .calls) → standing r .most ≡ 64
+  most-64 h n = all-left (r .calls) (atStart (slotsOf (r .bytes))) n ∙ slots-64 (r .bytes) h
+
+  -- 200 from 52,224 bytes on;
+  pub most-200 : length (r .bytes) ≡ 52224 → standing r .most ≡ 200
+  most-200 h = all-200 (r .calls) (atStart (slotsOf (r .bytes))) (slots-200 (r .bytes) h)
+
+  -- 200 after an enlarging that is not refused, whatever is called then;
+  pub enlarged-200 : (second : List ℕ) → enlargeRefused (standing r) second ≡ false → (ks : List Call) (t : AllOfTheirTypes (r .calls ++ (enlarge second ∷ ks)))
+      → standing (further r (enlarge second ∷ ks) t) .most ≡ 200
+  unfolding further
+  enlarged-200 second h ks t =
+      ap (λ (s : Standing). s .most) (foldl-append keeps (atStart (slotsOf (r .bytes))) (r .calls) (enlarge second ∷ ks))
+      ∙ all-200 ks (keeps (standing r) (enlarge second)) (simp h)
+
+  -- and nothing else.
+  pub 64-or-200 : (standing r .most ≡ 64) ⊎ (standing r .most ≡ 200)
+  64-or-200 =
+      either-most (r .calls) (atStart (slotsOf (r .bytes)))
+      (⊎-elim (λ (h : length (r .bytes) ≡ 17408). inl (slots-64 (r .bytes) h)) (λ (h : length (r .bytes) ≡ 52224). inr (slots-200 (r .bytes) h))
+      (no-other-length (r .bytes) (r .size)))
+
+-- TO AT MOST 64 in a small journal, TO AT MOST 200 in a large one.
+module _ (c : Calls) (d : Demand3 c) (r : Run) where
+  module _ (e : Event) (o : List ℕ) (t : OfItsTypes (event e o)) (h : refused e o ≡ false) (q : acceptedReset e ≡ false) where
+    pub up-to-64 : standing r .most ≡ 64 → keptThen c r (event e o) ≡ min 64 (keptAfter c r + 1)
+    up-to-64 m = kept-rule c d .up r e o t h q ∙ ap (λ (n : ℕ). min n (keptAfter c r + 1)) m
+
+    pub up-to-200 : standing r .most ≡ 200 → keptThen c r (event e o) ≡ min 200 (keptAfter c r + 1)
+    up-to-200 m = kept-rule c d .up r e o t h q ∙ ap (λ (n : ℕ). min n (keptAfter c r + 1)) m
+
+  pub never-over-64 : standing r .most ≡ 64 → keptAfter c r ≤ 64
+  never-over-64 m = let n = number-after c d r in omega (arith, at-most-most r)
+
+  pub never-over-200 : keptAfter c r ≤ 200
+  never-over-200 =
+      let n = number-after c d r in
+      ⊎-elim (λ (m : standing r .most ≡ 64). omega (arith, at-most-most r)) (λ (m : standing r .most ≡ 200). omega (arith, at-most-most r)) (64-or-200 r)
 
 -- A STEP BACK IS REFUSED (5) EXACTLY WHEN THE KEPT NUMBER IS ZERO.
 pub refused-exactly : (c : Calls) → Demand3 c → (r : Run) → (c .gives (left c r) back .number ≡ number.noneKept) ↔ (keptAfter c r ≡ 0)

@@ -21,6 +21,8 @@ pub mod ExportsRefused
 pub mod Leaves
 pub mod Standing
 pub mod KeptNumber
+pub mod Enlarging
+pub mod EnlargingExamples
 pub mod Wire
 pub mod AllCases
 pub mod InParts

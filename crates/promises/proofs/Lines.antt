@@ -7,7 +7,7 @@ use lib.Dec.{eqb}
 use borrow.Author.Tests.{eqb-true, eqb-false}
 use Rattle.journal.specs.Layout.{slotsOf, wrongLength}
 use Rattle.adapter.specs.declared.KeptNumber.{KeptNumber}
-use Rattle.promises.specs.Runs.{Call, event, batch, back, empty, Calls, AllOfTheirTypes, Run, Standing, atStart, keeps, Demand3}
+use Rattle.promises.specs.Runs.{Call, event, batch, back, empty, enlarge, Calls, AllOfTheirTypes, Run, Standing, atStart, keeps, Demand3}
 use Rattle.promises.specs.Table.{line, lines}
 use Rattle.promises.proofs.Runs.{told}
 use Rattle.promises.proofs.Standing.{typed-more}
@@ -28,7 +28,7 @@ module _ (c : Calls) (d : Demand3 c) (id : ℕ) (id-fits : id ≤ 0xFFFFFF) (byt
   abbrev pub after : List Call → c .Pair
   after ks = foldl (c .leaves) (c .start id bytes) ks
 
-  gives-told : (ks : List Call) → AllOfTheirTypes ks → (k : Call) → c .gives (after ks) k ≡ told id (foldl keeps first ks) k
+  pub gives-told : (ks : List Call) → AllOfTheirTypes ks → (k : Call) → c .gives (after ks) k ≡ told id (foldl keeps first ks) k
   gives-told ks t (event e o) = d .reply (runOf ks t) e o
   gives-told ks t (batch list o) = d .batch-reply (runOf ks t) list o
   gives-told ks t back =
@@ -36,6 +36,7 @@ module _ (c : Calls) (d : Demand3 c) (id : ℕ) (id-fits : id ≤ 0xFFFFFF) (byt
       split (eqb (foldl keeps first ks .number) 0) (λ e. rw e (d .refused-at-zero (runOf ks t) (n ∙ eqb-true _ 0 e) .0))
       (λ e. rw e (d .takes-back (runOf ks t) (λ z. eqb-false _ 0 e (sym n ∙ z)) .0))
   gives-told ks t empty = d .empties (runOf ks t)
+  gives-told ks t (enlarge second) = d .enlarges (runOf ks t) second
 
   kept-told : (ks : List Call) → AllOfTheirTypes ks → c .kept (after ks) .kept ≡ foldl keeps first ks .number
   kept-told ks t = ap (λ (x : KeptNumber). x .kept) (d .kept (runOf ks t))

@@ -40,7 +40,7 @@ use Rattle.chip.specs.Request.{replies, requested}
 use Rattle.chip.specs.Frame.{reset, isResetFrame, commanded, numbered, carried, addressed, onFrame}
 use Rattle.chip.specs.Chip.{reaction, onI2c, transacted}
 use Rattle.chip.proofs.Examples.{fresh, after, run, Ask, ask, asked, told, left, Rows, write, read as reads}
-use Rattle.promises.specs.Runs.{Call, event, batch, back, empty, Given, Calls, Run, left as paired, Demand3}
+use Rattle.promises.specs.Runs.{Call, event, batch, back, empty, enlarge, Given, Calls, Run, left as paired, Demand3}
 use Rattle.promises.specs.Ours.{Handed, givesOurs, leavesOurs, ours}
 use Rattle.promises.proofs.Examples.{below, literal, typed}
 use Rattle.promises.proofs.ShutOut.{ran, output, numberOf}
@@ -175,6 +175,7 @@ hasty p (event upset o) = givesOurs p (event upset o)
 hasty p (batch list o) = givesOurs p (batch list o)
 hasty p back = givesOurs p back
 hasty p empty = givesOurs p empty
+hasty p (enlarge second) = givesOurs p (enlarge second)
 
 pub replying-at-once : Calls
 replying-at-once = record { Pair = Handed; start = ours .start; gives = hasty; leaves = leavesOurs; state = ours .state; kept = ours .kept }
@@ -199,6 +200,7 @@ neighbourly p (event e o) = givesOurs p (event (crossed e) o)
 neighbourly p (batch list o) = givesOurs p (batch list o)
 neighbourly p back = givesOurs p back
 neighbourly p empty = givesOurs p empty
+neighbourly p (enlarge second) = givesOurs p (enlarge second)
 
 pub answering-for-another : Calls
 answering-for-another =

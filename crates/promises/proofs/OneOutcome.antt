@@ -20,12 +20,13 @@ use Rattle.parts.proofs.Outcome.{One}
 use Rattle.transmitter.proofs as transmitter
 use Rattle.receiver.proofs as receiver
 use Rattle.sca.proofs as sca
-use Rattle.adapter.specs.Calls.{made, stepped}
+use Rattle.adapter.specs.Calls.{made, copied, stepped}
 use Rattle.sca.specs.Adapter.{Left, left}
 use Rattle.control_room.specs.Calls as rooms
 use Rattle.sca.specs.ControlRoom as room
--- the adapter's nine calls
-pub use Rattle.adapter.proofs.OneOutcome.{create-one, empty-one, kept-one, frame-one, completion-one, i2c-completion-one, sample-one, upset-one, step-back-one}
+-- the adapter's ten calls
+pub use Rattle.adapter.proofs.OneOutcome.{create-one, empty-one, kept-one, enlarge-one, frame-one, completion-one, i2c-completion-one, sample-one}
+pub use Rattle.adapter.proofs.OneOutcome.{upset-one, step-back-one}
 -- the control room's four
 pub use Rattle.control_room.proofs.OneOutcome.{new-record-one, request-one, reply-one, command-one}
 
@@ -65,6 +66,9 @@ sca-empty-one κs a x y s t p q = p ∙ sym q
 
 pub sca-kept-one : One 1 sca.sca_kept.Kinds.ps sca.sca_kept.Kinds.r sca.sca_kept.Reads.Post (λ κs x s. x)
 sca-kept-one κs a x y s t p q = p ∙ sym q
+
+pub sca-enlarge-one : One 2 sca.sca_enlarge.Kinds.ps sca.sca_enlarge.Kinds.r sca.sca_enlarge.Reads.Post (λ κs x s. copied x (now (s .0)) (now (s .1 .0)))
+sca-enlarge-one κs a x y s t p q = p ∙ sym q
 
 pub sca-frame-one : One 4 sca.sca_frame.Kinds.ps sca.sca_frame.Kinds.r sca.sca_frame.Reads.Post (λ κs x s. left x (now (s .0)) (now (s .1 .0)) (now (s .1 .1 .1 .1 .0)))
 sca-frame-one κs a x y s t p q = p ∙ sym q

@@ -16,13 +16,13 @@ use Rattle.receiver.specs.declared.Receiver.{Receiver}
 use Rattle.state.specs.Bytes.{linkOf, stateIn}
 use Rattle.chip.specs.Event.{Event}
 use Rattle.chip.proofs.Laws.{number-given}
-use Rattle.adapter.specs.Calls.{created, madeEmpty, outcome, plain, done, called, stepped, steppedBack}
+use Rattle.adapter.specs.Calls.{created, madeEmpty, copied, madeLarge, outcome, plain, done, called, stepped, steppedBack}
 use Rattle.batch.specs.declared.Sample.{Sample}
 use Rattle.batch.specs.declared.Batch.{Batch}
 use Rattle.batch.specs.Batch as batches
 use Rattle.bits.proofs.Tests.{either}
 use Rattle.promises.specs.Runs.{isRefusal}
-use Rattle.promises.proofs.Cases.{no-refusal, event-cases, batch-cases, back-cases, empty-cases, create-cases, transmit-cases, receive-cases}
+use Rattle.promises.proofs.Cases.{no-refusal, event-cases, batch-cases, back-cases, empty-cases, enlarge-cases, create-cases, transmit-cases, receive-cases}
 use Rattle.promises.proofs.Steps.{at-flag-cases, concluded-cases}
 
 -- ---- the adapter
@@ -55,6 +55,12 @@ back-unchanged s j =
 -- the emptying call
 pub empty-unchanged : (j : List ℕ) → isRefusal (madeEmpty j .number) ≡ true → madeEmpty j .bytes ≡ j
 empty-unchanged j = empty-cases j (λ m. isRefusal (m .number) ≡ true → m .bytes ≡ j) (λ n r h. refl) (λ h. absurd (false≢true h))
+
+-- the enlarging call: the number alone; its first buffer stays, refused or not
+pub enlarge-unchanged : (j second : List ℕ) → isRefusal (madeLarge j second .number) ≡ true
+    → madeLarge j second ≡ copied (madeLarge j second .number) j second
+enlarge-unchanged j second =
+    enlarge-cases j second (λ x. isRefusal (x .number) ≡ true → x ≡ copied (x .number) j second) (λ n r h. refl) (λ _ _ h. absurd (false≢true h))
 
 -- creation: no adapter, the bytes as they came
 pub create-unchanged : (s : List ℕ) (id : ℕ) → isRefusal (created s id .number) ≡ true → created s id .bytes ≡ s

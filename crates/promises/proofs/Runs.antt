@@ -23,7 +23,9 @@ use Rattle.commands.specs.declared.command.Register.the-variants.{ChipId}
 use Rattle.registers.specs.Registers.{read}
 use Rattle.chip.proofs.Laws.{good-stays, number-given, id-given, id-stays}
 use Rattle.state.proofs.Good.{Good, power-on-good}
-use Rattle.journal.specs.Layout.{slotsOf, wrongLength, keptOf, past, emptied, lowered}
+use Rattle.journal.specs.Layout.{slotsOf, wrongLength, keptOf, past, emptied, lowered, enlarged}
+use Rattle.journal.proofs.Formats.{some-slots}
+use Rattle.journal.proofs.Enlarged.{enlarged-well, enlarged-slots, enlarged-kept, enlarged-past}
 use Rattle.journal.specs.Record.{restored, sound}
 use Rattle.bits.proofs.Tests.{either, both}
 use Rattle.commands.specs.Channels.{isMaster}
@@ -32,20 +34,21 @@ use Rattle.adapter.specs.declared.Verdict.{Verdict}
 use Rattle.adapter.specs.declared.Verdict.the-variants.{Refused, Passed}
 use Rattle.adapter.specs.declared.KeptNumber.{KeptNumber}
 use Rattle.adapter.specs.Refusals.{wrongArgument, wrongBody, inOrder, verdict}
-use Rattle.adapter.specs.Calls.{Made, made, created, keptIn, Outcome, outcome, plain, shown, recorded, done, called, Stepped, stepped, steppedBack}
+use Rattle.adapter.specs.Calls.{Made, made, created, keptIn, Copied, copied, madeLarge, Outcome, outcome, plain, shown, recorded, done, called, Stepped, stepped, steppedBack}
 use Rattle.adapter.proofs.Laws.{called-refused, called-done, own-refusals, recorded-well, recorded-slots, recorded-kept, newest-restores}
-use Rattle.adapter.proofs.Laws.{newest-sound, older-stay, back-refused, back-done, empty-done}
+use Rattle.adapter.proofs.Laws.{newest-sound, older-stay, back-refused, back-done, empty-done, large-told}
 use Rattle.batch.specs.declared.Sample.{Sample}
 use Rattle.batch.specs.Batch.{eventOf, Course, oneByOne, someWrong, wrongList}
 use Rattle.batch.specs.Batch as batches
 use Rattle.batch.proofs.Course.{port-back}
-use Rattle.promises.specs.Runs.{Call, event, batch, back, empty, Given, SamplesOfTypes, OfItsTypes, AllOfTheirTypes, Run, left, refusal, refused}
+use Rattle.promises.specs.Runs.{Call, event, batch, back, empty, enlarge, enlarging, Given, SamplesOfTypes, OfItsTypes, AllOfTheirTypes, Run, left, refusal, refused}
 use Rattle.promises.specs.Runs.{batchRefusal, batchRefused, Standing, atStart, keepsEvent, keepsSample}
-use Rattle.promises.specs.Runs.{keeps, standing, stateAfter, dueState, bare, due, dueFrames, batchGiven, dueBatch, refuses, lent, Demand3}
+use Rattle.promises.specs.Runs.{keeps, standing, stateAfter, dueState, bare, due, dueFrames, batchGiven, dueBatch}
+use Rattle.promises.specs.Runs.{dueEnlarging, isRefusal, refuses, lent, Demand3}
 use Rattle.promises.specs.Ours.{Handed, handed, given, givesOurs, leavesOurs, ours}
-use Rattle.promises.proofs.Formats.{always-64}
+use Rattle.promises.proofs.Formats.{slots-200, any-52224}
 use Rattle.promises.proofs.Cases.{between-refusals, neither, create-cases}
-use Rattle.promises.proofs.Refused.{event-unchanged, batch-answer, batch-unchanged, back-unchanged, empty-unchanged}
+use Rattle.promises.proofs.Refused.{event-unchanged, batch-answer, batch-unchanged, back-unchanged, empty-unchanged, enlarge-unchanged}
 use Rattle.promises.proofs.Samples.{adapterAfter, journalAfter, along}
 use Rattle.promises.proofs.Steps.{split}
 
@@ -158,6 +161,7 @@ told id s (event e o) = due (stateAfter id (s .events)) e o
 told id s (batch list o) = dueBatch (stateAfter id (s .events)) list o
 told id s back = cond (eqb (s .number) 0) (bare 5 []) (bare 17 [])
 told id s empty = bare 17 []
+told id s (enlarge second) = dueEnlarging s second
 
 module _ (id : ℕ) (small : id ≤ number.idMost) where
   after-good : (es : List Event) → AllFine es → Good (stateAfter id es)
@@ -253,6 +257,22 @@ module _ (id : ℕ) (small : id ≤ number.idMost) where
         records = λ i l. let z = emptied-kept j in absurd (omega arith);
       }
 
+  -- ---- a journal made large
+
+  enlarged-inv : (s : Standing) (j second : List ℕ) → Inv s j → wrongLength second ≡ false → keptOf j ≤ slotsOf second → slotsOf second ≡ 200
+      → Inv (record { events = s .events; number = s .number; most = 200 }) (enlarged j second)
+  enlarged-inv s j second i n room m =
+      record {
+        fit = i .fit;
+        well = enlarged-well j second (i .well) n room;
+        slots = enlarged-slots j second (i .well) n room ∙ m;
+        number = enlarged-kept j second (i .well) n room ∙ i .number;
+        enough = i .enough;
+        records = λ k l.
+            let l′ : k < keptOf j = rw (enlarged-kept j second (i .well) n room) at l in
+            rw (enlarged-past j second (i .well) n room k l′) (i .records k l′);
+      }
+
   -- ---- a step back that is granted
 
   after-drop : (k : ℕ) (es : List Event) → bytesAfter (drop k (drop 1 es)) ≡ bytesAfter (drop (suc k) es)
@@ -345,11 +365,35 @@ module _ (id : ℕ) (small : id ≤ number.idMost) where
         turns empty _ _ (ap (λ (y : Made). bare (y .number) []) x) refl (ap (λ (y : Made). handed (bytesAfter (s .events)) (y .bytes)) x)
         (λ t. emptied-inv s j (i .fit) (i .well .size) (i .slots))
 
+    enlarge-turn : (second : List ℕ) → Turn s j (enlarge second)
+    enlarge-turn second =
+        let x = large-told j second (s .most) (i .well) (i .slots) in
+        split (eqb (s .most) 64)
+        (λ small.
+        split (eqb (length second) 52224)
+        (λ size.
+        let y : madeLarge j second ≡ copied 17 j (enlarged j second) = x ∙ rw (small, size) refl in
+        let long = eqb-true (length second) 52224 size in
+        let sixty-four = eqb-true (s .most) 64 small in
+        turns (enlarge second) _ (enlarged j second) (ap (λ (z : Copied). bare (z .number) []) y ∙ rw (small, size) refl) (rw (small, size) refl)
+        (ap (λ (z : Copied). handed (bytesAfter (s .events)) (cond (isRefusal (z .number)) (z .first) (z .second))) y)
+        (λ t. enlarged-inv s j second i (any-52224 second long)
+        (let few = i .well .few in let m = i .slots in omega (arith, slots-200 second long)) (slots-200 second long)))
+        (λ size.
+        let y : madeLarge j second ≡ copied 1 j second = x ∙ rw (small, size) refl in
+        turns (enlarge second) s j (ap (λ (z : Copied). bare (z .number) []) y ∙ rw (small, size) refl) (rw (small, size) refl)
+        (ap (λ (z : Copied). handed (bytesAfter (s .events)) (cond (isRefusal (z .number)) (z .first) (z .second))) y) (λ t. i)))
+        (λ small.
+        let y : madeLarge j second ≡ copied 4 j second = x ∙ rw small refl in
+        turns (enlarge second) s j (ap (λ (z : Copied). bare (z .number) []) y ∙ rw small refl) (rw small refl)
+        (ap (λ (z : Copied). handed (bytesAfter (s .events)) (cond (isRefusal (z .number)) (z .first) (z .second))) y) (λ t. i))
+
     turn : (k : Call) → Turn s j k
     turn (event e o) = event-turn e o
     turn (batch list o) = batch-turn list o
     turn back = back-turn
     turn empty = empty-turn
+    turn (enlarge second) = enlarge-turn second
 
   -- ---- every run
 
@@ -387,6 +431,9 @@ refused-same p (batch list o) h =
     (ap (λ (y : batches.Outcome). handed (y .state) (y .journal)) x, ap (λ (y : batches.Outcome). y .output) x)
 refused-same p back h = (ap (λ (y : Stepped). handed (y .state) (y .journal)) (back-unchanged (p .state) (p .journal) h), refl)
 refused-same p empty h = (ap (handed (p .state)) (empty-unchanged (p .journal) h), refl)
+refused-same p (enlarge second) h =
+    let x = enlarge-unchanged (p .journal) second h in
+    (ap (λ (y : Copied). handed (p .state) (cond (isRefusal (madeLarge (p .journal) second .number)) (y .first) (y .second))) x ∙ rw h refl, refl)
 
 -- after every run, the pair and the invariant
 module _ (r : Run) where
@@ -429,18 +476,19 @@ module _ (r : Run) where
   undamaged n (inl z) = omega arith
   undamaged n (inr l) = omega arith
 
-  never : (k : Call) → Undamaged (told (r .id) (standing r) k .number)
-  never (event e o) =
+  never : (k : Call) → enlarging k ≡ false → Undamaged (told (r .id) (standing r) k .number)
+  never (event e o) h =
       either (λ (g : Given). Undamaged (g .number)) (refused e o) _ _
       (either Undamaged (ltb (length o) 16) _ _ (omega arith)
       (either Undamaged (wrongArgument e) _ _ (omega arith) (either Undamaged (wrongBody e) _ _ (omega arith) (omega arith))))
       (undamaged _ (number-given (dueState r) e))
-  never (batch list o) =
+  never (batch list o) h =
       either (λ (g : Given). Undamaged (g .number)) (batchRefused list o) _ _
       (either Undamaged (ltb (length o) 2560) _ _ (omega arith) (either Undamaged (wrongList list) _ _ (omega arith) (omega arith)))
       (batch-answer Undamaged (omega arith) (omega arith) (dueState r .link .port) (dueFrames (dueState r) list))
-  never back = either (λ (g : Given). Undamaged (g .number)) (eqb (standing r .number) 0) _ _ (omega arith) (omega arith)
-  never empty = omega arith
+  never back h = either (λ (g : Given). Undamaged (g .number)) (eqb (standing r .number) 0) _ _ (omega arith) (omega arith)
+  never empty h = omega arith
+  never (enlarge second) h = absurd (true≢false h)
 
   -- ---- the sentences
 
@@ -467,7 +515,7 @@ module _ (r : Run) where
 pub demand3 : Demand3 ours
 demand3 =
     record {
-      undamaged = λ r k. rw (gives-end r k) (never r k);
+      undamaged = λ r k h. rw (gives-end r k) (never r k h);
       state = λ r. ap (λ (p : Handed). stateIn (p .state)) (at-end r) ∙ spelled (r .id) (r .id-fits) (standing r .events) (inv-end r .fit);
       reply = λ r e output. gives-end r (event e output);
       batch-reply = λ r list output. gives-end r (batch list output);
@@ -475,6 +523,7 @@ demand3 =
       refused-at-zero = λ r. zero-back r;
       kept = λ r. kept-end r;
       empties = λ r. gives-end r empty;
+      enlarges = λ r second. gives-end r (enlarge second);
       unchanged = λ r k h. refused-same (left ours r) k h;
     }
 
@@ -487,33 +536,15 @@ id-kept r =
 pub enough-standing : (r : Run) → standing r .number ≤ length (standing r .events)
 enough-standing r = inv-end r .enough
 
--- the slots stay those of the bytes of the start
-samples-most : (list : List Sample) (s : Standing) → foldl keepsSample s list .most ≡ s .most
-samples-most [] s = refl
-samples-most (x ∷ list) s = samples-most list (keepsSample s x)
-
-keeps-most : (s : Standing) (k : Call) → keeps s k .most ≡ s .most
-keeps-most s (event e o) = either (λ (x : Standing). x .most ≡ s .most) (refused e o) _ _ refl refl
-keeps-most s (batch list o) = either (λ (x : Standing). x .most ≡ s .most) (batchRefused list o) _ _ refl (samples-most list s)
-keeps-most s back = either (λ (x : Standing). x .most ≡ s .most) (eqb (s .number) 0) _ _ refl refl
-keeps-most s empty = refl
-
-most-stays : (ks : List Call) (s : Standing) → foldl keeps s ks .most ≡ s .most
-most-stays [] s = refl
-most-stays (k ∷ ks) s = most-stays ks (keeps s k) ∙ keeps-most s k
-
-pub most-standing : (r : Run) → standing r .most ≡ slotsOf (r .bytes)
-most-standing r = most-stays (r .calls) (atStart (slotsOf (r .bytes)))
-
-pub at-most-slots : (r : Run) → standing r .number ≤ slotsOf (r .bytes)
-at-most-slots r =
+pub at-most-most : (r : Run) → standing r .number ≤ standing r .most
+at-most-most r =
     let f = inv-end r .well .few in
     let n = inv-end r .number in
-    let m : slotsOf (last r) ≡ slotsOf (r .bytes) = inv-end r .slots ∙ most-standing r in
+    let m = inv-end r .slots in
     omega arith
 
-pub at-most-64 : (r : Run) → standing r .number ≤ 64
-at-most-64 r = let m = at-most-slots r in omega (arith, always-64 (r .bytes) (r .size))
+pub some-most : (r : Run) → 0 < standing r .most
+some-most r = rw (sym (inv-end r .slots)) (some-slots (last r) (inv-end r .well .size))
 
 -- the standing events are of their types, and each passes alone
 pub standing-fine : (r : Run) → AllFine (standing r .events)

@@ -17,7 +17,7 @@ use Rattle.chip.specs.Event.{Event, frame, upset}
 use Rattle.chip.specs.Frame.{isResetFrame, commanded, addressed, onFrame}
 use Rattle.chip.specs.Chip.{reaction, onUpset, acceptedReset}
 use Rattle.adapter.specs.declared.KeptNumber.{KeptNumber}
-use Rattle.promises.specs.Runs.{Call, event, batch, back, empty, Given, Calls, AllOfTheirTypes, Run, left, Standing, atStart, keeps, standing}
+use Rattle.promises.specs.Runs.{Call, event, batch, back, empty, enlarge, Given, Calls, AllOfTheirTypes, Run, left, Standing, atStart, keeps, standing}
 use Rattle.promises.specs.Runs.{stateAfter, bare, isRefusal, lent, Demand3}
 use Rattle.promises.specs.Ours.{Handed, handed, givesOurs, leavesOurs, ours}
 use Rattle.promises.proofs.Formats.{slots-64, any-17408}
@@ -36,7 +36,7 @@ ran calls typed =
     record { id = 0x00000A; id-fits = lit≤ tt; bytes = zeros; size = any-17408 zeros as-long; calls = calls; typed = typed }
 
 -- of which at most 64 are kept
-ran-standing : (calls : List Call) (typed : AllOfTheirTypes calls) → standing (ran calls typed) ≡ foldl keeps (atStart 64) calls
+pub ran-standing : (calls : List Call) (typed : AllOfTheirTypes calls) → standing (ran calls typed) ≡ foldl keeps (atStart 64) calls
 ran-standing calls typed = ap (λ (most : ℕ). foldl keeps (atStart most) calls) (slots-64 zeros as-long)
 
 abbrev pub output : List ℕ
@@ -143,7 +143,7 @@ module _ (c : Calls) (d : Demand3 c) where
 
   -- call the journal damaged after a RESET
   pub damaged-by-reset : ((p : c .Pair) (k : Call) → c .gives (c .leaves p (event reset output)) k .number ≡ 4) → ⊥
-  damaged-by-reset h = d .undamaged after-reset upset-call .0 (h (c .start 0x00000A (replicate 17408 0)) upset-call)
+  damaged-by-reset h = d .undamaged after-reset upset-call refl .0 (h (c .start 0x00000A (replicate 17408 0)) upset-call)
 
   -- have one state
   pub one-state : ((p q : c .Pair) → c .state p ≡ c .state q) → ⊥
@@ -166,6 +166,7 @@ fixed g p (event e o) = g
 fixed g p (batch list o) = givesOurs p (batch list o)
 fixed g p back = givesOurs p back
 fixed g p empty = givesOurs p empty
+fixed g p (enlarge second) = givesOurs p (enlarge second)
 
 pub replying : Given → Calls
 replying g = record { Pair = Handed; start = ours .start; gives = fixed g; leaves = leavesOurs; state = ours .state; kept = ours .kept }
@@ -180,6 +181,7 @@ unmoved p (event e o) = handed (p .state) (leavesOurs p (event e o) .journal)
 unmoved p (batch list o) = leavesOurs p (batch list o)
 unmoved p back = leavesOurs p back
 unmoved p empty = leavesOurs p empty
+unmoved p (enlarge second) = leavesOurs p (enlarge second)
 
 pub leaving-state : Calls
 leaving-state = record { Pair = Handed; start = ours .start; gives = givesOurs; leaves = unmoved; state = ours .state; kept = ours .kept }
@@ -203,12 +205,14 @@ copying-gives p (event e o) = firstOr (p .first) (givesOurs (p .pair) (event e o
 copying-gives p (batch list o) = givesOurs (p .pair) (batch list o)
 copying-gives p back = givesOurs (p .pair) back
 copying-gives p empty = givesOurs (p .pair) empty
+copying-gives p (enlarge second) = givesOurs (p .pair) (enlarge second)
 
 copying-leaves : Copying → Call → Copying
 copying-leaves p (event e o) = record { pair = leavesOurs (p .pair) (event e o); first = copying-gives p (event e o) ∷ [] }
 copying-leaves p (batch list o) = record { pair = leavesOurs (p .pair) (batch list o); first = p .first }
 copying-leaves p back = record { pair = leavesOurs (p .pair) back; first = p .first }
 copying-leaves p empty = record { pair = leavesOurs (p .pair) empty; first = p .first }
+copying-leaves p (enlarge second) = record { pair = leavesOurs (p .pair) (enlarge second); first = p .first }
 
 pub copying : Calls
 copying =
@@ -231,6 +235,7 @@ lowering p (event e o) = leavesOurs p (event e o)
 lowering p (batch list o) = leavesOurs p (batch list o)
 lowering p back = handed (p .state) (leavesOurs p back .journal)
 lowering p empty = leavesOurs p empty
+lowering p (enlarge second) = leavesOurs p (enlarge second)
 
 pub only-lowering : Calls
 only-lowering = record { Pair = Handed; start = ours .start; gives = givesOurs; leaves = lowering; state = ours .state; kept = ours .kept }
@@ -265,6 +270,7 @@ counting-leaves p (event e o) = record { pair = leavesOurs (p .pair) (event e o)
 counting-leaves p (batch list o) = record { pair = leavesOurs (p .pair) (batch list o); count = p .count + length list }
 counting-leaves p back = record { pair = leavesOurs (p .pair) back; count = p .count }
 counting-leaves p empty = record { pair = leavesOurs (p .pair) empty; count = 0 }
+counting-leaves p (enlarge second) = record { pair = leavesOurs (p .pair) (enlarge second); count = p .count }
 
 pub counting : Calls
 counting =
@@ -291,6 +297,7 @@ resets (event e o) = acceptedReset e
 resets (batch list o) = false
 resets back = false
 resets empty = false
+resets (enlarge second) = false
 
 pub doubting : Calls
 doubting =

@@ -10,9 +10,8 @@ use borrow.Author.Tests.{ne-eqb}
 use Rattle.chip.specs.Event.{Event}
 use Rattle.chip.specs.Chip.{acceptedReset}
 use Rattle.journal.specs.Layout.{slotsOf}
-use Rattle.journal.proofs.Formats.{some-slots}
 use Rattle.promises.specs.Runs.{Call, event, back, Calls, OfItsTypes, AllOfTheirTypes, Run, left, refused, Standing, atStart, keeps, standing, stateAfter, due, Demand3}
-use Rattle.promises.proofs.Runs.{AllFine, most-standing, standing-fine}
+use Rattle.promises.proofs.Runs.{AllFine, some-most, standing-fine}
 
 -- ---- a run of only the standing events
 
@@ -76,6 +75,6 @@ module _ (r : Run) (e : Event) (o : List ℕ) (kept : refused e o ≡ false) (ot
   no-trace c d t e′ o′ =
       let s : standing (further r (event e o ∷ back ∷ []) t) .events ≡ standing r .events =
       ap (λ (x : Standing). x .events) (foldl-append keeps (atStart (slotsOf (r .bytes))) (r .calls) (event e o ∷ back ∷ []))
-      ∙ back-again (standing r) (rw (most-standing r) (some-slots (r .bytes) (r .size))) in
+      ∙ back-again (standing r) (some-most r) in
       d .reply (further r (event e o ∷ back ∷ []) t) e′ o′
       ∙ ap (λ (l : List Event). due (stateAfter (r .id) l) e′ o′) s ∙ sym (d .reply r e′ o′)

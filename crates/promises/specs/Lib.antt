@@ -2,6 +2,7 @@ pub mod Wire
 pub mod Calls
 pub mod Runs
 pub mod Ours
+pub mod Enlarging
 pub mod Text
 pub mod Table
 pub mod Batches

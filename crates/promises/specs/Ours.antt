@@ -2,15 +2,16 @@
 -- `batch` that the contract of its export states, and, of the exports that C and Rust link, those that the contracts of crate `sca` state. An export
 -- differs in what it gives alone: one packed number.
 use Prim.Native.Nat.{ℕ, _/_, _%_, _^_}
+use mathlib.Core.Bool.{cond}
 use mathlib.Core.List.{List, []}
 use lib.ListN.{replicate}
 use Rattle.state.specs.Bytes.{stateSize, stateIn}
 use Rattle.adapter.specs.declared.Answer.{Answer}
 use Rattle.adapter.specs.declared.KeptNumber.{KeptNumber}
-use Rattle.adapter.specs.Calls.{created, madeEmpty, keptIn, called, steppedBack}
+use Rattle.adapter.specs.Calls.{created, madeEmpty, keptIn, madeLarge, called, steppedBack}
 use Rattle.batch.specs.Batch as batches
 use Rattle.sca.specs.Adapter.{packKept, packed, packedBatch}
-use Rattle.promises.specs.Runs.{Call, event, batch, back, empty, Given, bare, batchGiven, Calls}
+use Rattle.promises.specs.Runs.{Call, event, batch, back, empty, enlarge, Given, bare, batchGiven, isRefusal, Calls}
 
 -- the pair that is handed on: a state and a journal, as bytes
 pub record Handed : Type 0 where
@@ -24,11 +25,13 @@ handed state journal = record { state = state; journal = journal }
 abbrev pub starts : ℕ → List ℕ → Handed
 starts id bytes = handed (created (replicate stateSize 0) id .bytes) (madeEmpty bytes .bytes)
 
+-- an enlarging that is not refused leaves the second buffer as the journal
 abbrev pub leavesOurs : Handed → Call → Handed
 leavesOurs p (event e output) = let x = called (p .state) (p .journal) e output in handed (x .state) (x .journal)
 leavesOurs p (batch list output) = let x = batches.called (p .state) (p .journal) list output in handed (x .state) (x .journal)
 leavesOurs p back = let x = steppedBack (p .state) (p .journal) in handed (x .state) (x .journal)
 leavesOurs p empty = handed (p .state) (madeEmpty (p .journal) .bytes)
+leavesOurs p (enlarge second) = let x = madeLarge (p .journal) second in handed (p .state) (cond (isRefusal (x .number)) (x .first) (x .second))
 
 -- ---- crate `adapter`
 
@@ -40,6 +43,7 @@ givesOurs p (event e output) = let x = called (p .state) (p .journal) e output i
 givesOurs p (batch list output) = let x = batches.called (p .state) (p .journal) list output in batchGiven (x .answer) (x .output)
 givesOurs p back = bare (steppedBack (p .state) (p .journal) .number) []
 givesOurs p empty = bare (madeEmpty (p .journal) .number) []
+givesOurs p (enlarge second) = bare (madeLarge (p .journal) second .number) []
 
 abbrev pub ours : Calls
 ours =
@@ -79,6 +83,7 @@ givesExported p (batch list output) =
     let x = packedBatch (batches.called (p .state) (p .journal) list output) in unpacked (x .result) (x .output)
 givesExported p back = unpacked (steppedBack (p .state) (p .journal) .number) []
 givesExported p empty = unpacked (madeEmpty (p .journal) .number) []
+givesExported p (enlarge second) = unpacked (madeLarge (p .journal) second .number) []
 
 abbrev pub exported : Calls
 exported =

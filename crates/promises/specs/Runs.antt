@@ -13,7 +13,7 @@ use Rattle.state.specs.State.{Adapter, powerOn}
 use Rattle.chip.specs.Answer.{Reaction, frontLength, laid}
 use Rattle.chip.specs.Event.{Completion, spi, i2c, Event, frame, completion, sample, upset}
 use Rattle.chip.specs.Chip.{reaction, acceptedReset}
-use Rattle.journal.specs.Layout.{slotsOf, wrongLength}
+use Rattle.journal.specs.Layout.{sizeOf, small, large, slotsOf, wrongLength}
 use Rattle.adapter.specs.declared.KeptNumber.{KeptNumber}
 use Rattle.adapter.specs.Refusals.{wrongArgument, wrongBody}
 use Rattle.batch.specs.declared.Sample.{Sample}
@@ -23,15 +23,24 @@ use Rattle.batch.specs.Batch as batches
 
 -- ---- the calls
 
--- an event with its arguments and the bytes of the output that is lent to it; a batch of pin samples, with its output; a step back; the emptying call
+-- an event with its arguments and the bytes of the output that is lent to it; a batch of pin samples, with its output; a step back; the emptying call;
+-- the enlarging call, with the bytes of its second buffer
 pub data Call : Type 0 where
   event : (e : Event) (output : List ℕ) → Call
   batch : (list : List Sample) (output : List ℕ) → Call
   back : Call
   empty : Call
+  enlarge : (second : List ℕ) → Call
+
+abbrev pub enlarging : Call → Bool
+enlarging (event e output) = false
+enlarging (batch list output) = false
+enlarging back = false
+enlarging empty = false
+enlarging (enlarge second) = true
 
 -- What a call gives, and the output's bytes afterwards. A batch alone gives how many frames it sent, and a sum; with any other call both are 0. A step
--- back and an emptying are lent no output.
+-- back, an emptying and an enlarging are lent no output: the second buffer of the last is the journal from then on, or as it was (`enlarge-unchanged`).
 pub record Given : Type 0 where
   pub number : ℕ
   pub port : ℕ
@@ -73,12 +82,13 @@ OfItsTypes (event e output) = EventOfTypes e
 OfItsTypes (batch list output) = SamplesOfTypes list
 OfItsTypes back = Unit
 OfItsTypes empty = Unit
+OfItsTypes (enlarge second) = Unit
 
 abbrev pub AllOfTheirTypes : List Call → Type 0
 AllOfTheirTypes [] = Unit
 AllOfTheirTypes (c ∷ cs) = OfItsTypes c × AllOfTheirTypes cs
 
--- any chip ID, any bytes of a journal's length made empty (17,408 bytes: `any-17408`, `no-other-length`), any calls
+-- any chip ID, any bytes of a journal's length made empty (17,408 or 52,224: `any-17408`, `any-52224`, `no-other-length`), any calls
 pub record Run : Type 0 where
   pub id : ℕ
   pub id-fits : id ≤ number.idMost
@@ -87,7 +97,8 @@ pub record Run : Type 0 where
   pub calls : List Call
   pub typed : AllOfTheirTypes calls
 
--- "Start from a new adapter with an empty journal, hand each call the pair that the last one left, and let nobody else write either."
+-- "Start from a new adapter with an empty journal, hand each call the pair that the last one left, and let nobody else write either." Document 02: "the
+-- enlarging call may come anywhere in its run, the second buffer being the journal from then on".
 abbrev pub left : (c : Calls) → Run → c .Pair
 left c r = foldl (c .leaves) (c .start (r .id) (r .bytes)) (r .calls)
 
@@ -112,7 +123,7 @@ batchRefusal list output =
 abbrev pub batchRefused : List Sample → List ℕ → Bool
 batchRefused list output = not (eqb (batchRefusal list output) 0)
 
--- the standing events, "not refused, not taken back", the newest first; the kept number, and how far it goes up
+-- the standing events, "not refused, not taken back", the newest first; the kept number, and how far it goes up, by the journal's size
 pub record Standing : Type 0 where
   pub events : List Event
   pub number : ℕ
@@ -122,7 +133,7 @@ pub record Standing : Type 0 where
 abbrev pub atStart : ℕ → Standing
 atStart most = record { events = []; number = 0; most = most }
 
--- after the emptying call and after an accepted RESET, goes up by one with each other event not refused, to at most 64,
+-- after the emptying call and after an accepted RESET, goes up by one with each other event not refused, to at most 64, [200 for version 2,]
 abbrev pub keepsEvent : Standing → Event → Standing
 keepsEvent s e = record { events = e ∷ s .events; number = cond (acceptedReset e) 0 (min (s .most) (s .number + 1)); most = s .most }
 
@@ -130,13 +141,23 @@ keepsEvent s e = record { events = e ∷ s .events; number = cond (acceptedReset
 abbrev pub keepsSample : Standing → Sample → Standing
 keepsSample s x = keepsEvent s (eventOf x)
 
+-- the enlarging call's refusals, in document 02's order: "a large journal given for enlarging is 4; a second buffer not of 52,224 bytes is 1, after 4"
+abbrev pub enlargeRefusal : Standing → List ℕ → ℕ
+enlargeRefusal s second =
+    cond (not (eqb (s .most) (small .slots))) number.badJournal
+    (cond (not (eqb (length second) (sizeOf large))) number.shortOutput 0)
+
+abbrev pub enlargeRefused : Standing → List ℕ → Bool
+enlargeRefused s second = not (eqb (enlargeRefusal s second) 0)
+
 -- and down by one with each step granted"; "a step back takes back the newest standing event; it is refused, taking nothing back, exactly when the
--- kept number is zero". 64 are the slots of a journal of 17,408 bytes (`slots-64`).
+-- kept number is zero"; enlarging leaves "the kept number staying as it was". 64 and 200 are the slots of the two sizes (`slots-64`, `slots-200`).
 abbrev pub keeps : Standing → Call → Standing
 keeps s (event e output) = cond (refused e output) s (keepsEvent s e)
 keeps s (batch list output) = cond (batchRefused list output) s (foldl keepsSample s list)
 keeps s back = cond (eqb (s .number) 0) s (record { events = drop 1 (s .events); number = s .number - 1; most = s .most })
 keeps s empty = record { events = s .events; number = 0; most = s .most }
+keeps s (enlarge second) = cond (enlargeRefused s second) s (record { events = s .events; number = s .number; most = large .slots })
 
 abbrev pub standing : Run → Standing
 standing r = foldl keeps (atStart (slotsOf (r .bytes))) (r .calls)
@@ -179,6 +200,10 @@ dueBatch a list output =
     cond (batchRefused list output) (bare (batchRefusal list output) output)
     (batchGiven (batches.answered (a .link .port) frames) (put 0 (flatten frames) output))
 
+-- "the one due" to an enlarging
+abbrev pub dueEnlarging : Standing → List ℕ → Given
+dueEnlarging s second = cond (enlargeRefused s second) (bare (enlargeRefusal s second) []) (bare number.noFrame [])
+
 -- ---- the promise
 
 -- A call is refused when it gives 1 to 10, or one of document 02's 31 to 35.
@@ -194,10 +219,11 @@ lent (event e output) = output
 lent (batch list output) = output
 lent back = []
 lent empty = []
+lent (enlarge second) = []
 
 pub record Demand3 (c : Calls) : Type 0 where
-  -- "Then no event and no step back gives 4 or 6: what our own calls left is never refused as damaged."
-  pub undamaged : (r : Run) (k : Call)
+  -- "Then no event and no step back gives 4 or 6: what our own calls left is never refused as damaged." Nor does a batch or an emptying.
+  pub undamaged : (r : Run) (k : Call) → enlarging k ≡ false
       → (c .gives (left c r) k .number ≡ number.badJournal → ⊥) × (c .gives (left c r) k .number ≡ number.badState → ⊥)
   -- "After any run of events and steps back, registers, SEU counter, numbers, port, loopback and any open transfer are those of a run of
   -- only the standing events: not refused, not taken back."
@@ -213,10 +239,12 @@ pub record Demand3 (c : Calls) : Type 0 where
   pub refused-at-zero : (r : Run) → c .kept (left c r) .kept ≡ 0
       → (c .gives (left c r) back ≡ bare number.noneKept []) × (c .leaves (left c r) back ≡ left c r)
   -- that number is zero at the start, after the emptying call and after an accepted RESET, goes up by one with each other event not
-  -- refused, to at most 64, and down by one with each step granted." (`up-to-64`)
+  -- refused, to at most 64, and down by one with each step granted." Document 02: "Demand 3 reads with 200 for version 2." (`up-to-64`, `up-to-200`)
   pub kept : (r : Run) → c .kept (left c r) ≡ record { number = number.noFrame; kept = standing r .number }
   -- The emptying call is not refused.
   pub empties : (r : Run) → c .gives (left c r) empty ≡ bare number.noFrame []
+  -- The enlarging call is refused as document 02 says, and in no other case.
+  pub enlarges : (r : Run) (second : List ℕ) → c .gives (left c r) (enlarge second) ≡ dueEnlarging (standing r) second
   -- Demand 1, along the run: "A refused call [..] changes no state, no journal byte and no output byte."
   pub unchanged : (r : Run) (k : Call) → refuses (c .gives (left c r) k) ≡ true
       → (c .leaves (left c r) k ≡ left c r) × (c .gives (left c r) k .output ≡ lent k)

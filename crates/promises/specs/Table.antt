@@ -10,6 +10,7 @@ use Rattle.wire.specs.Bits.{wire}
 use Rattle.wire.specs.Frame.{stuff}
 use Prim.Native.String.{String}
 use Rattle.chip.specs.Event.{Event, frame, sample, upset}
+use Rattle.journal.specs.Layout.{sizeOf, large}
 use Rattle.player.specs.Play as Listing
 use Rattle.promises.specs.Text.{text}
 use Rattle.promises.specs.Runs.{Call, event, back, empty, Given, Calls}
@@ -26,7 +27,7 @@ abbrev pub lines : (c : Calls) → c .Pair → List Call → List (List ℕ)
 lines c p [] = []
 lines c p (k ∷ ks) = line (c .gives p k) (c .kept (c .leaves p k) .kept) ∷ lines c (c .leaves p k) ks
 
--- of the program's adapter, whose chip ID is 0x00000A, with any 17,408 bytes made empty
+-- of the program's adapter, whose chip ID is 0x00000A, with any 52,224 bytes made empty
 abbrev pub played : List ℕ → List Call → List (List ℕ)
 played bytes calls = lines ours (ours .start 0x00000A bytes) calls
 
@@ -88,7 +89,7 @@ reply trn ch err len =
 
 -- the lines that calls give, whatever the journal's bytes were
 abbrev pub Give : List Call → List (List ℕ) → Type 0
-Give calls output = (bytes : List ℕ) → length bytes ≡ 17408 → played bytes calls ≡ output
+Give calls output = (bytes : List ℕ) → length bytes ≡ sizeOf large → played bytes calls ≡ output
 
 -- "Proved, as a single table under one claim: the eight lines; FF stuffs to 111110111; 7E to 011111010; TRN 01 and FE pass, 00 and FF
 -- give 0x08; CH 0x15 known, 0x16 not."

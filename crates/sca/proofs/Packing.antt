@@ -5,7 +5,7 @@ use mathlib.Core.List.{List}
 use mathlib.Core.Bool.{true, false}
 use native.Mathlib.Omega.{arith}
 use Rattle.adapter.specs.declared.Answer.{Answer}
-use Rattle.adapter.specs.Calls.{Outcome, outcome, Made, made, Stepped, stepped}
+use Rattle.adapter.specs.Calls.{Outcome, outcome, Made, made, Copied, copied, Stepped, stepped}
 use Rattle.sca.specs.Adapter.{packAnswer, left, packed}
 use Rattle.control_room.specs.declared.Given.{Given}
 use Rattle.control_room.specs.Calls as rooms
@@ -20,6 +20,9 @@ made-wide {n} {r} {s} {m} e q = ap (λ (x : ℕ). made x s) q ∙ e
 
 pub stepped-wide : {n r : ℕ} {s j : List ℕ} {m : Stepped} → stepped n s j ≡ m → r ≡ n → stepped r s j ≡ m
 stepped-wide {n} {r} {s} {j} {m} e q = ap (λ (x : ℕ). stepped x s j) q ∙ e
+
+pub copied-wide : {n r : ℕ} {j s : List ℕ} {m : Copied} → copied n j s ≡ m → r ≡ n → copied r j s ≡ m
+copied-wide {n} {r} {j} {s} {m} e q = ap (λ (x : ℕ). copied x j s) q ∙ e
 
 -- ---- the control room's
 

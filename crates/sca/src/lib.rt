@@ -23,7 +23,7 @@ ghost use Rattle.control_room.specs.Calls as rooms;
 ghost use Rattle.sca.specs.ControlRoom as room;
 ghost use Rattle.sca.specs.Version.{version};
 
-const VERSION: u64 = 0x010400;
+const VERSION: u64 = 0x010500;
 
 // A number, in a result of 64 bits.
 fn wide(number: u8) -> u64
@@ -133,6 +133,14 @@ pub extern "C" fn sca_kept(journal: &[u8]) -> u64
     ensures { λ r. ⌜ r ≡ packKept (adapters.keptIn (now (journal .entry))) ⌝ }
 {
     pack_kept(adapter::kept(journal))
+}
+
+// Makes a second buffer a large journal with the steps of a small one.
+#[no_mangle]
+pub extern "C" fn sca_enlarge(journal: &[u8], second: &mut [u8]) -> u64
+    ensures { λ r. ⌜ adapters.copied r (now (journal .exit)) (now (second .exit)) ≡ adapters.madeLarge (now (journal .entry)) (now (second .entry)) ⌝ }
+{
+    wide(adapter::enlarge(journal, second))
 }
 
 // A frame body on a port.

@@ -1,7 +1,7 @@
 //! A batch of pin samples on both sides. All that it comes to, and what it leaves in the journal, follows from its samples one by
 //! one.
 
-use super::{refused, same, same_bytes, Checked, Pair, Run};
+use super::{refused, same, same_bytes, Both, Checked, Pair};
 use crate::batches::{Seen, Taken};
 use crate::fault::{BatchFault, Fault};
 use crate::harness::output::Output;
@@ -9,7 +9,7 @@ use crate::record::CRB;
 use reference::adapter::{self, Journal, Sample, State};
 use reference::numbers::{BAD_ARGUMENT, DONE, FRAME, GPIO_DISABLED, OUT_OF_RANGE};
 use sca::boundary::{self, RawBatch, RawSample};
-use sca::{KEPT_MOST, REPLY_BYTES, SAMPLES_MOST};
+use sca::{REPLY_BYTES, SAMPLES_MOST};
 
 /// What an empty batch is handed where it is to be kept: a fault.
 const ONE: [RawSample; 1] = [RawSample { levels: 0, kind: 0 }];
@@ -116,9 +116,9 @@ fn by_reference(state: &mut State, journal: &mut Journal, list: &[RawSample], ou
     }
 }
 
-impl Run<'_> {
+impl Both<'_> {
     pub(super) fn batch(&mut self, pair: &mut Pair, list: &[RawSample], room: usize) -> Checked {
-        let before = pair.expected;
+        let (before, found) = (pair.expected, pair.found());
         let (mut ours, mut expected_output) = (Output::new(room), Output::new(room));
         let expected = match &mut pair.expected {
             None => alone(OUT_OF_RANGE),
@@ -131,7 +131,7 @@ impl Run<'_> {
         self.tally.batch(&Seen {
             list,
             room,
-            kept_before: pair.ring.well_formed().then(|| pair.ring.kept()),
+            journal: found,
             sampled_before: pair.sampled,
             taken: &course.taken,
             answer: &expected,
@@ -230,7 +230,7 @@ impl Run<'_> {
         if self.lay_batch(BatchFault::State, true) {
             pair.state[46] ^= 1;
         }
-        let records = course.taken.len().min(KEPT_MOST);
+        let records = course.taken.len().min(pair.ring.most());
         if self.lay_batch(BatchFault::Record, records > 1) {
             pair.journal[pair.ring.record_at(records - 1) + 1] ^= 1;
         }

@@ -1,7 +1,7 @@
 //! The adapter's calls: creation, the five events, pin samples by the batch,
-//! and stepping back through a journal of earlier states.
+//! and stepping back through a journal of earlier states, small or large.
 //! An independent implementation, written from document 01 and change
-//! requests 2026-01 to 2026-03 and 2026-05.
+//! requests 2026-01 to 2026-03, 2026-05 and 2026-06.
 
 use std::collections::VecDeque;
 
@@ -10,8 +10,6 @@ use crate::request::{self, Reply};
 pub use crate::state::{in_range, Gpio, Master, Spi, State};
 use crate::state::{master_place, FIRST_MASTER, INVCOM, LAST_MASTER, LEVERR, NOACK, SUCC};
 
-/// The most steps that can be taken back.
-const MOST_KEPT: usize = 64;
 /// The bytes that an event's output must have.
 const EVENT_OUTPUT: usize = 16;
 /// The most bytes that an I2C transaction receives.
@@ -24,14 +22,48 @@ const MOST_SAMPLES: usize = 256;
 /// for as many bodies of ten bytes as a batch can send.
 const BATCH_OUTPUT: usize = 2_560;
 
+/// The sizes that a journal has; its length says which.
+#[derive(Clone, Copy, PartialEq, Eq, Debug)]
+pub enum Size {
+    /// Version 1.
+    Small,
+    /// Version 2.
+    Large,
+}
+
+impl Size {
+    /// The size of a journal of this length; none if no journal has it.
+    pub fn of(bytes: usize) -> Option<Size> {
+        let mut sizes = [Size::Small, Size::Large].into_iter();
+        sizes.find(|size| size.bytes() == bytes)
+    }
+
+    /// The length of a journal.
+    pub fn bytes(self) -> usize {
+        match self {
+            Size::Small => 17_408,
+            Size::Large => 52_224,
+        }
+    }
+
+    /// The most steps that can be taken back.
+    pub fn kept_most(self) -> usize {
+        match self {
+            Size::Small => 64,
+            Size::Large => 200,
+        }
+    }
+}
+
 /// What an outsider may have done to a journal.
 #[derive(Clone, Copy, PartialEq, Eq, Debug)]
 pub enum Condition {
     /// As the calls left it.
     Whole,
-    /// Not of the journal's length: even emptying is refused.
+    /// Of neither size's length: even emptying is refused.
     WrongLength,
-    /// Mark, version or layout is wrong: only emptying mends it.
+    /// Mark or layout is wrong, or the version is not that of the length: only
+    /// emptying mends it.
     WrongLayout,
 }
 
@@ -40,16 +72,28 @@ pub enum Condition {
 pub struct Journal {
     /// For a caller to set; no call sets anything but `Whole`.
     pub condition: Condition,
+    size: Size,
     earlier: VecDeque<State>,
 }
 
 impl Journal {
-    /// An empty journal.
+    /// An empty small journal.
     pub fn new() -> Journal {
+        Journal::sized(Size::Small)
+    }
+
+    /// An empty journal of a size.
+    pub fn sized(size: Size) -> Journal {
         Journal {
             condition: Condition::Whole,
-            earlier: VecDeque::with_capacity(MOST_KEPT),
+            size,
+            earlier: VecDeque::with_capacity(size.kept_most()),
         }
+    }
+
+    /// The size by the length; without meaning where the length is wrong.
+    pub fn size(&self) -> Size {
+        self.size
     }
 
     /// The states before each event that can be taken back, oldest first.
@@ -58,7 +102,7 @@ impl Journal {
     }
 
     fn keep(&mut self, before: State) {
-        if self.earlier.len() == MOST_KEPT {
+        if self.earlier.len() == self.size.kept_most() {
             self.earlier.pop_front();
         }
         self.earlier.push_back(before);
@@ -137,13 +181,29 @@ pub fn create(id: u32) -> (u8, Option<State>) {
     }
 }
 
-/// Makes a journal empty: 17, or 4 for a wrong length.
+/// Makes a journal empty, of the size that its length says: 17, or 4 for a
+/// wrong length.
 pub fn empty(journal: &mut Journal) -> u8 {
     if journal.condition == Condition::WrongLength {
         return BAD_JOURNAL;
     }
-    *journal = Journal::new();
+    *journal = Journal::sized(journal.size);
     DONE
+}
+
+/// Makes a large journal with the same steps kept out of a small one, in a
+/// second buffer of which only the length matters: 17 and the large journal,
+/// or 4, 1 and none. The small one is left as it was.
+pub fn enlarge(journal: &Journal, second_length: usize) -> (u8, Option<Journal>) {
+    if journal.condition != Condition::Whole || journal.size != Size::Small {
+        return (BAD_JOURNAL, None);
+    }
+    if Size::of(second_length) != Some(Size::Large) {
+        return (SHORT_OUTPUT, None);
+    }
+    let mut enlarged = Journal::sized(Size::Large);
+    enlarged.earlier.extend(&journal.earlier);
+    (DONE, Some(enlarged))
 }
 
 /// The steps that can be taken back: 17 and their number, or 4 and 0.

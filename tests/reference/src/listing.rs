@@ -1,8 +1,8 @@
 //! The bench listing: a text of events is played, one line of answer each.
 //! An independent implementation, written from document 01 and change
-//! requests 2026-01 to 2026-03 and 2026-05.
+//! requests 2026-01 to 2026-03, 2026-05 and 2026-06.
 
-use crate::adapter::{self, Answer, Journal, State};
+use crate::adapter::{self, Answer, Journal, Size, State};
 use crate::numbers::{FRAME, UNREADABLE};
 
 /// The chip ID of the program's adapter.
@@ -30,10 +30,10 @@ struct Transaction {
     received: Vec<u8>,
 }
 
-/// The output of the program for an input.
+/// The output of the program for an input; its journal is a large one.
 pub fn played(input: &[u8]) -> Vec<u8> {
     let mut state = State::power_on(ID);
-    let mut journal = Journal::new();
+    let mut journal = Journal::sized(Size::Large);
     let mut printed = Vec::new();
     for line in lines(input) {
         play_line(&mut state, &mut journal, line, &mut printed);

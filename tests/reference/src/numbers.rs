@@ -1,17 +1,19 @@
 //! The numbers that calls give back, as document 01's table and the change
 //! requests list them.
 //! An independent implementation, written from document 01 and change
-//! requests 2026-01 to 2026-03 and 2026-05.
+//! requests 2026-01 to 2026-03, 2026-05 and 2026-06.
 
 /// A frame was read or sent.
 pub const FRAME: u8 = 0;
-/// The output is too short.
+/// The output is too short, or the buffer for a large journal is not of its
+/// length.
 pub const SHORT_OUTPUT: u8 = 1;
 /// The body has not 2 to 16 bytes.
 pub const BODY_LENGTH: u8 = 2;
 /// Port, edge kind, I2C channel, completion length or sample count is wrong.
 pub const BAD_ARGUMENT: u8 = 3;
-/// The journal is wrong in length, mark, version or layout.
+/// The journal is wrong in length, mark, version or layout; for enlarging, no
+/// small one.
 pub const BAD_JOURNAL: u8 = 4;
 /// No step can be taken back.
 pub const NOTHING_KEPT: u8 = 5;

@@ -1,7 +1,7 @@
 //! The adapter's state: its link numbers, ports and registers, and the exact
 //! list of what is out of range.
 //! An independent implementation, written from document 01 and change
-//! requests 2026-01 to 2026-03 and 2026-05.
+//! requests 2026-01 to 2026-03, 2026-05 and 2026-06.
 
 /// The SPI channel.
 #[derive(Clone, Copy, PartialEq, Eq, Debug, Default)]

@@ -1,6 +1,7 @@
-//! Tests of the adapter's events, refusals and steps back.
+//! Tests of the adapter's events, refusals and steps back, with journals of
+//! both sizes.
 //! An independent implementation, written from document 01 and change
-//! requests 2026-01 to 2026-03 and 2026-05.
+//! requests 2026-01 to 2026-03, 2026-05 and 2026-06.
 
 use reference::adapter::*;
 
@@ -16,9 +17,14 @@ type Given = (u8, u32, Vec<u8>);
 
 impl Bench {
     fn new() -> Bench {
+        Bench::sized(Size::Small)
+    }
+
+    /// A new adapter with an empty journal of a size.
+    fn sized(size: Size) -> Bench {
         Bench {
             state: create(0x12_3456).1.unwrap(),
-            journal: Journal::new(),
+            journal: Journal::sized(size),
         }
     }
 
@@ -603,7 +609,7 @@ fn samples_follow_direction_clock_and_edge() {
         bench.ask(2, 4, 0x20, direction);
         bench.ask(2, 4, 0x80, clksel);
         bench.ask(2, 4, 0x90, edgesel);
-        assert_eq!(bench.sample(1, kind as u32), (17, 0, vec![]));
+        assert_eq!(bench.sample(1, kind), (17, 0, vec![]));
         let source = if clksel == 0 { 0 } else { 1 + edgesel };
         let taken = direction == 0 && kind == source;
         assert_eq!(bench.ask(2, 1, 0x01, 0), (0, 4, u32::from(taken)));
@@ -726,12 +732,19 @@ fn the_edge_that_samples_is_not_the_edge_that_fires() {
 
 #[test]
 fn refusals_in_order_change_nothing() {
+    for size in [Size::Small, Size::Large] {
+        refusals_of_a_damaged_journal(size);
+        refusals_of_wrong_arguments(size);
+    }
+}
+
+fn refusals_of_a_damaged_journal(size: Size) {
     let bad = State {
         send: 8,
         ..State::default()
     };
     for condition in [Condition::WrongLength, Condition::WrongLayout] {
-        let mut journal = Journal::new();
+        let mut journal = Journal::sized(size);
         journal.condition = condition;
         let (state, kept_journal) = (State::default(), journal.clone());
         let mut out = [7; 15];
@@ -756,9 +769,12 @@ fn refusals_in_order_change_nothing() {
         assert_eq!((s, &journal, out), (state, &kept_journal, [7; 15]));
         let whole = condition == Condition::WrongLayout;
         assert_eq!(empty(&mut journal), if whole { 17 } else { 4 });
-        assert_eq!(journal == Journal::new(), whole);
+        assert_eq!(journal == Journal::sized(size), whole);
     }
-    let mut bench = Bench::new();
+}
+
+fn refusals_of_wrong_arguments(size: Size) {
+    let mut bench = Bench::sized(size);
     bench.upset();
     let before = bench.clone();
     let (s, j) = (&mut bench.state, &mut bench.journal);
@@ -1576,6 +1592,11 @@ fn random_i2c(chance: &mut Chance, state: &State) -> Event {
     )
 }
 
+/// Whether an event is a RESET that is accepted unless it is refused.
+fn is_reset(event: &Event) -> bool {
+    matches!(event, Event::Frame(_, body) if body[..] == [0, 0x8F] || body[..] == [0, 0x9F])
+}
+
 fn random_event(chance: &mut Chance, state: &State) -> Event {
     match chance.below(12) {
         0 => Event::Completion((0..16).map(|_| chance.next() as u8).collect()),
@@ -1614,9 +1635,11 @@ fn runs_with_steps_back_equal_runs_of_the_standing_events() {
                 i2c_replies += i32::from(matches!(event, Event::I2c(..)) && given.0 == 0);
                 assert!(given.0 != 4 && given.0 != 6);
                 if given.0 == 0 || given.0 >= 11 {
-                    let reset = matches!(&event, Event::Frame(_, body) if body.len() == 2
-                        && body[0] == 0 && (body[1] == 0x8F || body[1] == 0x9F));
-                    number = if reset { 0 } else { (number + 1).min(64) };
+                    number = if is_reset(&event) {
+                        0
+                    } else {
+                        (number + 1).min(64)
+                    };
                     standing.push((event, given));
                 }
             }
@@ -2090,30 +2113,37 @@ fn steps_back_through_a_batch() {
     assert_eq!(bench.state.gpio.intenable, 0);
 }
 
+/// Takes back `most` of the `toggling` samples that stand on `Bench::toggled`,
+/// all that the journal keeps; the others stand for good.
+fn take_back_toggling(bench: &mut Bench, count: usize, most: usize) {
+    assert_eq!(bench.kept(), most);
+    for step in 1..=most {
+        assert_eq!((bench.back(), bench.kept()), (17, most - step));
+        let standing = count - step;
+        let (datain, ints) = match standing {
+            0 => (0, 0xDEAD_BEEF),
+            some if some % 2 == 1 => (0xFFFF_FFFF, 1),
+            _ => (0, 2),
+        };
+        let gpio = (bench.state.gpio.datain, bench.state.gpio.ints);
+        assert_eq!(gpio, (datain, ints));
+        assert_eq!(usize::from(bench.state.send), (6 + standing) % 8);
+    }
+    let stood = bench.state;
+    assert_eq!((bench.back(), bench.kept()), (5, 0));
+    assert_eq!(bench.state, stood);
+}
+
 #[test]
 fn no_more_than_64_steps_back_through_a_batch() {
     // The samples, and how many of them stand for good.
     for (count, fixed) in [(64, 0), (65, 1), (255, 191), (256, 192)] {
         let mut bench = Bench::toggled();
         bench.batch(&toggling(count));
-        for step in 1..=64 {
-            assert_eq!((bench.back(), bench.kept()), (17, 64 - step));
-            let standing = count - step;
-            let (datain, ints) = match standing {
-                0 => (0, 0xDEAD_BEEF),
-                some if some % 2 == 1 => (0xFFFF_FFFF, 1),
-                _ => (0, 2),
-            };
-            let gpio = (bench.state.gpio.datain, bench.state.gpio.ints);
-            assert_eq!(gpio, (datain, ints));
-            assert_eq!(usize::from(bench.state.send), (6 + standing) % 8);
-        }
-        let stood = bench.state;
-        assert_eq!((bench.back(), bench.kept()), (5, 0));
-        assert_eq!(bench.state, stood);
+        take_back_toggling(&mut bench, count, 64);
         let mut plain = Bench::toggled();
         let (answer, _) = plain.batch(&toggling(fixed));
-        assert_eq!((answer.frames, plain.state), (fixed, stood));
+        assert_eq!((answer.frames, plain.state), (fixed, bench.state));
     }
     // After 60 samples, four of the six requests before them are kept too.
     let mut bench = Bench::toggled();
@@ -2314,6 +2344,10 @@ fn a_batch_equals_its_samples_one_by_one() {
             batched.state.gpio = Gpio::default();
         }
         (0..chance.below(70)).for_each(|_| assert_eq!(batched.upset().0, 17));
+        // Half of the rounds go on with a large journal.
+        if round % 20 >= 10 {
+            batched = batched.enlarged();
+        }
         let mut single = batched.clone();
         let count = match chance.below(4) {
             0 => chance.below(257),
@@ -2421,9 +2455,11 @@ fn runs_with_batches_equal_runs_of_the_standing_events() {
                     let (given, _, _) = bench.play(&event);
                     assert!(given != 4 && given != 6);
                     if given == 0 || given >= 11 {
-                        let reset = matches!(&event, Event::Frame(_, body) if body.len() == 2
-                            && body[0] == 0 && (body[1] == 0x8F || body[1] == 0x9F));
-                        number = if reset { 0 } else { (number + 1).min(64) };
+                        number = if is_reset(&event) {
+                            0
+                        } else {
+                            (number + 1).min(64)
+                        };
                         standing.push(event);
                     }
                 }
@@ -2439,4 +2475,735 @@ fn runs_with_batches_equal_runs_of_the_standing_events() {
     assert!(frames > 1_000, "only {} frames", frames);
     assert!(refused > 100, "only {} batches refused", refused);
     assert!(taken_back > 1_000, "only {} steps back", taken_back);
+}
+
+/// The lengths of a second buffer that enlarging refuses.
+const WRONG_SECOND_LENGTHS: [usize; 10] = [
+    0,
+    1,
+    17_407,
+    17_408,
+    17_409,
+    52_223,
+    52_225,
+    65_536 + 52_224,
+    104_448,
+    usize::MAX,
+];
+
+impl Bench {
+    /// The bench with its journal enlarged. The kept number stays, and so
+    /// does the small journal.
+    fn enlarged(&self) -> Bench {
+        let before = self.journal.clone();
+        let (number, journal) = enlarge(&self.journal, 52_224);
+        assert_eq!((number, &self.journal), (17, &before));
+        let journal = journal.unwrap();
+        assert_eq!(journal.size(), Size::Large);
+        assert_eq!(journal.condition, Condition::Whole);
+        assert_eq!(kept(&journal), kept(&before));
+        Bench {
+            state: self.state,
+            journal,
+        }
+    }
+
+    /// All channels enabled, an empty journal of a size, and the work of the
+    /// first places done.
+    fn at_work(size: Size, count: usize) -> Bench {
+        let mut bench = Bench {
+            state: Bench::ready().state,
+            journal: Journal::sized(size),
+        };
+        bench.work_through(0..count);
+        bench
+    }
+
+    fn work_through(&mut self, places: std::ops::Range<usize>) {
+        places.for_each(|place| self.work(place));
+    }
+
+    /// One event for each place. They come in turns of five: a write of DAC A,
+    /// an upset, a pin sample, a frame that is dropped, a write of DATAOUT.
+    fn work(&mut self, place: usize) {
+        let mark = place as u32 + 1;
+        match place % 5 {
+            0 => assert_eq!(self.ask(0x15, 4, 0x10, mark), (0, 1, 0)),
+            1 => assert_eq!(self.upset(), (17, 0, vec![])),
+            2 => assert_eq!(self.sample(mark, 0), (17, 0, vec![])),
+            3 => self.drop_frame(),
+            _ => assert_eq!(self.ask(0x02, 4, 0x10, mark), (0, 2, 0)),
+        }
+    }
+
+    /// A frame whose number is one ahead: SREJ asks for the one due.
+    fn drop_frame(&mut self) {
+        let receive = self.state.receive;
+        let ahead = 2 * ((receive + 1) % 8);
+        let given = self.frame(0, &[0, ahead, 1, 0x15, 4, 0x10, 9, 9, 9, 9]);
+        assert_eq!(given, (0, 0, vec![0, 0x0D + 32 * receive]));
+    }
+
+    /// Steps back, each time to the state due, as often as the kept number
+    /// says, and once more, which is refused and changes nothing.
+    fn back_to_the_refusal(&mut self, count: usize, steps: usize) {
+        assert_eq!((self.kept(), self.state), (steps, due_after(count)));
+        for step in 1..=steps {
+            assert_eq!((self.back(), self.kept()), (17, steps - step));
+            assert_eq!(self.state, due_after(count - step));
+        }
+        let before = self.clone();
+        assert_eq!((self.back(), self.kept()), (5, 0));
+        assert_eq!((self.state, &self.journal), (before.state, &before.journal));
+    }
+}
+
+/// The state after the work of the first `count` places. The marks of places
+/// 0, 5, 10 .. are 1, 6, 11 .., those of 2, 7, 12 .. are 3, 8, 13 .., those of
+/// 4, 9, 14 .. are 5, 10, 15 ..; only the two writes are answered requests.
+fn due_after(count: usize) -> State {
+    let (dacs, upsets, samples, writes) =
+        ((count + 4) / 5, (count + 3) / 5, (count + 2) / 5, count / 5);
+    let answered = ((3 + dacs + writes) % 8) as u8;
+    let gpio = Gpio {
+        datain: (5 * samples).saturating_sub(2) as u32,
+        dataout: 5 * writes as u32,
+        ..Gpio::default()
+    };
+    State {
+        id: 0x12_3456,
+        send: answered,
+        receive: answered,
+        crb: 0xFE,
+        crc: 0xFF,
+        crd: 0x1F,
+        seu: upsets as u32,
+        gpio,
+        dac: [(5 * dacs).saturating_sub(4) as u8, 0, 0, 0],
+        ..State::default()
+    }
+}
+
+#[test]
+fn the_work_of_eleven_places() {
+    // DAC A, SEU counter, DATAIN, DATAOUT and both link numbers after each.
+    let wanted = [
+        (0, 0, 0, 0, 3),
+        (1, 0, 0, 0, 4),
+        (1, 1, 0, 0, 4),
+        (1, 1, 3, 0, 4),
+        (1, 1, 3, 0, 4),
+        (1, 1, 3, 5, 5),
+        (6, 1, 3, 5, 6),
+        (6, 2, 3, 5, 6),
+        (6, 2, 8, 5, 6),
+        (6, 2, 8, 5, 6),
+        (6, 2, 8, 10, 7),
+        (11, 2, 8, 10, 0),
+    ];
+    for (count, (dac, seu, datain, dataout, number)) in wanted.iter().enumerate() {
+        let state = due_after(count);
+        assert_eq!((state.dac, state.seu), ([*dac, 0, 0, 0], *seu));
+        assert_eq!((state.gpio.datain, state.gpio.dataout), (*datain, *dataout));
+        assert_eq!((state.send, state.receive), (*number, *number));
+        assert_eq!(Bench::at_work(Size::Small, count).state, state);
+    }
+}
+
+#[test]
+fn the_length_says_the_size() {
+    assert_eq!((Size::Small.bytes(), Size::Small.kept_most()), (17_408, 64));
+    assert_eq!(
+        (Size::Large.bytes(), Size::Large.kept_most()),
+        (52_224, 200)
+    );
+    assert_eq!(Size::of(17_408), Some(Size::Small));
+    assert_eq!(Size::of(52_224), Some(Size::Large));
+    for bytes in [
+        0, 1, 64, 200, 1_024, 16_384, 17_407, 17_409, 34_816, 51_200, 52_223, 52_225, 104_448,
+    ] {
+        assert_eq!(Size::of(bytes), None);
+    }
+    assert_eq!(Journal::new().size(), Size::Small);
+    assert_eq!(Journal::default(), Journal::new());
+    for size in [Size::Small, Size::Large] {
+        let journal = Journal::sized(size);
+        assert_eq!((journal.size(), kept(&journal)), (size, (17, 0)));
+        assert_eq!(journal == Journal::new(), size == Size::Small);
+    }
+}
+
+#[test]
+fn steps_back_to_the_refusal_in_both_sizes() {
+    // The events and the kept number after them.
+    for (size, count, steps) in [
+        (Size::Small, 0, 0),
+        (Size::Small, 1, 1),
+        (Size::Small, 63, 63),
+        (Size::Small, 64, 64),
+        (Size::Small, 65, 64),
+        (Size::Small, 128, 64),
+        (Size::Small, 199, 64),
+        (Size::Small, 200, 64),
+        (Size::Small, 201, 64),
+        (Size::Large, 0, 0),
+        (Size::Large, 1, 1),
+        (Size::Large, 63, 63),
+        (Size::Large, 64, 64),
+        (Size::Large, 65, 65),
+        (Size::Large, 128, 128),
+        (Size::Large, 199, 199),
+        (Size::Large, 200, 200),
+        (Size::Large, 201, 200),
+        (Size::Large, 400, 200),
+        (Size::Large, 401, 200),
+    ] {
+        let mut bench = Bench::at_work(size, count);
+        bench.back_to_the_refusal(count, steps);
+        assert_eq!(bench.journal, Journal::sized(size));
+        // What was refused has not used up a step of what comes later.
+        let left = count - steps;
+        bench.work(left);
+        bench.back_to_the_refusal(left + 1, 1);
+        // The room of the steps taken back is used again.
+        bench.work_through(left..count + 7);
+        let most = if size == Size::Small { 64 } else { 200 };
+        bench.back_to_the_refusal(count + 7, most.min(steps + 7));
+    }
+}
+
+#[test]
+fn the_kept_number_along_a_run() {
+    let mut small = Bench::at_work(Size::Small, 0);
+    let mut large = Bench::at_work(Size::Large, 0);
+    for count in 1..=64 {
+        small.work(count - 1);
+        large.work(count - 1);
+        assert_eq!((small.kept(), large.kept()), (count, count));
+    }
+    for count in 65..=200 {
+        small.work(count - 1);
+        large.work(count - 1);
+        assert_eq!((small.kept(), large.kept()), (64, count));
+    }
+    for count in 201..=210 {
+        small.work(count - 1);
+        large.work(count - 1);
+        assert_eq!((small.kept(), large.kept()), (64, 200));
+    }
+    // Down and up again at the upper edge.
+    assert_eq!((large.back(), large.kept()), (17, 199));
+    assert_eq!((large.upset().0, large.kept()), (17, 200));
+    assert_eq!((large.upset().0, large.kept()), (17, 200));
+}
+
+#[test]
+fn enlarging_at_every_kept_number() {
+    for count in 0..=64 {
+        let mut small = Bench::at_work(Size::Small, count);
+        let mut large = small.enlarged();
+        let wanted: Vec<State> = (0..count).map(due_after).collect();
+        assert!(large.journal.earlier().eq(&wanted));
+        large.back_to_the_refusal(count, count);
+        // The small one was left as it was.
+        small.back_to_the_refusal(count, count);
+    }
+}
+
+#[test]
+fn enlarging_after_the_oldest_steps_are_gone() {
+    for count in 65..=200 {
+        let mut large = Bench::at_work(Size::Small, count).enlarged();
+        let wanted: Vec<State> = (count - 64..count).map(due_after).collect();
+        assert!(large.journal.earlier().eq(&wanted));
+        large.back_to_the_refusal(count, 64);
+    }
+}
+
+#[test]
+fn enlarging_after_steps_back() {
+    // The events and the kept number after them.
+    for (count, most) in [(1, 1), (63, 63), (64, 64), (65, 64), (100, 64), (200, 64)] {
+        let mut small = Bench::at_work(Size::Small, count);
+        for steps in 0..=most {
+            let (standing, left) = (count - steps, most - steps);
+            let mut large = small.enlarged();
+            // Another branch first, and back to where it began.
+            (0..3).for_each(|_| assert_eq!(large.upset().0, 17));
+            assert_eq!(large.kept(), left + 3);
+            assert_eq!(large.state.seu, due_after(standing).seu + 3);
+            (0..3).for_each(|_| assert_eq!(large.back(), 17));
+            large.back_to_the_refusal(standing, left);
+            // A step back in the small one leads to the next row.
+            assert_eq!(small.back(), if left == 0 { 5 } else { 17 });
+        }
+    }
+}
+
+#[test]
+fn an_enlarged_journal_keeps_two_hundred() {
+    // Events before enlarging, those after it, and the kept number then. At
+    // enlarging it is that of the events before, but 64 at most.
+    for (before, after, steps) in [
+        (0, 64, 64),
+        (0, 65, 65),
+        (0, 199, 199),
+        (0, 200, 200),
+        (0, 201, 200),
+        (1, 198, 199),
+        (1, 199, 200),
+        (1, 200, 200),
+        (63, 1, 64),
+        (63, 2, 65),
+        (63, 136, 199),
+        (63, 137, 200),
+        (63, 138, 200),
+        (64, 1, 65),
+        (64, 135, 199),
+        (64, 136, 200),
+        (64, 137, 200),
+        (65, 1, 65),
+        (65, 135, 199),
+        (65, 136, 200),
+        (65, 137, 200),
+        (127, 136, 200),
+        (128, 136, 200),
+        (201, 135, 199),
+        (201, 136, 200),
+        (201, 137, 200),
+        (201, 500, 200),
+    ] {
+        let mut large = Bench::at_work(Size::Small, before).enlarged();
+        large.work_through(before..before + after);
+        large.back_to_the_refusal(before + after, steps);
+        assert_eq!(large.journal, Journal::sized(Size::Large));
+    }
+}
+
+#[test]
+fn both_journals_go_on_by_themselves() {
+    let mut small = Bench::at_work(Size::Small, 70);
+    let left = small.journal.clone();
+    let mut large = small.enlarged();
+    large.work_through(70..300);
+    assert_eq!((&small.journal, small.kept()), (&left, 64));
+    let grown = large.journal.clone();
+    small.work_through(70..100);
+    // The small one can be enlarged once more, as it is now.
+    let mut second = small.enlarged();
+    second.work_through(100..110);
+    second.back_to_the_refusal(110, 74);
+    small.back_to_the_refusal(100, 64);
+    assert_eq!((&large.journal, large.kept()), (&grown, 200));
+    large.back_to_the_refusal(300, 200);
+}
+
+#[test]
+fn a_wrong_second_length_is_1() {
+    for count in [0, 1, 63, 64, 65, 200] {
+        let small = Bench::at_work(Size::Small, count);
+        for length in WRONG_SECOND_LENGTHS {
+            assert_eq!(enlarge(&small.journal, length), (1, None));
+        }
+        // Nothing was lost by it.
+        assert_eq!(small.journal, Bench::at_work(Size::Small, count).journal);
+        small.enlarged().back_to_the_refusal(count, count.min(64));
+    }
+}
+
+/// Enlarging gives 4 for a second buffer of any length.
+fn is_no_small_journal(journal: &Journal) {
+    let before = journal.clone();
+    assert_eq!(enlarge(journal, 52_224), (4, None));
+    for length in WRONG_SECOND_LENGTHS {
+        assert_eq!(enlarge(journal, length), (4, None));
+    }
+    assert_eq!(*journal, before);
+}
+
+#[test]
+fn enlarging_what_is_no_small_journal_is_4_before_1() {
+    for count in [0, 1, 63, 64, 65, 199, 200, 201] {
+        let small = Bench::at_work(Size::Small, count);
+        let large = Bench::at_work(Size::Large, count);
+        is_no_small_journal(&large.journal);
+        is_no_small_journal(&small.enlarged().journal);
+        for condition in [Condition::WrongLength, Condition::WrongLayout] {
+            for bench in [&small, &large] {
+                let mut journal = bench.journal.clone();
+                journal.condition = condition;
+                is_no_small_journal(&journal);
+            }
+        }
+        // A large one goes on after the refusal.
+        large.clone().back_to_the_refusal(count, count.min(200));
+    }
+}
+
+#[test]
+fn enlarging_an_emptied_journal() {
+    for condition in [Condition::Whole, Condition::WrongLayout] {
+        let mut small = Bench::at_work(Size::Small, 70);
+        small.journal.condition = condition;
+        assert_eq!(empty(&mut small.journal), 17);
+        assert_eq!(small.journal, Journal::new());
+        let mut large = small.enlarged();
+        assert_eq!(large.journal, Journal::sized(Size::Large));
+        large.back_to_the_refusal(70, 0);
+        large.work_through(70..271);
+        large.back_to_the_refusal(271, 200);
+    }
+    let mut small = Bench::at_work(Size::Small, 70);
+    assert_eq!(small.frame(0, &RESET), (0, 0, vec![0, 0x63]));
+    let mut large = small.enlarged();
+    assert_eq!(large.journal, Journal::sized(Size::Large));
+    assert_eq!((large.back(), large.kept()), (5, 0));
+}
+
+/// As many upsets as go in and one more; then all are taken back that can be.
+fn fill_with_upsets(bench: &mut Bench, most: usize) {
+    let seu = bench.state.seu;
+    for count in 1..=most {
+        assert_eq!((bench.upset().0, bench.kept()), (17, count));
+    }
+    assert_eq!((bench.upset().0, bench.kept()), (17, most));
+    (0..most).for_each(|_| assert_eq!(bench.back(), 17));
+    assert_eq!((bench.state.seu, bench.kept()), (seu + 1, 0));
+    assert_eq!(bench.back(), 5);
+}
+
+#[test]
+fn reset_empties_a_journal_and_leaves_its_size() {
+    // The events, and the kept number after one event more.
+    for (size, count, more, most) in [
+        (Size::Small, 0, 1, 64),
+        (Size::Small, 63, 64, 64),
+        (Size::Small, 64, 64, 64),
+        (Size::Small, 200, 64, 64),
+        (Size::Large, 0, 1, 200),
+        (Size::Large, 63, 64, 200),
+        (Size::Large, 64, 65, 200),
+        (Size::Large, 199, 200, 200),
+        (Size::Large, 200, 200, 200),
+        (Size::Large, 201, 200, 200),
+    ] {
+        for (control, reply) in [(0x8F, 0x63), (0x9F, 0x73)] {
+            let mut bench = Bench::at_work(size, count);
+            // With information it is dropped, and kept as any event.
+            assert_eq!(bench.frame(0, &[0, control, 0]), (14, 0, vec![]));
+            assert_eq!((bench.kept(), bench.state), (more, due_after(count)));
+            assert_eq!(bench.frame(0, &[0, control]), (0, 0, vec![0, reply]));
+            assert_eq!(bench.journal, Journal::sized(size));
+            assert_eq!((bench.kept(), bench.back()), (0, 5));
+            assert_eq!(bench.state, Bench::new().state);
+            fill_with_upsets(&mut bench, most);
+        }
+    }
+}
+
+#[test]
+fn emptying_goes_by_the_length() {
+    for (size, most) in [(Size::Small, 64), (Size::Large, 200)] {
+        for count in [0, 1, 64, 65, 200, 201] {
+            for condition in [Condition::Whole, Condition::WrongLayout] {
+                let mut bench = Bench::at_work(size, count);
+                bench.journal.condition = condition;
+                assert_eq!(empty(&mut bench.journal), 17);
+                assert_eq!(bench.journal, Journal::sized(size));
+                assert_eq!(bench.journal.size(), size);
+                bench.back_to_the_refusal(count, 0);
+                fill_with_upsets(&mut bench, most);
+            }
+            let mut bench = Bench::at_work(size, count);
+            bench.journal.condition = Condition::WrongLength;
+            let before = bench.journal.clone();
+            assert_eq!(empty(&mut bench.journal), 4);
+            assert_eq!(bench.journal, before);
+        }
+    }
+    // An enlarged one is emptied as a large one.
+    let mut bench = Bench::at_work(Size::Small, 64).enlarged();
+    assert_eq!(empty(&mut bench.journal), 17);
+    assert_eq!(bench.journal, Journal::sized(Size::Large));
+    fill_with_upsets(&mut bench, 200);
+}
+
+#[test]
+fn lists_of_many_lengths_on_a_large_journal() {
+    // The samples; the kept number after six requests and them, and after
+    // them alone.
+    for (count, with_requests, alone) in [
+        (0, 6, 0),
+        (1, 7, 1),
+        (58, 64, 58),
+        (59, 65, 59),
+        (64, 70, 64),
+        (65, 71, 65),
+        (193, 199, 193),
+        (194, 200, 194),
+        (195, 200, 195),
+        (199, 200, 199),
+        (200, 200, 200),
+        (201, 200, 200),
+        (255, 200, 200),
+        (256, 200, 200),
+    ] {
+        let mut large = Bench::toggled().enlarged();
+        let (answer, bodies) = large.batch(&toggling(count));
+        let wanted = match count {
+            0 => batch_silent(17),
+            _ => batch_sent(0, count, count as u32),
+        };
+        assert_eq!((answer, bodies), (wanted, toggled_bodies(count)));
+        assert_eq!(large.kept(), with_requests);
+        let mut small = Bench::toggled();
+        small.batch(&toggling(count));
+        assert_eq!(large.state, small.state);
+        let mut large = Bench::toggled();
+        large.journal = Journal::sized(Size::Large);
+        large.batch(&toggling(count));
+        assert_eq!((large.state, large.kept()), (small.state, alone));
+    }
+}
+
+#[test]
+fn no_more_than_200_steps_back_through_a_batch() {
+    // The samples, and how many of them stand for good.
+    for (count, fixed) in [(200, 0), (201, 1), (255, 55), (256, 56)] {
+        let mut bench = Bench::toggled().enlarged();
+        bench.batch(&toggling(count));
+        take_back_toggling(&mut bench, count, 200);
+        let mut plain = Bench::toggled();
+        let (answer, _) = plain.batch(&toggling(fixed));
+        assert_eq!((answer.frames, plain.state), (fixed, bench.state));
+    }
+    // After 196 samples, four of the six requests before them are kept too.
+    let mut bench = Bench::toggled().enlarged();
+    let before = bench.state;
+    bench.batch(&toggling(196));
+    assert_eq!(bench.kept(), 200);
+    (0..196).for_each(|_| assert_eq!(bench.back(), 17));
+    assert_eq!((bench.state, bench.kept()), (before, 4));
+    (0..4).for_each(|_| assert_eq!(bench.back(), 17));
+    assert_eq!((bench.state.gpio, bench.kept()), (Gpio::default(), 0));
+    assert_eq!((bench.state.receive, bench.back()), (2, 5));
+}
+
+#[test]
+fn enlarging_between_two_batches() {
+    // The samples before enlarging and after it, and the kept number then;
+    // an even number before, so that the lines go on in turns.
+    for (before, after, steps) in [(100, 100, 164), (100, 136, 200), (256, 256, 200)] {
+        let mut bench = Bench::toggled();
+        bench.batch(&toggling(before));
+        assert_eq!(bench.kept(), 64);
+        let mut bench = bench.enlarged();
+        let (answer, _) = bench.batch(&toggling(after));
+        assert_eq!(answer, batch_sent(0, after, after as u32));
+        take_back_toggling(&mut bench, before + after, steps);
+    }
+}
+
+#[test]
+fn refusals_of_a_batch_on_a_large_journal_change_nothing() {
+    let mut bench = Bench::toggled().enlarged();
+    bench.batch(&toggling(250));
+    let before = bench.clone();
+    let mut bad_kind = toggling(256);
+    bad_kind[255].kind = 3;
+    let refused = |bench: &mut Bench, samples: &[Sample], length: usize, number: u8| {
+        let given = bench.batch_into(samples, length);
+        assert_eq!(given, (batch_silent(number), vec![]));
+        assert_eq!(bench.state, before.state);
+        assert!(bench.journal.earlier().eq(before.journal.earlier()));
+    };
+    refused(&mut bench, &toggling(257), 2_560, 3);
+    refused(&mut bench, &bad_kind, 2_560, 3);
+    refused(&mut bench, &bad_kind, 2_559, 1);
+    for condition in [Condition::WrongLength, Condition::WrongLayout] {
+        bench.journal.condition = condition;
+        refused(&mut bench, &bad_kind, 2_559, 4);
+        refused(&mut bench, &[], 2_560, 4);
+    }
+    bench.journal.condition = Condition::Whole;
+    refused(&mut bench, &[], 2_560, 17);
+    take_back_toggling(&mut bench, 250, 200);
+}
+
+/// What a run of events and steps back leaves: the kept numbers of a small
+/// journal and of the large one beside it, counted by the rules alone.
+struct Counted {
+    small: usize,
+    large: usize,
+}
+
+impl Counted {
+    fn event(&mut self) {
+        self.small = (self.small + 1).min(64);
+        self.large = (self.large + 1).min(200);
+    }
+
+    fn reset(&mut self) {
+        self.small = 0;
+        self.large = 0;
+    }
+}
+
+/// A RESET would end most runs early; only few of them are let through.
+fn random_event_with_few_resets(chance: &mut Chance, state: &State) -> Event {
+    let event = random_event(chance, state);
+    if is_reset(&event) && chance.below(8) != 0 {
+        Event::Upset
+    } else {
+        event
+    }
+}
+
+/// A small bench after a run of events and steps back.
+fn random_small_bench(chance: &mut Chance) -> Bench {
+    let mut bench = Bench::at_work(Size::Small, 0);
+    for _ in 0..chance.below(150) {
+        if chance.below(4) == 0 {
+            bench.back();
+        } else {
+            let event = random_event_with_few_resets(chance, &bench.state);
+            bench.play(&event);
+        }
+    }
+    bench
+}
+
+/// The same event for both; they must not differ.
+fn play_beside(small: &mut Bench, large: &mut Bench, event: &Event, counted: &mut Counted) {
+    let given = small.play(event);
+    assert_eq!(large.play(event), given);
+    if given.0 == 0 || given.0 >= 11 {
+        if is_reset(event) {
+            counted.reset();
+        } else {
+            counted.event();
+        }
+    }
+}
+
+/// The same batch for both; they must not differ.
+fn batch_beside(small: &mut Bench, large: &mut Bench, samples: &[Sample], counted: &mut Counted) {
+    assert_eq!(small.batch(samples), large.batch(samples));
+    samples.iter().for_each(|_| counted.event());
+}
+
+#[test]
+fn after_enlarging_all_is_as_with_the_small_journal_until_that_gives_5() {
+    let mut chance = Chance(2_606);
+    let (mut steps, mut parted, mut both_refused, mut full) = (0, 0, 0, 0);
+    for _ in 0..150 {
+        let mut small = random_small_bench(&mut chance);
+        let mut large = small.enlarged();
+        let mut counted = Counted {
+            small: small.kept(),
+            large: small.kept(),
+        };
+        'run: for _ in 0..12 {
+            for _ in 0..chance.below(60) {
+                if chance.below(30) == 0 {
+                    let count = chance.below(30) as usize;
+                    let samples = random_samples(&mut chance, count);
+                    batch_beside(&mut small, &mut large, &samples, &mut counted);
+                } else {
+                    let event = random_event_with_few_resets(&mut chance, &small.state);
+                    play_beside(&mut small, &mut large, &event, &mut counted);
+                }
+                assert_eq!(small.state, large.state);
+                assert_eq!((small.kept(), large.kept()), (counted.small, counted.large));
+                full += i32::from(counted.large == 200);
+            }
+            for _ in 0..chance.below(50) {
+                let numbers = (small.back(), large.back());
+                match (counted.small, counted.large) {
+                    (0, 0) => {
+                        assert_eq!(numbers, (5, 5));
+                        both_refused += 1;
+                    }
+                    (0, _) => {
+                        // From here on the two have different events standing.
+                        assert_eq!(numbers, (5, 17));
+                        parted += 1;
+                        break 'run;
+                    }
+                    _ => {
+                        assert_eq!(numbers, (17, 17));
+                        counted.small -= 1;
+                        counted.large -= 1;
+                        steps += 1;
+                    }
+                }
+                assert_eq!(small.state, large.state);
+                assert_eq!((small.kept(), large.kept()), (counted.small, counted.large));
+            }
+        }
+    }
+    assert!(steps > 5_000, "only {} steps back", steps);
+    assert!(parted > 20, "only {} runs parted", parted);
+    assert!(both_refused > 20, "only {} refused by both", both_refused);
+    assert!(full > 100, "only {} events with 200 kept", full);
+}
+
+#[test]
+fn runs_with_enlarging_equal_runs_of_the_standing_events() {
+    let mut chance = Chance(6_202);
+    let (mut taken_back, mut refused, mut full, mut beyond) = (0, 0, 0, 0);
+    for run in 0..60 {
+        let mut plain = Bench::new();
+        if run % 2 == 1 {
+            plain.state = Bench::ready().state;
+        }
+        let mut bench = plain.clone();
+        let mut standing: Vec<(Event, Given)> = Vec::new();
+        let (mut number, mut most) = (0, 64);
+        let moment = chance.below(400);
+        for turn in 0..700 {
+            if turn == moment {
+                assert_eq!(enlarge(&bench.journal, 17_408), (1, None));
+                bench = bench.enlarged();
+                assert_eq!(enlarge(&bench.journal, 52_224), (4, None));
+                most = 200;
+            }
+            if chance.below(12) == 0 {
+                for _ in 0..chance.below(14) {
+                    assert_eq!(bench.back(), if number == 0 { 5 } else { 17 });
+                    if number > 0 {
+                        number -= 1;
+                        taken_back += 1;
+                        beyond += i32::from(number >= 64);
+                        standing.pop();
+                    }
+                }
+            } else {
+                let event = random_event_with_few_resets(&mut chance, &bench.state);
+                let given = bench.play(&event);
+                assert!(given.0 != 4 && given.0 != 6);
+                if given.0 == 0 || given.0 >= 11 {
+                    number = if is_reset(&event) {
+                        0
+                    } else {
+                        (number + 1).min(most)
+                    };
+                    standing.push((event, given));
+                } else {
+                    refused += 1;
+                }
+            }
+            assert_eq!(bench.kept(), number);
+            assert!(in_range(&bench.state));
+            full += i32::from(number == 200);
+        }
+        for (event, given) in &standing {
+            assert_eq!(&plain.play(event), given);
+        }
+        assert_eq!(plain.state, bench.state);
+    }
+    assert!(taken_back > 5_000, "only {} steps back", taken_back);
+    assert!(beyond > 1_000, "only {} of them beyond the 64th", beyond);
+    assert!(refused > 500, "only {} events refused", refused);
+    assert!(full > 500, "only {} turns with 200 kept", full);
 }

@@ -1,6 +1,6 @@
 //! Tests of the control room's end, alone and joined with the adapter.
 //! An independent implementation, written from document 01 and change
-//! requests 2026-01 to 2026-03 and 2026-05.
+//! requests 2026-01 to 2026-03, 2026-05 and 2026-06.
 
 use reference::adapter::{self, Answer, Journal, State};
 use reference::control::{command, in_range, reply, request};

@@ -1,6 +1,7 @@
-//! Tests of the bench listing, by document 01's eight lines and its edges.
+//! Tests of the bench listing, by document 01's eight lines and its edges,
+//! with the large journal that the program uses.
 //! An independent implementation, written from document 01 and change
-//! requests 2026-01 to 2026-03 and 2026-05.
+//! requests 2026-01 to 2026-03, 2026-05 and 2026-06.
 
 use reference::listing::played;
 
@@ -289,10 +290,84 @@ F 0 00080602017100000000
 }
 
 #[test]
-fn kept_stops_at_sixty_four() {
-    let text = shown(&"U\n".repeat(66));
-    let last: Vec<&str> = text.lines().skip(62).collect();
-    assert_eq!(last, ["17 63", "17 64", "17 64", "17 64"]);
+fn kept_stops_at_two_hundred() {
+    let text = shown(&"U\n".repeat(203));
+    let lines: Vec<&str> = text.lines().collect();
+    assert_eq!(lines[62..66], ["17 63", "17 64", "17 65", "17 66"]);
+    let last = ["17 199", "17 200", "17 200", "17 200", "17 200"];
+    assert_eq!(lines[198..], last);
+}
+
+#[test]
+fn steps_back_to_the_refusal() {
+    // The upsets and the kept number after them.
+    for (upsets, kept) in [
+        (1, 1),
+        (63, 63),
+        (64, 64),
+        (65, 65),
+        (199, 199),
+        (200, 200),
+        (201, 200),
+        (450, 200),
+    ] {
+        let input = "U\n".repeat(upsets) + &"B\n".repeat(kept + 2);
+        let text = shown(&input);
+        let mut lines = text.lines().skip(upsets - 1);
+        assert_eq!(lines.next(), Some(&*format!("17 {}", kept)));
+        for left in (0..kept).rev() {
+            assert_eq!(lines.next(), Some(&*format!("17 {}", left)));
+        }
+        assert_eq!(lines.collect::<Vec<_>>(), ["5 0", "5 0"]);
+    }
+}
+
+/// The last lines that are printed for an input.
+fn last_lines(input: &str, count: usize) -> String {
+    let text = shown(input);
+    let lines: Vec<&str> = text.lines().collect();
+    lines[lines.len() - count..].join("\n")
+}
+
+#[test]
+fn the_states_that_long_branches_lead_back_to() {
+    // CRD bit 3 lets the SEU counter be read.
+    let enable = "F 0 00000100040600080000\n";
+    let read = "F 0 0002021304f100000000\n";
+    // Of the upsets, how many are taken back, the counter then, low byte
+    // first, and the kept number after the reading.
+    for (upsets, steps, counter, kept) in [
+        (64, 64, "0000", 2),
+        (65, 65, "0000", 2),
+        (150, 100, "3200", 52),
+        (199, 199, "0000", 2),
+        (200, 200, "0000", 1),
+        (201, 200, "0100", 1),
+        (300, 200, "6400", 1),
+        (600, 88, "0002", 113),
+    ] {
+        let branch = "U\n".repeat(upsets) + &"B\n".repeat(steps);
+        let wanted = format!("0 {} 0 0042021300040000{}", kept, counter);
+        assert_eq!(last_lines(&(enable.to_owned() + &branch + read), 1), wanted);
+    }
+    // One step more takes the enabling back, if it is among the 200 kept.
+    let input = enable.to_owned() + &"U\n".repeat(199) + &"B\n".repeat(200);
+    let read_first = "F 0 0000021304f100000000\n";
+    let wanted = "17 0\n5 0\n0 1 0 00200213200200000000";
+    assert_eq!(last_lines(&(input + "B\n" + read_first), 3), wanted);
+    let input = enable.to_owned() + &"U\n".repeat(200) + &"B\n".repeat(200);
+    let wanted = "17 0\n5 0\n0 1 0 00420213000400000000";
+    assert_eq!(last_lines(&(input + "B\n" + read), 3), wanted);
+}
+
+#[test]
+fn two_hundred_are_kept_after_a_reset_too() {
+    let upsets = "U\n".repeat(201);
+    let input = upsets.clone() + "F 0 008f\nB\n" + &upsets;
+    let text = shown(&input);
+    let lines: Vec<&str> = text.lines().collect();
+    assert_eq!(lines[200..204], ["17 200", "0 0 0 0063", "5 0", "17 1"]);
+    assert_eq!(lines[401..], ["17 199", "17 200", "17 200"]);
 }
 
 /// A small generator of repeatable numbers (xorshift).
@@ -307,12 +382,12 @@ impl Chance {
     }
 }
 
-/// Whether a printed line has the form of one, with a kept number up to 64.
+/// Whether a printed line has the form of one, with a kept number up to 200.
 fn well_formed(line: &str) -> bool {
     let fields: Vec<&str> = line.split(' ').collect();
     let kept: u8 = fields[1].parse().unwrap();
     let known = matches!(fields[0].parse().unwrap(), 0 | 2 | 3 | 5 | 10..=17);
-    known && kept <= 64 && fields.len() == if fields[0] == "0" { 4 } else { 2 }
+    known && kept <= 200 && fields.len() == if fields[0] == "0" { 4 } else { 2 }
 }
 
 #[test]

@@ -8,7 +8,6 @@ pub first-after-spec : {M : Type 1} → statement M
 first-after-spec =
     tie.close
     (tie.spec
-    (λ c. search needs)
-    (λ c. search needs)
-    (λ c. simp (eq-eqb _ _ (c .if1 .taken)))
+    (λ c κs. search needs)
+    (λ c. simp (eq-eqb _ _ (c .before .if1 .taken)) (c .slot-after .ensures))
     (λ c. simp (ne-eqb _ _ (c .if1 .left))))
