@@ -10,7 +10,7 @@
 #include "sca.h"
 
 static uint8_t record[SCA_RECORD_BYTES], room_receiver[SCA_RECEIVER_BYTES];
-static uint8_t state[SCA_STATE_BYTES], journal[SCA_JOURNAL_BYTES], chip_receiver[SCA_RECEIVER_BYTES];
+static uint8_t state[SCA_STATE_BYTES], journal[SCA_LARGE_JOURNAL_BYTES], chip_receiver[SCA_RECEIVER_BYTES];
 
 static void show(const char *what, const uint8_t *bytes, size_t length) {
     printf("%-11s", what);

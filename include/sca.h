@@ -13,7 +13,7 @@
  *     them (sca_transmit). The adapter is the chip: it takes events (sca_frame,
  *     sca_completion, sca_i2c_completion, sca_sample, sca_upset), gives what the
  *     chip would send, and can take events back (sca_step_back), up to 64 of them
- *     or, with a large journal (sca_enlarge), up to 200. Pin samples may also come
+ *     with a small journal and up to 200 with a large one. Pin samples may also come
  *     by the batch (sca_samples). The control room is the other end of the link: it
  *     writes the bodies of requests (sca_request) and of the link's commands
  *     (sca_command), and reads replies and interrupts (sca_reply), from the same
@@ -204,7 +204,9 @@ static inline unsigned sca_kept_in(uint64_t result) { return (unsigned)((result 
 static inline const char *sca_text(unsigned number) {
     switch (number) {
     case SCA_HAS_FRAME: return "a frame was read or sent, or a body written or read";
-    case SCA_SHORT_OUTPUT: return "the output is under 16 bytes (transmitter: under 24, batch: under 2,560; enlarging: not 52,224)";
+    case SCA_SHORT_OUTPUT:
+        return "the output is under 16 bytes (transmitter: under 24, batch: under 2,560), or the second buffer of an enlarging "
+               "is not 52,224";
     case SCA_BAD_BODY: return "the body is not 2 to 16 bytes";
     case SCA_BAD_ARGUMENT:
         return "the port is not 0 or 1, the edge kind is over 2, the channel is not I2C, the completion is not 16 bytes (I2C: "
@@ -340,7 +342,7 @@ uint64_t sca_transmit(const uint8_t *body, size_t body_length, uint8_t *output, 
  * An adapter is a state and a journal, both the caller's bytes. The journal is
  * small or large, as its length says:
  *
- *     uint8_t state[SCA_STATE_BYTES], journal[SCA_JOURNAL_BYTES], output[SCA_OUTPUT_LEAST];
+ *     uint8_t state[SCA_STATE_BYTES], journal[SCA_LARGE_JOURNAL_BYTES], output[SCA_OUTPUT_LEAST];
  *     sca_create(state, sizeof state, 0x00000A);
  *     sca_empty(journal, sizeof journal);
  *     result = sca_frame(state, sizeof state, journal, sizeof journal, SCA_PRIMARY, body, body_length,
@@ -460,10 +462,11 @@ uint64_t sca_transmit(const uint8_t *body, size_t body_length, uint8_t *output, 
  *     damaged, or would leave the state handed in out of range. No journal that
  *     the calls themselves left is refused with the state that went with it.
  *
- *     A journal that a version before 1.2.0 of the library left has the same
- *     length, mark and version of its own, 1, but other records, and no call can
- *     tell. Make it empty with sca_empty first. What 1.2.0 and later left, state and
- *     journal, is good as it is.
+ *     What 1.2.0 and later versions of the library left, state and journal, is good
+ *     as it is; before 1.5.0 every journal was small, and a large one is refused
+ *     there with 4. A journal of a version before 1.2.0 is a small one too by its
+ *     length, mark and version, but has other records, and no call can tell. Make it
+ *     empty with sca_empty first.
  *
  * THE CHIP
  *     A body is address, control, information. Address 0x00 is the chip's. The
@@ -590,16 +593,20 @@ uint64_t sca_kept(const uint8_t *journal, size_t journal_length);
  *
  * Makes second a large journal that keeps the same events as the small journal,
  * with the same kept number, whatever second held before. The small one is left
- * as it was. Hand second to every call from then on: what they give is what they
- * would have given with the small one, but that a step back is still granted
- * where the small one had given its event up.
+ * as it was. The two must not overlap.
  *
  *     uint8_t second[SCA_LARGE_JOURNAL_BYTES];
  *     result = sca_enlarge(journal, sizeof journal, second, sizeof second);
  *
+ * Hand second to every call from then on. Events and steps back give what they
+ * would have given with the small one, up to the first step back that the small
+ * one would refuse with 5; sca_kept goes on counting to SCA_LARGE_KEPT_MOST. Events
+ * that the small one had given up before do not come back. The small one still
+ * goes with the state of this moment, and with no later one.
+ *
  * Only the header of the small journal is looked at: a record that is damaged is
  * copied, and refused by the step back that comes to it. Of second, bytes 0 to 6
- * and the slots of the events kept are written, and no other byte.
+ * and the first slots are written, one for each event kept, and no other byte.
  *
  * Number: 17 (SCA_NO_FRAME), or refused:
  *     4  the journal is not a small one: journal_length is not SCA_JOURNAL_BYTES, or
@@ -699,8 +706,9 @@ uint64_t sca_sample(uint8_t *state, size_t state_length, uint8_t *journal, size_
  * State, journal and bodies are those of as many calls of sca_sample, one after
  * the other: each sample is an event of its own, kept and taken back by itself.
  * To take a batch back, call sca_step_back count times; of more samples than the
- * journal keeps, SCA_KEPT_MOST or SCA_LARGE_KEPT_MOST, the newest can be taken
- * back. With GPIO disabled each sample is dropped, and kept all the same.
+ * journal keeps, SCA_KEPT_MOST or SCA_LARGE_KEPT_MOST, only as many can be taken
+ * back, the newest. With GPIO disabled each sample is dropped, and kept all the
+ * same.
  *
  * The bodies stand one after the other from the front of output on,
  * SCA_REPLY_BYTES each, in the order in which they are to leave; no other byte

@@ -31,6 +31,7 @@ part 'The calls and the journal' crates/adapter/specs/*.antt crates/batch/specs/
 part 'The control room' crates/control_room/specs/*.antt
 part 'Demand 3' crates/promises/specs/Runs.antt crates/promises/specs/Ours.antt
 part 'A batch' crates/promises/specs/Batches.antt
+part 'Two hundred steps' crates/promises/specs/Enlarging.antt
 part 'The control room, and both ends' crates/promises/specs/ControlRoom.antt crates/promises/specs/Conversation.antt
 part 'The table' crates/promises/specs/Table.antt crates/promises/specs/Text.antt
 part 'The listing' crates/listing/specs/*.antt crates/player/specs/*.antt

@@ -3,7 +3,7 @@
 //! The first frame enables the parallel lines, the second reads them. Between them the pins are sampled; at the end the
 //! reading is taken back and done again, and is answered as before.
 
-use sca::{transmit, Adapter, Answer, Edge, Heard, Port, Receiver, Refusal};
+use sca::{transmit, Adapter, Answer, Edge, Heard, JournalSize, Port, Receiver, Refusal};
 
 const ENABLE_LINES: [u8; 14] = [
     0x7E, 0x00, 0x00, 0x01, 0x00, 0x04, 0x02, 0x00, 0x04, 0x00, 0x00, 0x82, 0x87, 0x7E,
@@ -44,7 +44,7 @@ fn hear(receiver: &mut Receiver, adapter: &mut Adapter, cable: &[u8]) -> Result<
 
 fn main() -> Result<(), Refusal> {
     let mut receiver = Receiver::new();
-    let mut adapter = Adapter::new(0x00_000A)?;
+    let mut adapter = Adapter::with_journal(0x00_000A, JournalSize::Large)?;
 
     hear(&mut receiver, &mut adapter, &ENABLE_LINES)?;
     adapter.sample(0x1234_5678, Edge::SystemClock)?;

@@ -223,7 +223,10 @@ impl Reply {
 pub fn text(number: u8) -> &'static str {
     match number {
         0 => "a frame was read or sent, or a body written or read",
-        1 => "the output is under 16 bytes (transmitter: under 24, batch: under 2,560; enlarging: not 52,224)",
+        1 => {
+            "the output is under 16 bytes (transmitter: under 24, batch: under 2,560), or the second buffer of an enlarging \
+             is not 52,224"
+        }
         2 => "the body is not 2 to 16 bytes",
         3 => {
             "the port is not 0 or 1, the edge kind is over 2, the channel is not I2C, the completion is not 16 bytes (I2C: \

@@ -2,7 +2,7 @@
 -- many, and each of its records is the first's. Assumes nothing.
 use Prim.Native.Nat.{ℕ, zero, suc, _+_, _*_, _-_, _%_, _≤_, _<_}
 use mathlib.Core.Path.{_≡_, refl, sym, ap, _∙_}
-use mathlib.Core.List.{List, [], _++_}
+use mathlib.Core.List.{List, _++_}
 use mathlib.Core.Bool.{true, false}
 use mathlib.Core.Logic.{⊎-elim}
 use native.Mathlib.Nat.{eq-or-lt-of-le, mod-eq-of-lt}
@@ -13,16 +13,16 @@ use borrow.Author.Tests.{eqb-true, eq-eqb, ne-eqb}
 use lib.ListN.{length, take, drop, length-append, length-take}
 use Rattle.bits.proofs.Tests.{both}
 use Rattle.parts.specs.Parts.{part, put}
-use Rattle.parts.proofs.Laws.{length-put, length-part, part-put-same, part-put-before, part-put-after, put-none, put-put}
+use Rattle.parts.proofs.Laws.{length-put, length-part, part-put-same, part-put-before, part-put-after, put-put}
 use Rattle.journal.specs.declared.Format.{Format}
-use Rattle.journal.specs.Layout.{header, headed, formatOf, slotsOf, wrongLength, firstOf, keptOf, wellFormed, isSmall, placeOf, slotOf, past, oldest, enlarged}
+use Rattle.journal.specs.Layout.{header, headed, formatOf, slotsOf, wrongLength, firstOf, keptOf, wellFormed, isSmall, placeOf, slotAt, past, oldest, enlarged}
 use Rattle.journal.proofs.Formats.{its-size, only-lengths, of-small, of-large, same-length}
 use Rattle.journal.proofs.Ring.{Well, well-of, of-well, headed-size, headed-slots, headed-well, slot-in}
 
 -- ---- the kept records, one behind the other
 
 module _ (j : List ℕ) (w : Well j) where
-  slot-length : (k : ℕ) → length (slotOf j k) ≡ 256
+  slot-length : (k : ℕ) → length (slotAt j k) ≡ 256
   slot-length k = length-part _ 256 j (slot-in j (formatOf (length j)) (well-of w) refl (placeOf (slotsOf j) (firstOf j) k) k refl)
 
   oldest-length : (k : ℕ) → length (oldest k j) ≡ 256 * k
@@ -38,12 +38,12 @@ module _ (j : List ℕ) (w : Well j) where
     filled-length : (k : ℕ) → 1024 + 256 * k ≤ length second → length (filled k) ≡ length second
     filled-length k h = length-put 1024 (oldest k j) second (omega (arith, oldest-length k))
 
-    one-more : (k : ℕ) → 1024 + 256 * k ≤ length second → put (1024 + 256 * k) (slotOf j k) (filled k) ≡ filled (suc k)
+    one-more : (k : ℕ) → 1024 + 256 * k ≤ length second → put (1024 + 256 * k) (slotAt j k) (filled k) ≡ filled (suc k)
     unfolding oldest
-    one-more k h = let l = oldest-length k in put-put 1024 (oldest k j) (slotOf j k) second (1024 + 256 * k) (omega arith) (omega arith)
+    one-more k h = let l = oldest-length k in put-put 1024 (oldest k j) (slotAt j k) second (1024 + 256 * k) (omega arith) (omega arith)
 
     -- each slot has its record
-    in-its-slot : (n k : ℕ) → k < n → 1024 + 256 * n ≤ length second → part (1024 + 256 * k) 256 (filled n) ≡ slotOf j k
+    in-its-slot : (n k : ℕ) → k < n → 1024 + 256 * n ≤ length second → part (1024 + 256 * k) 256 (filled n) ≡ slotAt j k
     in-its-slot (suc n) k l h =
         let room : 1024 + 256 * n ≤ length second = omega arith in
         let q = slot-length n in
@@ -51,10 +51,10 @@ module _ (j : List ℕ) (w : Well j) where
         ap (part (1024 + 256 * k) 256) (sym (one-more n room))
         ∙ ⊎-elim
         (λ (e : k ≡ n).
-        rw e (ap (λ (m : ℕ). part (1024 + 256 * n) m (put (1024 + 256 * n) (slotOf j n) (filled n))) (sym q)
-        ∙ part-put-same (1024 + 256 * n) (slotOf j n) (filled n) (omega arith)))
+        rw e (ap (λ (m : ℕ). part (1024 + 256 * n) m (put (1024 + 256 * n) (slotAt j n) (filled n))) (sym q)
+        ∙ part-put-same (1024 + 256 * n) (slotAt j n) (filled n) (omega arith)))
         (λ (less : k < n).
-        part-put-before (1024 + 256 * n) (slotOf j n) (filled n) (1024 + 256 * k) 256 (omega arith) (omega arith)
+        part-put-before (1024 + 256 * n) (slotAt j n) (filled n) (1024 + 256 * k) 256 (omega arith) (omega arith)
         ∙ in-its-slot n k less room)
         (eq-or-lt-of-le (omega arith))
 

@@ -84,17 +84,17 @@ abbrev pub placeOf : (slots first k : ℕ) → ℕ
 placeOf slots first k = headerBytes + slotBytes * ((first + k) % slots)
 
 -- the slot of the k-th oldest record: the oldest is 0
-abbrev pub slotOf : List ℕ → ℕ → List ℕ
-slotOf j k = part (placeOf (slotsOf j) (firstOf j) k) slotBytes j
+abbrev pub slotAt : List ℕ → ℕ → List ℕ
+slotAt j k = part (placeOf (slotsOf j) (firstOf j) k) slotBytes j
 
 -- the slot of the i-th newest record: the newest is 0
 unfoldable pub past : List ℕ → ℕ → List ℕ
-past j i = slotOf j (keptOf j - 1 - i)
+past j i = slotAt j (keptOf j - 1 - i)
 
 -- the slots of the k oldest records, the oldest first, one behind the other
 unfoldable pub oldest : ℕ → List ℕ → List ℕ
 oldest zero j = []
-oldest (suc k) j = oldest k j ++ slotOf j k
+oldest (suc k) j = oldest k j ++ slotAt j k
 
 -- ---- what is written
 
@@ -123,6 +123,7 @@ pushed r j =
 unfoldable pub lowered : List ℕ → List ℕ
 lowered j = set j 6 (keptOf j - 1)
 
--- An enlarged journal: a second buffer that holds the same records, in their order, from its first slot on. No other byte of it changes.
+-- An enlarged journal: a second buffer that holds the same records, in their order, from its first slot on. Beside these and the header's
+-- seven no byte of it changes.
 unfoldable pub enlarged : List ℕ → List ℕ → List ℕ
 enlarged j second = headed (keptOf j) (put headerBytes (oldest (keptOf j) j) second)

@@ -6,7 +6,7 @@ use Prim.Native.Nat.{ℕ}
 abbrev pub hasFrame : ℕ
 hasFrame = 0
 
--- The output is under 16 bytes, for the transmitter under 24, for a batch under 2,560.
+-- The output is under 16 bytes, for the transmitter under 24, for a batch under 2,560; the second buffer of an enlarging is not 52,224.
 abbrev pub shortOutput : ℕ
 shortOutput = 1
 
@@ -19,7 +19,7 @@ badBody = 2
 abbrev pub badArgument : ℕ
 badArgument = 3
 
--- The journal's length, mark, version or layout is wrong.
+-- The journal's length, mark, version or layout is wrong; one to be enlarged is not small.
 abbrev pub badJournal : ℕ
 badJournal = 4
 

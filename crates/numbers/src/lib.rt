@@ -3,14 +3,14 @@
 
 // A frame was read or sent; or the control room wrote or read a body.
 pub const HAS_FRAME: u8 = 0;
-// The output is under 16 bytes, for the transmitter under 24, for a batch under 2,560.
+// The output is under 16 bytes, for the transmitter under 24, for a batch under 2,560; the second buffer of an enlarging is not 52,224.
 pub const SHORT_OUTPUT: u8 = 1;
 // The body is not 2 to 16 bytes.
 pub const BAD_BODY: u8 = 2;
 // The port is not 0 or 1, the edge kind is over 2, a completion is not 16 bytes, not of an I2C channel, or over 16 bytes, or a batch is over 256
 // samples.
 pub const BAD_ARGUMENT: u8 = 3;
-// The journal's length, mark, version or layout is wrong.
+// The journal's length, mark, version or layout is wrong; one to be enlarged is not small.
 pub const BAD_JOURNAL: u8 = 4;
 // The kept number is 0.
 pub const NONE_KEPT: u8 = 5;

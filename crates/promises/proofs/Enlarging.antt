@@ -1,15 +1,15 @@
 -- TWO HUNDRED STEPS. Lengths and versions that don't agree are 4; the enlarging call, for every input; and, for any calls that meet demand 3, a run that
 -- goes on with the enlarged journal gives what it would have given with the small one, the kept number apart, until that one gives 5. Assumes nothing.
-use Prim.Native.Nat.{ℕ, _+_, _*_, _-_, min, _≤_, _<_}
+use Prim.Native.Nat.{ℕ, _+_, _-_, min, _≤_, _<_}
 use mathlib.Core.Path.{_≡_, refl, sym, ap, ap₂, _∙_}
 use mathlib.Core.List.{List, [], _∷_, _++_, foldl, foldl-append}
-use mathlib.Core.Bool.{Bool, true, false, not, cond, true≢false, false≢true}
-use mathlib.Core.Logic.{⊎-elim, _↔_}
+use mathlib.Core.Bool.{Bool, true, false, cond, true≢false, false≢true}
+use mathlib.Core.Logic.{⊎-elim}
 use native.Mathlib.Omega.{arith}
-use lib.Dec.{eqb, ltb}
+use lib.Dec.{eqb}
 use lib.ListN.{length, drop}
 use borrow.Author.Tests.{eq-eqb, ne-eqb, eqb-true, eqb-false}
-use Rattle.bits.proofs.Tests.{either, and-left}
+use Rattle.bits.proofs.Tests.{and-left, and-right}
 use Rattle.numbers.specs.Numbers as number
 use Rattle.state.specs.State.{Adapter}
 use Rattle.state.specs.Bytes.{isState}
@@ -22,18 +22,19 @@ use Rattle.journal.proofs.Enlarged.{small-well, large-size, large-room, enlarge
 use Rattle.adapter.specs.Refusals.{inOrder, verdict, backVerdict}
 use Rattle.adapter.specs.declared.Verdict.{Verdict}
 use Rattle.adapter.specs.declared.Verdict.the-variants.{Refused}
-use Rattle.adapter.specs.Calls.{Copied, copied, madeEmpty, keptIn, madeLarge, called, Stepped, stepped, judgedBack, steppedBack}
+use Rattle.adapter.specs.Calls.{made, madeEmpty, keptIn, madeLarge, called, steppedBack}
 use Rattle.adapter.proofs.Laws.{called-refused, empty-done}
 use Rattle.batch.specs.declared.Sample.{Sample}
 use Rattle.batch.specs.Batch.{eventOf}
 use Rattle.batch.specs.Batch as batches
-use Rattle.promises.specs.Runs.{Call, event, batch, back, empty, enlarge, enlarging, Given, Calls, OfItsTypes, AllOfTheirTypes, Run, left}
-use Rattle.promises.specs.Runs.{refused, batchRefused, enlargeRefusal, enlargeRefused, Standing, atStart, keepsEvent, keepsSample, keeps, standing}
+use Rattle.promises.specs.Runs.{Call, event, batch, back, empty, enlarge, isEnlarging, Given, Calls, AllOfTheirTypes, Run, left}
+use Rattle.promises.specs.Runs.{refused, batchRefused, Standing, atStart, keepsEvent, keepsSample, keeps, standing}
 use Rattle.promises.specs.Runs.{stateAfter, due, dueBatch, Demand3}
-use Rattle.promises.specs.Enlarging.{versionIn, Agree, version-1, version-2, Damaged, EmptyByLength, Enlarging, Enlarged, Shown, shown, BeforeFive}
+use Rattle.promises.specs.Enlarging.{versionIn, Agree, version-1, version-2, Damaged, EmptyByLength, Enlarging, Enlarged, Shown, shown}
+use Rattle.promises.specs.Enlarging.{NoneEnlarges, BeforeFive}
 use Rattle.promises.proofs.Formats.{no-other-length}
 use Rattle.promises.proofs.Cases.{enlarge-cases}
-use Rattle.promises.proofs.KeptNumber.{64-or-200}
+use Rattle.promises.proofs.KeptNumber.{granted-then, 64-or-200}
 use Rattle.promises.proofs.Runs.{told}
 use Rattle.promises.proofs.Lines.{after, gives-told}
 use Rattle.promises.proofs.Standing.{typed-more}
@@ -44,7 +45,7 @@ use Rattle.promises.proofs.Steps.{split}
 version-of : (j : List ℕ) (n : ℕ) → Well j → formatOf (length j) .version ≡ n → n < 256 → versionIn j ≡ n
 version-of j n w e l = let v0 = w .v0 in let v1 = w .v1 in omega (arith, e)
 
--- WHAT IS NO 4 AGREES,
+-- THE LENGTH AND THE VERSION OF A WELL-FORMED JOURNAL AGREE,
 pub agrees : (j : List ℕ) → Well j → Agree j
 unfolding formatOf
 agrees j w =
@@ -68,7 +69,11 @@ damaged j h =
       an-enlarging = λ second. simp no-small;
     }
 
--- EMPTYING GOES BY THE LENGTH.
+-- EMPTYING GOES BY THE LENGTH, and refuses every other one.
+pub no-length : (j : List ℕ) → wrongLength j ≡ true → madeEmpty j ≡ made number.badJournal j
+unfolding madeEmpty
+no-length j h = rw h refl
+
 pub empty-by-length : (j : List ℕ) → wrongLength j ≡ false → EmptyByLength j
 unfolding keptIn emptied
 empty-by-length j h =
@@ -92,6 +97,10 @@ enlarging-call j second =
             (λ small n e. (small-well j second small n, eqb-true (length j) 17408 (and-left (eqb (length j) 17408) (wellFormed j) small), n)),
         λ h. rw (eq-eqb (length j) 17408 (h .1), h .0, eq-eqb (length second) 52224 (h .2)) refl,
       );
+      not-small = λ h.
+          split (isSmall j)
+          (λ t. absurd (h (and-right (eqb (length j) 17408) (wellFormed j) t, eqb-true (length j) 17408 (and-left (eqb (length j) 17408) (wellFormed j) t))))
+          (λ t. rw t refl);
       large = λ e. rw (ne-eqb (length j) 17408 (λ q. omega arith)) refl;
       after-4 = λ formed size other. rw (eq-eqb (length j) 17408 size, formed, ne-eqb (length second) 52224 other) refl;
       first = enlarge-cases j second (λ x. x .first ≡ j) (λ n r. refl) (λ _ _. refl);
@@ -168,7 +177,7 @@ module _ (id : ℕ) (s t : Standing) (b : Beside s t) where
       (some, λ z. some (let f = b .fewer in omega arith))
 
   -- gives the same,
-  told-same : (k : Call) → enlarging k ≡ false → (told id s k .number ≡ 5 → ⊥) → told id t k ≡ told id s k
+  told-same : (k : Call) → isEnlarging k ≡ false → (told id s k .number ≡ 5 → ⊥) → told id t k ≡ told id s k
   told-same (event e o) n h = ap (λ (l : List Event). due (stateAfter id l) e o) (b .events)
   told-same (batch list o) n h = ap (λ (l : List Event). dueBatch (stateAfter id l) list o) (b .events)
   told-same back n h = let some = both-some h in rw (ne-eqb (s .number) 0 (some .0), ne-eqb (t .number) 0 (some .1)) refl
@@ -176,7 +185,7 @@ module _ (id : ℕ) (s t : Standing) (b : Beside s t) where
   told-same (enlarge second) n h = absurd (true≢false n)
 
   -- and leaves them side by side
-  beside-then : (k : Call) → enlarging k ≡ false → (told id s k .number ≡ 5 → ⊥) → Beside (keeps s k) (keeps t k)
+  beside-then : (k : Call) → isEnlarging k ≡ false → (told id s k .number ≡ 5 → ⊥) → Beside (keeps s k) (keeps t k)
   beside-then (event e o) n h = split (refused e o) (λ q. rw q b) (λ q. rw q (beside-event s t b e))
   beside-then (batch list o) n h = split (batchRefused list o) (λ q. rw q b) (λ q. rw q (beside-samples list s t b))
   beside-then back n h =
@@ -206,43 +215,36 @@ module _ (c : Calls) (d : Demand3 c) (id : ℕ) (id-fits : id ≤ 0xFFFFFF) (byt
       ∙ ap (λ (s : Standing). stateAfter id (s .events)) (foldl-append keeps (atStart (slotsOf bytes)) done (k ∷ []))
 
   side-by-side : (ks small large : List Call) → AllOfTheirTypes small → AllOfTheirTypes large → AllOfTheirTypes ks → Beside (text small) (text large)
-      → BeforeFive c (at small) ks → shown c (at large) ks ≡ shown c (at small) ks
-  side-by-side [] small large t u v b h = refl
-  side-by-side (k ∷ ks) small large t u v b h =
-      let five : told id (text small) k .number ≡ 5 → ⊥ = λ e. h .1 (ap (λ (g : Given). g .number) (gives small t k) ∙ e) in
-      let more = beside-then id (text small) (text large) b k (h .0) five in
+      → NoneEnlarges ks → BeforeFive c (at small) ks → shown c (at large) ks ≡ shown c (at small) ks
+  side-by-side [] small large t u v b n h = refl
+  side-by-side (k ∷ ks) small large t u v b n h =
+      let five : told id (text small) k .number ≡ 5 → ⊥ = λ e. h .0 (ap (λ (g : Given). g .number) (gives small t k) ∙ e) in
+      let more = beside-then id (text small) (text large) b k (n .0) five in
       let t′ = typed-more small k t (v .0) in
       let u′ = typed-more large k u (v .0) in
       let p : at (small ++ (k ∷ [])) ≡ c .leaves (at small) k = foldl-append (c .leaves) (c .start id bytes) small (k ∷ []) in
       let q : at (large ++ (k ∷ [])) ≡ c .leaves (at large) k = foldl-append (c .leaves) (c .start id bytes) large (k ∷ []) in
-      let one = gives large u k ∙ told-same id (text small) (text large) b k (h .0) five ∙ sym (gives small t k) in
+      let one = gives large u k ∙ told-same id (text small) (text large) b k (n .0) five ∙ sym (gives small t k) in
       let state = state-then large k u′ ∙ ap (stateAfter id) (more .events) ∙ sym (state-then small k t′) in
       let beside : Beside (text (small ++ (k ∷ []))) (text (large ++ (k ∷ []))) =
       rw (foldl-append keeps (atStart (slotsOf bytes)) small (k ∷ []), foldl-append keeps (atStart (slotsOf bytes)) large (k ∷ [])) more in
-      let rest = side-by-side ks (small ++ (k ∷ [])) (large ++ (k ∷ [])) t′ u′ (v .1) beside (rw p (h .2)) in
+      let rest = side-by-side ks (small ++ (k ∷ [])) (large ++ (k ∷ [])) t′ u′ (v .1) beside (n .1) (rw p (h .1)) in
       ap₂ (λ (x : Shown) (xs : List Shown). x ∷ xs)
       (ap₂ (λ (g : Given) (a : Adapter). record { gives = g; state = a }) one state)
       (ap (λ (x : c .Pair). shown c x ks) (sym q) ∙ rest ∙ ap (λ (x : c .Pair). shown c x ks) p)
 
--- AFTER ENLARGING, ANY FURTHER RUN GIVES WHAT IT WOULD HAVE GIVEN WITH THE SMALL JOURNAL, and leaves the same states, until the small one would give 5.
+-- AFTER ENLARGING, ANY FURTHER RUN of events, batches, steps back and emptyings GIVES WHAT IT WOULD HAVE GIVEN WITH THE SMALL JOURNAL, and leaves the same
+-- states, UNTIL THE SMALL ONE WOULD GIVE 5. (A further enlarging is 17 or 1 with the small one, and 4 with the large.)
 pub as-the-small : (c : Calls) → Demand3 c → (r : Run) (second : List ℕ) → c .gives (left c r) (enlarge second) .number ≡ number.noFrame
-    → (ks : List Call) → AllOfTheirTypes ks → BeforeFive c (left c r) ks
+    → (ks : List Call) → AllOfTheirTypes ks → NoneEnlarges ks → BeforeFive c (left c r) ks
     → shown c (c .leaves (left c r) (enlarge second)) ks ≡ shown c (left c r) ks
-as-the-small c d r second granted ks t h =
+as-the-small c d r second granted ks t n h =
     let first = atStart (slotsOf (r .bytes)) in
     let more = foldl-append keeps first (r .calls) (enlarge second ∷ []) in
-    let not-refused : enlargeRefused (standing r) second ≡ false =
-    split (enlargeRefused (standing r) second)
-    (λ q. absurd (is-refusal (standing r) second (sym (ap (λ (g : Given). g .number) (d .enlarges r second) ∙ rw q refl) ∙ granted)))
-    (λ q. q) in
+    let not-refused = granted-then r c d second granted in
     let few : standing r .most ≤ 200 = ⊎-elim (λ (m : standing r .most ≡ 64). omega arith) (λ (m : standing r .most ≡ 200). omega arith) (64-or-200 r) in
     let beside : Beside (standing r) (keeps (standing r) (enlarge second)) =
     rw not-refused (record { events = refl; fewer = omega arith; below = few }) in
     ap (λ (p : c .Pair). shown c p ks) (sym (foldl-append (c .leaves) (c .start (r .id) (r .bytes)) (r .calls) (enlarge second ∷ [])))
     ∙ side-by-side c d (r .id) (r .id-fits) (r .bytes) (r .size) ks (r .calls) (r .calls ++ (enlarge second ∷ [])) (r .typed)
-    (typed-more (r .calls) (enlarge second) (r .typed) tt) t (rw more beside) h
-  where
-    is-refusal : (s : Standing) (second : List ℕ) → enlargeRefusal s second ≡ 17 → ⊥
-    is-refusal s second e =
-        either (λ (n : ℕ). n ≡ 17 → ⊥) (not (eqb (s .most) 64)) _ _ (λ q. omega arith)
-        (either (λ (n : ℕ). n ≡ 17 → ⊥) (not (eqb (length second) 52224)) _ _ (λ q. omega arith) (λ q. omega arith)) e
+    (typed-more (r .calls) (enlarge second) (r .typed) tt) t (rw more beside) n h

@@ -3,6 +3,7 @@
 use Prim.Native.Nat.{ℕ, zero, suc, min, _≤_}
 use mathlib.Core.Path.{_≡_, refl, ap, _∙_}
 use mathlib.Core.List.{List, [], _∷_, foldl}
+use mathlib.Core.Bool.{cond}
 use native.Mathlib.Omega.{arith}
 use lib.Dec.{lit≤}
 use lib.ListN.{length, replicate, length-replicate}
@@ -13,9 +14,10 @@ use Rattle.chip.specs.Chip.{reaction, onUpset}
 use Rattle.journal.specs.Layout.{wrongLength, wellFormed}
 use Rattle.journal.proofs.Ring.{well-of, emptied-well, emptied-kept}
 use Rattle.adapter.specs.declared.KeptNumber.{KeptNumber}
-use Rattle.adapter.specs.Calls.{madeEmpty, keptIn}
-use Rattle.promises.specs.Runs.{Call, event, batch, back, empty, enlarge, Calls, AllOfTheirTypes, Run, left, atStart, keeps, standing, Standing, Demand3}
-use Rattle.promises.specs.Ours.{Handed, givesOurs, leavesOurs, ours}
+use Rattle.adapter.specs.Calls.{madeEmpty, keptIn, madeLarge}
+use Rattle.promises.specs.Runs.{Call, event, batch, back, empty, enlarge, Given, Calls, AllOfTheirTypes, Run, left, Standing, atStart, keeps}
+use Rattle.promises.specs.Runs.{standing, dueEnlarging, isRefusal, Demand3}
+use Rattle.promises.specs.Ours.{Handed, handed, givesOurs, leavesOurs, ours}
 use Rattle.promises.specs.Table.{lines, happens}
 use Rattle.promises.proofs.Formats.{slots-64, slots-200, any-17408, any-52224}
 use Rattle.promises.proofs.Runs.{demand3}
@@ -93,14 +95,23 @@ filled-number : standing filled .number ≡ 65
 unfolding upsets
 filled-number = ap (λ (most : ℕ). foldl keeps (atStart most) (upsets 65) .number) (slots-200 zeros as-long)
 
+-- one upset with a small journal
+abbrev once : Run
+once = ran (upset-call ∷ []) (tt, tt)
+
+once-standing : standing once ≡ foldl keeps (atStart 64) (upset-call ∷ [])
+once-standing = ran-standing (upset-call ∷ []) (tt, tt)
+
 module _ (c : Calls) (d : Demand3 c) where
-  -- forget at an enlarging
-  pub forgets : ((p : c .Pair) (second : List ℕ) → c .kept (c .leaves p (enlarge second)) .kept ≡ 0) → ⊥
+  -- forget at an enlarging that is granted
+  pub forgets : ((p : c .Pair) (second : List ℕ) → c .gives p (enlarge second) .number ≡ number.noFrame → c .kept (c .leaves p (enlarge second)) .kept ≡ 0)
+      → ⊥
   forgets h =
-      let r : Run = ran (upset-call ∷ []) (tt, tt) in
-      let one : c .kept (left c r) .kept ≡ 1 =
-      ap (λ (k : KeptNumber). k .kept) (d .kept r) ∙ ap (λ (s : Standing). s .number) (ran-standing (upset-call ∷ []) (tt, tt)) in
-      omega (arith, one, kept-rule c d .through-enlarging r [], h (left c r) [])
+      let one : c .kept (left c once) .kept ≡ 1 = ap (λ (k : KeptNumber). k .kept) (d .kept once) ∙ ap (λ (s : Standing). s .number) once-standing in
+      let granted : c .gives (left c once) (enlarge zeros) .number ≡ number.noFrame =
+      ap (λ (g : Given). g .number) (d .enlarges once zeros) ∙ ap (λ (s : Standing). dueEnlarging s zeros .number) once-standing
+      ∙ rw (eq-eqb (length zeros) 52224 as-long) refl in
+      omega (arith, one, kept-rule c d .through-enlarging once zeros, h (left c once) zeros granted)
 
   -- keep 64 at most
   pub keeps-64 : ((p : c .Pair) → c .kept p .kept ≤ 64) → ⊥
@@ -108,13 +119,13 @@ module _ (c : Calls) (d : Demand3 c) where
 
 -- ---- the wrong adapters
 
--- AN ENLARGING THAT FORGETS: the second buffer is only made empty.
+-- AN ENLARGING THAT FORGETS: where ours is granted, the second buffer is only made empty.
 forgetful : Handed → Call → Handed
 forgetful p (event e o) = leavesOurs p (event e o)
 forgetful p (batch list o) = leavesOurs p (batch list o)
 forgetful p back = leavesOurs p back
 forgetful p empty = leavesOurs p empty
-forgetful p (enlarge second) = leavesOurs (leavesOurs p (enlarge second)) empty
+forgetful p (enlarge second) = cond (isRefusal (madeLarge (p .journal) second .number)) p (handed (p .state) (madeEmpty second .bytes))
 
 pub forgetting : Calls
 forgetting = record { Pair = Handed; start = ours .start; gives = givesOurs; leaves = forgetful; state = ours .state; kept = ours .kept }
@@ -125,7 +136,7 @@ none-kept j = split (wrongLength j) (λ h. rw (h, h) refl) (λ h. rw h (rw (well
 
 pub forgets-at-enlarging : Demand3 forgetting → ⊥
 unfolding forgetting forgetful
-forgets-at-enlarging d = forgets forgetting d (λ p second. none-kept _)
+forgets-at-enlarging d = forgets forgetting d (λ p second granted. rw granted (none-kept second))
 
 -- A LARGE JOURNAL THAT KEEPS 64, by what it says.
 pub capped : Calls

@@ -1,8 +1,9 @@
--- THE KEPT NUMBER, for any calls that meet demand 3, in the words of the demand and of `kept` alone. Assumes nothing.
+-- THE KEPT NUMBER, for any calls that meet demand 3, in the words of the demand and of `kept`; how far it goes up, by the size of the journal. Assumes
+-- nothing.
 use Prim.Native.Nat.{ℕ, _+_, _-_, min, _≤_}
 use mathlib.Core.Path.{_≡_, refl, sym, ap, _∙_}
 use mathlib.Core.List.{List, [], _∷_, _++_, foldl, foldl-append}
-use mathlib.Core.Bool.{true, false, true≢false}
+use mathlib.Core.Bool.{true, false, not, true≢false}
 use mathlib.Core.Logic.{_⊎_, inl, inr, ⊎-elim, _↔_}
 use native.Mathlib.Omega.{arith}
 use borrow.Author.Tests.{ne-eqb, eqb-true, eqb-false}
@@ -14,11 +15,13 @@ use Rattle.chip.specs.Chip.{acceptedReset}
 use Rattle.journal.specs.Layout.{slotsOf}
 use Rattle.adapter.specs.declared.KeptNumber.{KeptNumber}
 use Rattle.batch.specs.declared.Sample.{Sample}
-use Rattle.promises.specs.Runs.{Call, event, batch, back, empty, enlarge, enlarging, Calls, Given, OfItsTypes, AllOfTheirTypes, Run, left}
-use Rattle.promises.specs.Runs.{refused, batchRefused, enlargeRefused, Standing, atStart, keepsSample, keeps, standing, Demand3}
+use Rattle.promises.specs.Runs.{Call, event, batch, back, empty, enlarge, isEnlarging, Calls, Given, OfItsTypes, AllOfTheirTypes, Run, left}
+use Rattle.promises.specs.Runs.{refused, batchRefused, enlargeRefusal, enlargeRefused, Standing, atStart, keepsSample, keeps, standing, Demand3}
 use Rattle.bits.proofs.Tests.{either}
 use Rattle.promises.proofs.Formats.{slots-64, slots-200, no-other-length}
-use Rattle.promises.proofs.Runs.{at-most-most}
+use Rattle.promises.specs.Ours.{ours}
+use Rattle.promises.specs.Enlarging.{NoneEnlarges}
+use Rattle.promises.proofs.Runs.{within-most, most-by-length}
 use Rattle.promises.proofs.Standing.{typed-more, further}
 use Rattle.promises.proofs.Steps.{split}
 
@@ -79,7 +82,7 @@ kept-rule c d =
       up = λ r e o t h q. number-then c d r (event e o) t ∙ simp (h, q) (ap (λ (n : ℕ). min (standing r .most) (n + 1)) (sym (number-after c d r)));
       up-by-samples = λ r list o t h.
           number-then c d r (batch list o) t
-          ∙ simp h (samples-number list (standing r) (at-most-most r) ∙ ap (λ (n : ℕ). min (standing r .most) (n + length list)) (sym (number-after c d r)));
+          ∙ simp h (samples-number list (standing r) (within-most r) ∙ ap (λ (n : ℕ). min (standing r .most) (n + length list)) (sym (number-after c d r)));
       down = λ r z.
           let s : standing r .number ≡ 0 → ⊥ = λ q. z (number-after c d r ∙ q) in
           number-then c d r back tt ∙ simp (ne-eqb (standing r .number) 0 s) (ap (λ (n : ℕ). n - 1) (sym (number-after c d r)));
@@ -97,7 +100,7 @@ samples-most [] s = refl
 samples-most (x ∷ list) s = samples-most list (keepsSample s x)
 
 -- any call but an enlarging leaves it
-most-left : (s : Standing) (k : Call) → enlarging k ≡ false → keeps s k .most ≡ s .most
+most-left : (s : Standing) (k : Call) → isEnlarging k ≡ false → keeps s k .most ≡ s .most
 most-left s (event e o) h = either (λ (x : Standing). x .most ≡ s .most) (refused e o) _ _ refl refl
 most-left s (batch list o) h = either (λ (x : Standing). x .most ≡ s .most) (batchRefused list o) _ _ refl (samples-most list s)
 most-left s back h = either (λ (x : Standing). x .most ≡ s .most) (eqb (s .number) 0) _ _ refl refl
@@ -116,11 +119,6 @@ all-200 : (ks : List Call) (s : Standing) → s .most ≡ 200 → foldl keeps s 
 all-200 [] s h = h
 all-200 (k ∷ ks) s h = all-200 ks (keeps s k) (stays-200 s k h)
 
--- none of these calls enlarges
-abbrev pub NoneEnlarges : List Call → Type 0
-NoneEnlarges [] = Unit
-NoneEnlarges (k ∷ ks) = (enlarging k ≡ false) × NoneEnlarges ks
-
 all-left : (ks : List Call) (s : Standing) → NoneEnlarges ks → foldl keeps s ks .most ≡ s .most
 all-left [] s n = refl
 all-left (k ∷ ks) s n = all-left ks (keeps s k) (n .1) ∙ most-left s k (n .0)
@@ -130,16 +128,29 @@ either-most [] s h = h
 either-most (k ∷ ks) s (inr h) = inr (all-200 ks (keeps s k) (stays-200 s k h))
 either-most (k ∷ ks) s (inl h) =
     either-most ks (keeps s k)
-    (split (enlarging k) (λ e. by k e) (λ e. inl (most-left s k e ∙ h)))
+    (split (isEnlarging k) (λ e. by k e) (λ e. inl (most-left s k e ∙ h)))
   where
-    by : (k : Call) → enlarging k ≡ true → (keeps s k .most ≡ 64) ⊎ (keeps s k .most ≡ 200)
+    by : (k : Call) → isEnlarging k ≡ true → (keeps s k .most ≡ 64) ⊎ (keeps s k .most ≡ 200)
     by (event e o) q = absurd (true≢false (sym q))
     by (batch list o) q = absurd (true≢false (sym q))
     by back q = absurd (true≢false (sym q))
     by empty q = absurd (true≢false (sym q))
     by (enlarge second) q = either (λ (x : Standing). (x .most ≡ 64) ⊎ (x .most ≡ 200)) (enlargeRefused s second) _ _ (inl h) (inr refl)
 
+no-refusal-17 : (s : Standing) (second : List ℕ) → enlargeRefusal s second ≡ number.noFrame → ⊥
+no-refusal-17 s second =
+    either (λ (n : ℕ). n ≡ 17 → ⊥) (not (eqb (s .most) 64)) _ _ (λ q. omega arith)
+    (either (λ (n : ℕ). n ≡ 17 → ⊥) (not (eqb (length second) 52224)) _ _ (λ q. omega arith) (λ q. omega arith))
+
 module _ (r : Run) where
+  -- a granted enlarging is one that the text does not refuse
+  pub granted-then : (c : Calls) → Demand3 c → (second : List ℕ) → c .gives (left c r) (enlarge second) .number ≡ number.noFrame
+      → enlargeRefused (standing r) second ≡ false
+  granted-then c d second granted =
+      split (enlargeRefused (standing r) second)
+      (λ q. absurd (no-refusal-17 (standing r) second (sym (ap (λ (g : Given). g .number) (d .enlarges r second) ∙ rw q refl) ∙ granted)))
+      (λ q. q)
+
   -- 64 from 17,408 bytes on, as long as nothing enlarges;
   pub most-64 : length (r .bytes) ≡ 17408 → NoneEnlarges (r .calls) → standing r .most ≡ 64
   most-64 h n = all-left (r .calls) (atStart (slotsOf (r .bytes))) n ∙ slots-64 (r .bytes) h
@@ -148,11 +159,12 @@ module _ (r : Run) where
   pub most-200 : length (r .bytes) ≡ 52224 → standing r .most ≡ 200
   most-200 h = all-200 (r .calls) (atStart (slotsOf (r .bytes))) (slots-200 (r .bytes) h)
 
-  -- 200 after an enlarging that is not refused, whatever is called then;
-  pub enlarged-200 : (second : List ℕ) → enlargeRefused (standing r) second ≡ false → (ks : List Call) (t : AllOfTheirTypes (r .calls ++ (enlarge second ∷ ks)))
-      → standing (further r (enlarge second ∷ ks) t) .most ≡ 200
+  -- 200 after an enlarging that is granted, whatever is called then;
+  pub enlarged-200 : (c : Calls) → Demand3 c → (second : List ℕ) → c .gives (left c r) (enlarge second) .number ≡ number.noFrame → (ks : List Call)
+      (t : AllOfTheirTypes (r .calls ++ (enlarge second ∷ ks))) → standing (further r (enlarge second ∷ ks) t) .most ≡ 200
   unfolding further
-  enlarged-200 second h ks t =
+  enlarged-200 c d second granted ks t =
+      let h = granted-then c d second granted in
       ap (λ (s : Standing). s .most) (foldl-append keeps (atStart (slotsOf (r .bytes))) (r .calls) (enlarge second ∷ ks))
       ∙ all-200 ks (keeps (standing r) (enlarge second)) (simp h)
 
@@ -162,6 +174,13 @@ module _ (r : Run) where
       either-most (r .calls) (atStart (slotsOf (r .bytes)))
       (⊎-elim (λ (h : length (r .bytes) ≡ 17408). inl (slots-64 (r .bytes) h)) (λ (h : length (r .bytes) ≡ 52224). inr (slots-200 (r .bytes) h))
       (no-other-length (r .bytes) (r .size)))
+
+-- With the delivered calls, by the length of the journal that is at hand.
+pub small-at-hand : (r : Run) → length (left ours r .journal) ≡ 17408 → standing r .most ≡ 64
+small-at-hand r h = most-by-length r ∙ slots-64 (left ours r .journal) h
+
+pub large-at-hand : (r : Run) → length (left ours r .journal) ≡ 52224 → standing r .most ≡ 200
+large-at-hand r h = most-by-length r ∙ slots-200 (left ours r .journal) h
 
 -- TO AT MOST 64 in a small journal, TO AT MOST 200 in a large one.
 module _ (c : Calls) (d : Demand3 c) (r : Run) where
@@ -173,12 +192,12 @@ module _ (c : Calls) (d : Demand3 c) (r : Run) where
     up-to-200 m = kept-rule c d .up r e o t h q ∙ ap (λ (n : ℕ). min n (keptAfter c r + 1)) m
 
   pub never-over-64 : standing r .most ≡ 64 → keptAfter c r ≤ 64
-  never-over-64 m = let n = number-after c d r in omega (arith, at-most-most r)
+  never-over-64 m = let n = number-after c d r in omega (arith, within-most r)
 
   pub never-over-200 : keptAfter c r ≤ 200
   never-over-200 =
       let n = number-after c d r in
-      ⊎-elim (λ (m : standing r .most ≡ 64). omega (arith, at-most-most r)) (λ (m : standing r .most ≡ 200). omega (arith, at-most-most r)) (64-or-200 r)
+      ⊎-elim (λ (m : standing r .most ≡ 64). omega (arith, within-most r)) (λ (m : standing r .most ≡ 200). omega (arith, within-most r)) (64-or-200 r)
 
 -- A STEP BACK IS REFUSED (5) EXACTLY WHEN THE KEPT NUMBER IS ZERO.
 pub refused-exactly : (c : Calls) → Demand3 c → (r : Run) → (c .gives (left c r) back .number ≡ number.noneKept) ↔ (keptAfter c r ≡ 0)

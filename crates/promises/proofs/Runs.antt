@@ -41,7 +41,7 @@ use Rattle.batch.specs.declared.Sample.{Sample}
 use Rattle.batch.specs.Batch.{eventOf, Course, oneByOne, someWrong, wrongList}
 use Rattle.batch.specs.Batch as batches
 use Rattle.batch.proofs.Course.{port-back}
-use Rattle.promises.specs.Runs.{Call, event, batch, back, empty, enlarge, enlarging, Given, SamplesOfTypes, OfItsTypes, AllOfTheirTypes, Run, left, refusal, refused}
+use Rattle.promises.specs.Runs.{Call, event, batch, back, empty, enlarge, isEnlarging, Given, SamplesOfTypes, OfItsTypes, AllOfTheirTypes, Run, left, refusal, refused}
 use Rattle.promises.specs.Runs.{batchRefusal, batchRefused, Standing, atStart, keepsEvent, keepsSample}
 use Rattle.promises.specs.Runs.{keeps, standing, stateAfter, dueState, bare, due, dueFrames, batchGiven, dueBatch}
 use Rattle.promises.specs.Runs.{dueEnlarging, isRefusal, refuses, lent, Demand3}
@@ -476,7 +476,7 @@ module _ (r : Run) where
   undamaged n (inl z) = omega arith
   undamaged n (inr l) = omega arith
 
-  never : (k : Call) → enlarging k ≡ false → Undamaged (told (r .id) (standing r) k .number)
+  never : (k : Call) → isEnlarging k ≡ false → Undamaged (told (r .id) (standing r) k .number)
   never (event e o) h =
       either (λ (g : Given). Undamaged (g .number)) (refused e o) _ _
       (either Undamaged (ltb (length o) 16) _ _ (omega arith)
@@ -536,12 +536,16 @@ id-kept r =
 pub enough-standing : (r : Run) → standing r .number ≤ length (standing r .events)
 enough-standing r = inv-end r .enough
 
-pub at-most-most : (r : Run) → standing r .number ≤ standing r .most
-at-most-most r =
+pub within-most : (r : Run) → standing r .number ≤ standing r .most
+within-most r =
     let f = inv-end r .well .few in
     let n = inv-end r .number in
     let m = inv-end r .slots in
     omega arith
+
+-- THE LENGTH DECIDES: how far the number goes up is what the journal at hand has slots.
+pub most-by-length : (r : Run) → standing r .most ≡ slotsOf (left ours r .journal)
+most-by-length r = sym (ap (λ (p : Handed). slotsOf (p .journal)) (at-end r) ∙ inv-end r .slots)
 
 pub some-most : (r : Run) → 0 < standing r .most
 some-most r = rw (sym (inv-end r .slots)) (some-slots (last r) (inv-end r .well .size))

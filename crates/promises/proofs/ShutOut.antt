@@ -24,7 +24,7 @@ use Rattle.promises.proofs.Formats.{slots-64, any-17408}
 
 -- ---- short runs
 
--- calls after the start of the bench's chip, whose journal was zeros
+-- calls after the start of the bench's chip, with a small journal that was zeros
 abbrev pub zeros : List ℕ
 zeros = replicate 17408 0
 

@@ -1,5 +1,5 @@
--- DOCUMENT 02, "TWO HUNDRED STEPS", sentence by sentence: of the two sizes and of the enlarging call, for every input; and of a run that goes on with
--- the enlarged journal, beside the same run with the small one.
+-- DOCUMENT 02, "TWO HUNDRED STEPS": of the two sizes and of the enlarging call, for every input; and of a run that goes on with the enlarged journal,
+-- beside the same run with the small one. That 64 and 200 are kept is demand 3's (`Runs`, and `up-to-64`, `up-to-200` in `proofs/KeptNumber`).
 use Prim.Native.Nat.{ℕ, _+_, _*_, _<_}
 use mathlib.Core.Path.{_≡_}
 use mathlib.Core.Bool.{true, false}
@@ -14,7 +14,7 @@ use Rattle.journal.specs.Layout.{wellFormed, past}
 use Rattle.adapter.specs.Calls.{madeEmpty, keptIn, copied, madeLarge, outcome, plain, called, stepped, steppedBack}
 use Rattle.batch.specs.declared.Sample.{Sample}
 use Rattle.batch.specs.Batch as batches
-use Rattle.promises.specs.Runs.{Call, enlarging, Given, Calls}
+use Rattle.promises.specs.Runs.{Call, isEnlarging, Given, Calls}
 
 -- ---- "known by its length and version"
 
@@ -26,7 +26,8 @@ pub data Agree (j : List ℕ) : Type 0 where
   version-1 : length j ≡ 17408 → versionIn j ≡ 1 → Agree j
   version-2 : length j ≡ 52224 → versionIn j ≡ 2 → Agree j
 
--- "length and version that don't agree are 4": by every call that reads a journal, and nothing changes. An event and a step back first look at the state.
+-- "length and version that don't agree are 4": by every call that reads a journal, and nothing changes. Events, batches and steps back
+-- first look at the state.
 pub record Damaged (j : List ℕ) : Type 0 where
   pub an-event : (s : List ℕ) (e : Event) (output : List ℕ) → isState s ≡ true → called s j e output ≡ outcome (plain number.badJournal) s j output
   pub a-batch : (s : List ℕ) (list : List Sample) (output : List ℕ) → isState s ≡ true
@@ -47,7 +48,8 @@ pub record EmptyByLength (j : List ℕ) : Type 0 where
 pub record Enlarging (j second : List ℕ) : Type 0 where
   -- granted for a small journal and a second buffer of 52,224 bytes, and for nothing else
   pub granted : (madeLarge j second .number ≡ number.noFrame) ↔ ((wellFormed j ≡ true) × (length j ≡ 17408) × (length second ≡ 52224))
-  -- "a large journal given for enlarging is 4",
+  -- what is no small journal is 4: "a large journal given for enlarging" too,
+  pub not-small : ((wellFormed j ≡ true) × (length j ≡ 17408) → ⊥) → madeLarge j second ≡ copied number.badJournal j second
   pub large : length j ≡ 52224 → madeLarge j second ≡ copied number.badJournal j second
   -- "a second buffer not of 52,224 bytes is 1, after 4"
   pub after-4 : wellFormed j ≡ true → length j ≡ 17408 → (length second ≡ 52224 → ⊥) → madeLarge j second ≡ copied number.shortOutput j second
@@ -75,7 +77,12 @@ abbrev pub shown : (c : Calls) → c .Pair → List Call → List Shown
 shown c p [] = []
 shown c p (k ∷ ks) = record { gives = c .gives p k; state = c .state (c .leaves p k) } ∷ shown c (c .leaves p k) ks
 
--- events, batches, steps back and emptyings of which none gives 5
+-- events, batches, steps back and emptyings,
+abbrev pub NoneEnlarges : List Call → Type 0
+NoneEnlarges [] = Unit
+NoneEnlarges (k ∷ ks) = (isEnlarging k ≡ false) × NoneEnlarges ks
+
+-- of which none gives 5
 abbrev pub BeforeFive : (c : Calls) → c .Pair → List Call → Type 0
 BeforeFive c p [] = Unit
-BeforeFive c p (k ∷ ks) = (enlarging k ≡ false) × (c .gives p k .number ≡ number.noneKept → ⊥) × BeforeFive c (c .leaves p k) ks
+BeforeFive c p (k ∷ ks) = (c .gives p k .number ≡ number.noneKept → ⊥) × BeforeFive c (c .leaves p k) ks

@@ -13,7 +13,7 @@ use Rattle.state.specs.State.{Adapter, powerOn}
 use Rattle.chip.specs.Answer.{Reaction, frontLength, laid}
 use Rattle.chip.specs.Event.{Completion, spi, i2c, Event, frame, completion, sample, upset}
 use Rattle.chip.specs.Chip.{reaction, acceptedReset}
-use Rattle.journal.specs.Layout.{sizeOf, small, large, slotsOf, wrongLength}
+use Rattle.journal.specs.Layout.{slotsOf, wrongLength}
 use Rattle.adapter.specs.declared.KeptNumber.{KeptNumber}
 use Rattle.adapter.specs.Refusals.{wrongArgument, wrongBody}
 use Rattle.batch.specs.declared.Sample.{Sample}
@@ -32,12 +32,12 @@ pub data Call : Type 0 where
   empty : Call
   enlarge : (second : List ℕ) → Call
 
-abbrev pub enlarging : Call → Bool
-enlarging (event e output) = false
-enlarging (batch list output) = false
-enlarging back = false
-enlarging empty = false
-enlarging (enlarge second) = true
+abbrev pub isEnlarging : Call → Bool
+isEnlarging (event e output) = false
+isEnlarging (batch list output) = false
+isEnlarging back = false
+isEnlarging empty = false
+isEnlarging (enlarge second) = true
 
 -- What a call gives, and the output's bytes afterwards. A batch alone gives how many frames it sent, and a sum; with any other call both are 0. A step
 -- back, an emptying and an enlarging are lent no output: the second buffer of the last is the journal from then on, or as it was (`enlarge-unchanged`).
@@ -144,8 +144,8 @@ keepsSample s x = keepsEvent s (eventOf x)
 -- the enlarging call's refusals, in document 02's order: "a large journal given for enlarging is 4; a second buffer not of 52,224 bytes is 1, after 4"
 abbrev pub enlargeRefusal : Standing → List ℕ → ℕ
 enlargeRefusal s second =
-    cond (not (eqb (s .most) (small .slots))) number.badJournal
-    (cond (not (eqb (length second) (sizeOf large))) number.shortOutput 0)
+    cond (not (eqb (s .most) 64)) number.badJournal
+    (cond (not (eqb (length second) 52224)) number.shortOutput 0)
 
 abbrev pub enlargeRefused : Standing → List ℕ → Bool
 enlargeRefused s second = not (eqb (enlargeRefusal s second) 0)
@@ -157,7 +157,7 @@ keeps s (event e output) = cond (refused e output) s (keepsEvent s e)
 keeps s (batch list output) = cond (batchRefused list output) s (foldl keepsSample s list)
 keeps s back = cond (eqb (s .number) 0) s (record { events = drop 1 (s .events); number = s .number - 1; most = s .most })
 keeps s empty = record { events = s .events; number = 0; most = s .most }
-keeps s (enlarge second) = cond (enlargeRefused s second) s (record { events = s .events; number = s .number; most = large .slots })
+keeps s (enlarge second) = cond (enlargeRefused s second) s (record { events = s .events; number = s .number; most = 200 })
 
 abbrev pub standing : Run → Standing
 standing r = foldl keeps (atStart (slotsOf (r .bytes))) (r .calls)
@@ -223,7 +223,7 @@ lent (enlarge second) = []
 
 pub record Demand3 (c : Calls) : Type 0 where
   -- "Then no event and no step back gives 4 or 6: what our own calls left is never refused as damaged." Nor does a batch or an emptying.
-  pub undamaged : (r : Run) (k : Call) → enlarging k ≡ false
+  pub undamaged : (r : Run) (k : Call) → isEnlarging k ≡ false
       → (c .gives (left c r) k .number ≡ number.badJournal → ⊥) × (c .gives (left c r) k .number ≡ number.badState → ⊥)
   -- "After any run of events and steps back, registers, SEU counter, numbers, port, loopback and any open transfer are those of a run of
   -- only the standing events: not refused, not taken back."

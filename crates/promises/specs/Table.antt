@@ -10,7 +10,6 @@ use Rattle.wire.specs.Bits.{wire}
 use Rattle.wire.specs.Frame.{stuff}
 use Prim.Native.String.{String}
 use Rattle.chip.specs.Event.{Event, frame, sample, upset}
-use Rattle.journal.specs.Layout.{sizeOf, large}
 use Rattle.player.specs.Play as Listing
 use Rattle.promises.specs.Text.{text}
 use Rattle.promises.specs.Runs.{Call, event, back, empty, Given, Calls}
@@ -89,7 +88,7 @@ reply trn ch err len =
 
 -- the lines that calls give, whatever the journal's bytes were
 abbrev pub Give : List Call → List (List ℕ) → Type 0
-Give calls output = (bytes : List ℕ) → length bytes ≡ sizeOf large → played bytes calls ≡ output
+Give calls output = (bytes : List ℕ) → length bytes ≡ 52224 → played bytes calls ≡ output
 
 -- "Proved, as a single table under one claim: the eight lines; FF stuffs to 111110111; 7E to 011111010; TRN 01 and FE pass, 00 and FF
 -- give 0x08; CH 0x15 known, 0x16 not."

@@ -1,9 +1,7 @@
 -- `copy_kept` meets its contract. The invariant: the k oldest stand in the second buffer's first k slots. Assumes nothing.
-use Prim.Native.Nat.{ℕ, _-_, _≤_, _<_}
-use mathlib.Core.List.{List}
-use mathlib.Core.Path.{_≡_, refl}
+use Prim.Native.Nat.{_-_, _≤_, _<_}
+use mathlib.Core.Path.{_≡_}
 use borrow.Author.Needs.{needs}
-use lib.ListN.{length}
 use Rattle.parts.specs.Parts.{put}
 use Rattle.parts.proofs.Laws.{put-none}
 use Rattle.journal.specs.Layout.{oldest}

@@ -1,5 +1,4 @@
 -- `journal::place` meets its contract. Assumes nothing.
-use mathlib.Core.Path.{ap}
 use borrow.Author.Needs.{needs}
 use Rattle.journal.proofs.place.Statement.{statement}
 use Rattle.journal.proofs.place.Tie as tie
