@@ -1,5 +1,6 @@
-// Walks along the edges that document 01 names: bodies of 1, 2, 16 and 17 bytes; SPI lengths of 0, 1 and 127; 64 and 65 events, and steps
-// back until one is refused. A line is the number and the kept number, then with 0 the port and the body. docs/STEPS.md works every line out.
+// Walks along the edges that documents 01 and 02 name: bodies of 1, 2, 16 and 17 bytes; SPI lengths of 0, 1 and 127; 64 and 65 events with a small
+// journal, 200 and 201 with a large one, and steps back until one is refused. A line is the number and the kept number, then with 0 the port and the
+// body. docs/STEPS.md works every line out.
 use adapter::Answer;
 use commands::command::Register;
 use state::BYTES;
@@ -37,7 +38,7 @@ fn print_body(output: &[u8; 16], length: u8) {
     }
 }
 
-fn print_kept(number: u8, journal: &[u8; 17408]) {
+fn print_kept(number: u8, journal: &[u8]) {
     print_byte(number);
     space();
     let k = adapter::kept(journal);
@@ -56,7 +57,7 @@ fn show(answer: Answer, journal: &[u8; 17408], output: &[u8; 16]) {
 }
 
 // The number, the kept number and the SEU counter.
-fn show_seu(number: u8, journal: &[u8; 17408], seu: u32) {
+fn show_seu(number: u8, journal: &[u8], seu: u32) {
     print_kept(number, journal);
     space();
     io::print_decimal(OUT, seu as u64);
@@ -91,7 +92,7 @@ fn upsets_in(state: &[u8; BYTES]) -> u32 {
     counter(state)
 }
 
-fn upsets(state: &mut [u8; BYTES], journal: &mut [u8; 17408], count: u8) {
+fn upsets(state: &mut [u8; BYTES], journal: &mut [u8], count: u8) {
     let mut number: u8 = 0;
     let mut i: u8 = 0;
     while i < count {
@@ -103,7 +104,7 @@ fn upsets(state: &mut [u8; BYTES], journal: &mut [u8; 17408], count: u8) {
     show_seu(number, journal, upsets_in(state));
 }
 
-fn steps_back(state: &mut [u8; BYTES], journal: &mut [u8; 17408], count: u8) {
+fn steps_back(state: &mut [u8; BYTES], journal: &mut [u8], count: u8) {
     let mut number: u8 = 0;
     let mut i: u8 = 0;
     while i < count {
@@ -178,6 +179,26 @@ fn ring(state: &mut [u8; BYTES], journal: &mut [u8; 17408]) {
     steps_back(state, journal, 1);
 }
 
+// The number, and what the second buffer keeps then.
+fn enlarge(journal: &[u8], second: &mut [u8]) {
+    let number = adapter::enlarge(journal, second);
+    print_kept(number, second);
+    end_line();
+}
+
+// Two events of a small journal go over into a large one, which then is filled.
+fn long_ring(state: &mut [u8; BYTES], small: &mut [u8; 17408], large: &mut [u8; 52224]) {
+    let mut short = [0u8; 16];
+    upsets(state, small, 2);
+    enlarge(small, &mut short);
+    enlarge(small, large);
+    enlarge(large, &mut short);
+    upsets(state, large, 198);
+    upsets(state, large, 1);
+    steps_back(state, large, 200);
+    steps_back(state, large, 1);
+}
+
 fn clear(journal: &mut [u8; 17408]) {
     let number = adapter::empty(journal);
     print_kept(number, journal);
@@ -187,10 +208,12 @@ fn clear(journal: &mut [u8; 17408]) {
 fn main() {
     let mut state = [0u8; BYTES];
     let mut journal = [0u8; 17408];
+    let mut large = [0u8; 52224];
     clear(&mut journal);
     adapter::create(&mut state, 0x00000A);
     bodies(&mut state, &mut journal);
     spi(&mut state, &mut journal);
     clear(&mut journal);
     ring(&mut state, &mut journal);
+    long_ring(&mut state, &mut journal, &mut large);
 }
