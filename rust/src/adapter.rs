@@ -84,7 +84,7 @@ impl Adapter {
 
     /// The pins are sampled, many times in a row: state, journal and bodies are those of as many calls of
     /// [`Adapter::sample`]. Each sample is an event of its own, kept and taken back by itself, with GPIO disabled too;
-    /// of more than the journal keeps, the newest can be taken back. They come by value, or by reference as from a
+    /// of more than the journal keeps, only that many can be, the newest. They come by value, or by reference as from a
     /// slice. Refused where they are over [`crate::SAMPLES_MOST`]; of an iterator that has more, or never ends, no
     /// sample is asked for past the first one too many.
     pub fn samples(&mut self, samples: impl IntoIterator<Item = impl Borrow<Sample>>) -> Result<Batch, Refusal> {
