@@ -1179,6 +1179,8 @@ static void enlarged_over_another(void) {
     check(good, "RESET empties what was enlarged, and it stays large");
 }
 
+static void use_size(int other) { use(formats[other]); }
+
 /* What is done with a journal is done with one of each size. */
 static void with_each_journal(void) {
     static void (*const tests[])(void) = {
@@ -1205,14 +1207,7 @@ static void with_each_journal(void) {
         batch_over_the_ring,
         i2c_exchange,
     };
-    for (unsigned other = 0; other <= 1; other++) {
-        about = other ? "large journal: " : "small journal: ";
-        for (size_t at = 0; at < sizeof tests / sizeof tests[0]; at++) {
-            use(formats[other]);
-            tests[at]();
-        }
-    }
-    about = "";
+    with_each_size(tests, sizeof tests / sizeof tests[0], use_size);
     use(&small);
 }
 

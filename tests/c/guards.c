@@ -1323,6 +1323,11 @@ static void map_all(void) {
     signal(SIGBUS, touched);
 }
 
+static void lay_out(int other) {
+    use(other ? &large : &small);
+    reach(1, 0);
+}
+
 /* What is done with a journal is done with one of each size. */
 static void with_each_journal(void) {
     static void (*const tests[])(void) = {
@@ -1343,15 +1348,7 @@ static void with_each_journal(void) {
         records_apart,
         records_of_frames,
     };
-    for (unsigned other = 0; other <= 1; other++) {
-        about = other ? "large journal: " : "small journal: ";
-        for (size_t at = 0; at < sizeof tests / sizeof tests[0]; at++) {
-            use(other ? &large : &small);
-            reach(1, 0);
-            tests[at]();
-        }
-    }
-    about = "";
+    with_each_size(tests, sizeof tests / sizeof tests[0], lay_out);
 }
 
 int main(void) {

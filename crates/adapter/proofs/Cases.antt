@@ -25,7 +25,7 @@ use Rattle.chip.specs.Inner.{Said, said, says}
 use Rattle.chip.specs.Chip.{reaction, acceptedReset}
 use Rattle.chip.specs.Group.{groupOf}
 use Rattle.chip.proofs.Cases.{tested}
-use Rattle.journal.specs.Layout.{slotsOf, wrongLength, keptOf, wellFormed, isSmall, past, lowered, enlarged}
+use Rattle.journal.specs.Layout.{slotsOf, keptOf, wellFormed, isSmall, past, lowered, enlarged}
 use Rattle.journal.specs.Record.{keptFor, before, sound, restored}
 use Rattle.journal.proofs.Enlarged.{small-well, large-size, large-room}
 use Rattle.adapter.specs.declared.Answer.{Answer}
@@ -99,11 +99,8 @@ module _ (j second : List ℕ) (b : Bool) (e : b ≡ isSmall j) where
     unfolding madeLarge
     other-size n = simp (small, ne-eqb (length second) 52224 n)
 
-    pub small-formed : length second ≡ 52224 → wellFormed j ≡ true
-    small-formed n = small-well j second small n
-
-    pub large-sized : length second ≡ 52224 → wrongLength second ≡ false
-    large-sized n = large-size j second small n
+    pub small-formed : wellFormed j ≡ true
+    small-formed = small-well j small
 
     pub all-fit : length second ≡ 52224 → keptOf j ≤ slotsOf second
     all-fit n = large-room j second small n
@@ -112,7 +109,7 @@ module _ (j second : List ℕ) (b : Bool) (e : b ≡ isSmall j) where
     unfolding madeLarge
     made-large n after g = simp (small, eq-eqb (length second) 52224 n) (ap (copied 17 j) g)
 
-pub ruleset enlargings = (no-small, other-size, small-formed, large-sized, all-fit, made-large)
+pub ruleset enlargings = (no-small, other-size, small-formed, large-size, all-fit, made-large)
 
 -- ---- an event on a state's bytes: the chip's reaction to its link and registers, and the link stored
 

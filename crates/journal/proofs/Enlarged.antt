@@ -11,7 +11,7 @@ use native.Mathlib.Omega.{arith}
 use lib.Dec.{eqb}
 use borrow.Author.Tests.{eqb-true, eq-eqb, ne-eqb}
 use lib.ListN.{length, take, drop, length-append, length-take}
-use Rattle.bits.proofs.Tests.{both}
+use Rattle.bits.proofs.Tests.{and-left, and-right}
 use Rattle.parts.specs.Parts.{part, put}
 use Rattle.parts.proofs.Laws.{length-put, length-part, part-put-same, part-put-before, part-put-after, put-put}
 use Rattle.journal.specs.declared.Format.{Format}
@@ -150,20 +150,22 @@ module _ (j second : List ℕ) (w : Well j) (s : wrongLength second ≡ false) (
 
 -- ---- what the enlarging call is handed
 
-module _ (j second : List ℕ) (h : isSmall j ≡ true) (n : length second ≡ 52224) where
-  pub small-well : wellFormed j ≡ true
-  unfolding isSmall
-  small-well = both (eqb (length j) 17408) (wellFormed j) h .1
+pub small-well : (j : List ℕ) → isSmall j ≡ true → wellFormed j ≡ true
+unfolding isSmall
+small-well j h = and-right (eqb (length j) 17408) (wellFormed j) h
 
-  pub large-size : wrongLength second ≡ false
-  unfolding wrongLength
-  large-size = ap (λ (k : ℕ). eqb k 0) (of-large second n)
+pub small-length : (j : List ℕ) → isSmall j ≡ true → length j ≡ 17408
+unfolding isSmall
+small-length j h = eqb-true (length j) 17408 (and-left (eqb (length j) 17408) (wellFormed j) h)
 
-  pub large-room : keptOf j ≤ slotsOf second
-  unfolding isSmall
-  large-room =
-      let few = of-well j small-well .few in
-      omega (arith, of-small j (eqb-true (length j) 17408 (both (eqb (length j) 17408) (wellFormed j) h .0)), of-large second n)
+pub large-size : (second : List ℕ) → length second ≡ 52224 → wrongLength second ≡ false
+unfolding wrongLength
+large-size second n = ap (λ (k : ℕ). eqb k 0) (of-large second n)
+
+pub large-room : (j second : List ℕ) → isSmall j ≡ true → length second ≡ 52224 → keptOf j ≤ slotsOf second
+large-room j second h n =
+    let few = of-well j (small-well j h) .few in
+    omega (arith, of-small j (small-length j h), of-large second n)
 
 -- of a well-formed journal the slots tell whether it is small
 pub small-by-slots : (j : List ℕ) → Well j → isSmall j ≡ eqb (slotsOf j) 64

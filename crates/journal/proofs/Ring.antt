@@ -90,6 +90,10 @@ module _ (kept : ℕ) (j : List ℕ) (s : wrongLength j ≡ false) where
         few = rw headed-slots few;
       }
 
+-- what the code writes of it
+pub headed-by : (kept : ℕ) (j k : List ℕ) (f : Format) → f ≡ formatOf (length j) → k ≡ put 0 (header f 0 kept) j → k ≡ headed kept j
+headed-by kept j k f e p = p ∙ ap (λ (x : Format). put 0 (header x 0 kept) j) e
+
 -- an emptied journal
 pub emptied-slots : (j : List ℕ) → wrongLength j ≡ false → slotsOf (emptied j) ≡ slotsOf j
 unfolding emptied

@@ -8,8 +8,7 @@ use mathlib.Core.Logic.{⊎-elim}
 use native.Mathlib.Omega.{arith}
 use lib.Dec.{eqb}
 use lib.ListN.{length, drop}
-use borrow.Author.Tests.{eq-eqb, ne-eqb, eqb-true, eqb-false}
-use Rattle.bits.proofs.Tests.{and-left, and-right}
+use borrow.Author.Tests.{eq-eqb, ne-eqb, eqb-false}
 use Rattle.numbers.specs.Numbers as number
 use Rattle.state.specs.State.{Adapter}
 use Rattle.state.specs.Bytes.{isState}
@@ -18,7 +17,7 @@ use Rattle.chip.specs.Chip.{acceptedReset}
 use Rattle.journal.specs.Layout.{slotsOf, wrongLength, keptOf, wellFormed, isSmall, past, formatOf, emptied, enlarged}
 use Rattle.journal.specs.Record.{restored, sound}
 use Rattle.journal.proofs.Ring.{Well, well-of, of-well, emptied-well, emptied-kept, headed-size}
-use Rattle.journal.proofs.Enlarged.{small-well, large-size, large-room, enlarged-well, enlarged-kept, enlarged-past, enlarged-length}
+use Rattle.journal.proofs.Enlarged.{small-well, small-length, large-size, large-room, enlarged-well, enlarged-kept, enlarged-past, enlarged-length}
 use Rattle.adapter.specs.Refusals.{inOrder, verdict, backVerdict}
 use Rattle.adapter.specs.declared.Verdict.{Verdict}
 use Rattle.adapter.specs.declared.Verdict.the-variants.{Refused}
@@ -94,12 +93,12 @@ enlarging-call j second =
     record {
       granted = (
         enlarge-cases j second (λ x. x .number ≡ 17 → (wellFormed j ≡ true) × (length j ≡ 17408) × (length second ≡ 52224)) (λ n r e. absurd (false≢true (rw e at r)))
-            (λ small n e. (small-well j second small n, eqb-true (length j) 17408 (and-left (eqb (length j) 17408) (wellFormed j) small), n)),
+            (λ small n e. (small-well j small, small-length j small, n)),
         λ h. rw (eq-eqb (length j) 17408 (h .1), h .0, eq-eqb (length second) 52224 (h .2)) refl,
       );
       not-small = λ h.
           split (isSmall j)
-          (λ t. absurd (h (and-right (eqb (length j) 17408) (wellFormed j) t, eqb-true (length j) 17408 (and-left (eqb (length j) 17408) (wellFormed j) t))))
+          (λ t. absurd (h (small-well j t, small-length j t)))
           (λ t. rw t refl);
       large = λ e. rw (ne-eqb (length j) 17408 (λ q. omega arith)) refl;
       after-4 = λ formed size other. rw (eq-eqb (length j) 17408 size, formed, ne-eqb (length second) 52224 other) refl;
@@ -115,14 +114,17 @@ module _ (j second : List ℕ) (formed : wellFormed j ≡ true) (size : length j
   unfolding isSmall
   small = rw (eq-eqb (length j) 17408 size) formed
 
+  room : keptOf j ≤ slotsOf second
+  room = large-room j second small n
+
   well : Well (enlarged j second)
-  well = enlarged-well j second w (large-size j second small n) (large-room j second small n)
+  well = enlarged-well j second w (large-size second n) room
 
   kept-same : keptOf (enlarged j second) ≡ keptOf j
-  kept-same = enlarged-kept j second w (large-size j second small n) (large-room j second small n)
+  kept-same = enlarged-kept j second w (large-size second n) room
 
   past-same : (i : ℕ) → i < keptOf j → past (enlarged j second) i ≡ past j i
-  past-same i l = enlarged-past j second w (large-size j second small n) (large-room j second small n) i l
+  past-same i l = enlarged-past j second w (large-size second n) room i l
 
   same-step : (s : List ℕ) → (steppedBack s (enlarged j second) .number ≡ steppedBack s j .number)
       × (steppedBack s (enlarged j second) .state ≡ steppedBack s j .state)
@@ -143,7 +145,7 @@ module _ (j second : List ℕ) (formed : wellFormed j ≡ true) (size : length j
   enlarged-keeps =
       rw (small, eq-eqb (length second) 52224 n)
       (record {
-        size = enlarged-length j second w (large-size j second small n) (large-room j second small n) ∙ n;
+        size = enlarged-length j second w (large-size second n) room ∙ n;
         agree = agrees (enlarged j second) well;
         kept = rw (well-of well, formed, kept-same) refl;
         records = λ i l. past-same i (rw formed at l);

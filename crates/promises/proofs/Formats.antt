@@ -9,6 +9,7 @@ use lib.ListN.{length}
 use lib.Dec.{eqb}
 use Rattle.journal.specs.Layout.{slotsOf, wrongLength}
 use Rattle.journal.proofs.Formats.{only-lengths, of-small, of-large}
+use Rattle.journal.proofs.Enlarged.{large-size}
 
 module _ (bytes : List ℕ) where
   pub slots-64 : length bytes ≡ 17408 → slotsOf bytes ≡ 64
@@ -23,8 +24,7 @@ module _ (bytes : List ℕ) where
   any-17408 h = ap (λ (n : ℕ). eqb n 0) (slots-64 h)
 
   pub any-52224 : length bytes ≡ 52224 → wrongLength bytes ≡ false
-  unfolding wrongLength
-  any-52224 h = ap (λ (n : ℕ). eqb n 0) (slots-200 h)
+  any-52224 h = large-size bytes h
 
   pub no-other-length : wrongLength bytes ≡ false → (length bytes ≡ 17408) ⊎ (length bytes ≡ 52224)
   no-other-length h = only-lengths bytes h

@@ -107,35 +107,25 @@ most-left s back h = either (λ (x : Standing). x .most ≡ s .most) (eqb (s .nu
 most-left s empty h = refl
 most-left s (enlarge second) h = absurd (true≢false h)
 
--- no call leads from 200 to another
-stays-200 : (s : Standing) (k : Call) → s .most ≡ 200 → keeps s k .most ≡ 200
-stays-200 s (event e o) h = most-left s (event e o) refl ∙ h
-stays-200 s (batch list o) h = most-left s (batch list o) refl ∙ h
-stays-200 s back h = most-left s back refl ∙ h
-stays-200 s empty h = most-left s empty refl ∙ h
-stays-200 s (enlarge second) h = either (λ (x : Standing). x .most ≡ 200) (enlargeRefused s second) _ _ h refl
+-- what holds of it, and of 200, holds after any call,
+stays-or-200 : (P : ℕ → Type 0) → P 200 → (s : Standing) (k : Call) → P (s .most) → P (keeps s k .most)
+stays-or-200 P l s (event e o) h = either (λ (x : Standing). P (x .most)) (refused e o) _ _ h h
+stays-or-200 P l s (batch list o) h = either (λ (x : Standing). P (x .most)) (batchRefused list o) _ _ h (rw (samples-most list s) h)
+stays-or-200 P l s back h = either (λ (x : Standing). P (x .most)) (eqb (s .number) 0) _ _ h h
+stays-or-200 P l s empty h = h
+stays-or-200 P l s (enlarge second) h = either (λ (x : Standing). P (x .most)) (enlargeRefused s second) _ _ h l
+
+-- and after all
+all-or-200 : (P : ℕ → Type 0) → P 200 → (ks : List Call) (s : Standing) → P (s .most) → P (foldl keeps s ks .most)
+all-or-200 P l [] s h = h
+all-or-200 P l (k ∷ ks) s h = all-or-200 P l ks (keeps s k) (stays-or-200 P l s k h)
 
 all-200 : (ks : List Call) (s : Standing) → s .most ≡ 200 → foldl keeps s ks .most ≡ 200
-all-200 [] s h = h
-all-200 (k ∷ ks) s h = all-200 ks (keeps s k) (stays-200 s k h)
+all-200 = all-or-200 (λ n. n ≡ 200) refl
 
 all-left : (ks : List Call) (s : Standing) → NoneEnlarges ks → foldl keeps s ks .most ≡ s .most
 all-left [] s n = refl
 all-left (k ∷ ks) s n = all-left ks (keeps s k) (n .1) ∙ most-left s k (n .0)
-
-either-most : (ks : List Call) (s : Standing) → (s .most ≡ 64) ⊎ (s .most ≡ 200) → (foldl keeps s ks .most ≡ 64) ⊎ (foldl keeps s ks .most ≡ 200)
-either-most [] s h = h
-either-most (k ∷ ks) s (inr h) = inr (all-200 ks (keeps s k) (stays-200 s k h))
-either-most (k ∷ ks) s (inl h) =
-    either-most ks (keeps s k)
-    (split (isEnlarging k) (λ e. by k e) (λ e. inl (most-left s k e ∙ h)))
-  where
-    by : (k : Call) → isEnlarging k ≡ true → (keeps s k .most ≡ 64) ⊎ (keeps s k .most ≡ 200)
-    by (event e o) q = absurd (true≢false (sym q))
-    by (batch list o) q = absurd (true≢false (sym q))
-    by back q = absurd (true≢false (sym q))
-    by empty q = absurd (true≢false (sym q))
-    by (enlarge second) q = either (λ (x : Standing). (x .most ≡ 64) ⊎ (x .most ≡ 200)) (enlargeRefused s second) _ _ (inl h) (inr refl)
 
 no-refusal-17 : (s : Standing) (second : List ℕ) → enlargeRefusal s second ≡ number.noFrame → ⊥
 no-refusal-17 s second =
@@ -171,7 +161,7 @@ module _ (r : Run) where
   -- and nothing else.
   pub 64-or-200 : (standing r .most ≡ 64) ⊎ (standing r .most ≡ 200)
   64-or-200 =
-      either-most (r .calls) (atStart (slotsOf (r .bytes)))
+      all-or-200 (λ n. (n ≡ 64) ⊎ (n ≡ 200)) (inr refl) (r .calls) (atStart (slotsOf (r .bytes)))
       (⊎-elim (λ (h : length (r .bytes) ≡ 17408). inl (slots-64 (r .bytes) h)) (λ (h : length (r .bytes) ≡ 52224). inr (slots-200 (r .bytes) h))
       (no-other-length (r .bytes) (r .size)))
 

@@ -44,7 +44,7 @@ use Rattle.batch.proofs.Course.{port-back}
 use Rattle.promises.specs.Runs.{Call, event, batch, back, empty, enlarge, isEnlarging, Given, SamplesOfTypes, OfItsTypes, AllOfTheirTypes, Run, left, refusal, refused}
 use Rattle.promises.specs.Runs.{batchRefusal, batchRefused, Standing, atStart, keepsEvent, keepsSample}
 use Rattle.promises.specs.Runs.{keeps, standing, stateAfter, dueState, bare, due, dueFrames, batchGiven, dueBatch}
-use Rattle.promises.specs.Runs.{dueEnlarging, isRefusal, refuses, lent, Demand3}
+use Rattle.promises.specs.Runs.{enlargeRefusal, dueEnlarging, isRefusal, refuses, lent, Demand3}
 use Rattle.promises.specs.Ours.{Handed, handed, given, givesOurs, leavesOurs, ours}
 use Rattle.promises.proofs.Formats.{slots-200, any-52224}
 use Rattle.promises.proofs.Cases.{between-refusals, neither, create-cases}
@@ -259,8 +259,11 @@ module _ (id : ℕ) (small : id ≤ number.idMost) where
 
   -- ---- a journal made large
 
+  abbrev at-200 : Standing → Standing
+  at-200 s = record { events = s .events; number = s .number; most = 200 }
+
   enlarged-inv : (s : Standing) (j second : List ℕ) → Inv s j → wrongLength second ≡ false → keptOf j ≤ slotsOf second → slotsOf second ≡ 200
-      → Inv (record { events = s .events; number = s .number; most = 200 }) (enlarged j second)
+      → Inv (at-200 s) (enlarged j second)
   enlarged-inv s j second i n room m =
       record {
         fit = i .fit;
@@ -365,28 +368,37 @@ module _ (id : ℕ) (small : id ≤ number.idMost) where
         turns empty _ _ (ap (λ (y : Made). bare (y .number) []) x) refl (ap (λ (y : Made). handed (bytesAfter (s .events)) (y .bytes)) x)
         (λ t. emptied-inv s j (i .fit) (i .well .size) (i .slots))
 
+    -- what an enlarging leaves, by what it comes to
+    abbrev after-enlarging : Copied → Handed
+    after-enlarging x = handed (bytesAfter (s .events)) (cond (isRefusal (x .number)) (x .first) (x .second))
+
+    refused-enlarging : (second : List ℕ) (n : ℕ) → madeLarge j second ≡ copied n j second → enlargeRefusal s second ≡ n → eqb n 0 ≡ false
+        → isRefusal n ≡ true → Turn s j (enlarge second)
+    refused-enlarging second n x e z r =
+        turns (enlarge second) s j
+        (ap (λ (y : Copied). bare (y .number) []) x ∙ sym (ap (λ (m : ℕ). cond (not (eqb m 0)) (bare m []) (bare 17 [])) e ∙ rw z refl))
+        (ap (λ (m : ℕ). cond (not (eqb m 0)) s (at-200 s)) e ∙ rw z refl) (ap after-enlarging x ∙ rw r refl) (λ t. i)
+
+    granted-enlarging : (second : List ℕ) → madeLarge j second ≡ copied 17 j (enlarged j second) → s .most ≡ 64 → length second ≡ 52224
+        → Turn s j (enlarge second)
+    granted-enlarging second x m n =
+        let few = i .well .few in
+        let slots = i .slots in
+        let room : keptOf j ≤ slotsOf second = omega (arith, slots-200 second n) in
+        turns (enlarge second) (at-200 s) (enlarged j second)
+        (ap (λ (y : Copied). bare (y .number) []) x ∙ rw (eq-eqb (s .most) 64 m, eq-eqb (length second) 52224 n) refl)
+        (rw (eq-eqb (s .most) 64 m, eq-eqb (length second) 52224 n) refl) (ap after-enlarging x)
+        (λ t. enlarged-inv s j second i (any-52224 second n) room (slots-200 second n))
+
     enlarge-turn : (second : List ℕ) → Turn s j (enlarge second)
     enlarge-turn second =
         let x = large-told j second (s .most) (i .well) (i .slots) in
         split (eqb (s .most) 64)
         (λ small.
         split (eqb (length second) 52224)
-        (λ size.
-        let y : madeLarge j second ≡ copied 17 j (enlarged j second) = x ∙ rw (small, size) refl in
-        let long = eqb-true (length second) 52224 size in
-        let sixty-four = eqb-true (s .most) 64 small in
-        turns (enlarge second) _ (enlarged j second) (ap (λ (z : Copied). bare (z .number) []) y ∙ rw (small, size) refl) (rw (small, size) refl)
-        (ap (λ (z : Copied). handed (bytesAfter (s .events)) (cond (isRefusal (z .number)) (z .first) (z .second))) y)
-        (λ t. enlarged-inv s j second i (any-52224 second long)
-        (let few = i .well .few in let m = i .slots in omega (arith, slots-200 second long)) (slots-200 second long)))
-        (λ size.
-        let y : madeLarge j second ≡ copied 1 j second = x ∙ rw (small, size) refl in
-        turns (enlarge second) s j (ap (λ (z : Copied). bare (z .number) []) y ∙ rw (small, size) refl) (rw (small, size) refl)
-        (ap (λ (z : Copied). handed (bytesAfter (s .events)) (cond (isRefusal (z .number)) (z .first) (z .second))) y) (λ t. i)))
-        (λ small.
-        let y : madeLarge j second ≡ copied 4 j second = x ∙ rw small refl in
-        turns (enlarge second) s j (ap (λ (z : Copied). bare (z .number) []) y ∙ rw small refl) (rw small refl)
-        (ap (λ (z : Copied). handed (bytesAfter (s .events)) (cond (isRefusal (z .number)) (z .first) (z .second))) y) (λ t. i))
+        (λ size. granted-enlarging second (x ∙ rw (small, size) refl) (eqb-true (s .most) 64 small) (eqb-true (length second) 52224 size))
+        (λ size. refused-enlarging second 1 (x ∙ rw (small, size) refl) (rw (small, size) refl) refl refl))
+        (λ small. refused-enlarging second 4 (x ∙ rw small refl) (rw small refl) refl refl)
 
     turn : (k : Call) → Turn s j k
     turn (event e o) = event-turn e o

@@ -1,11 +1,8 @@
 -- `journal::head` meets its contract. Assumes nothing.
 use borrow.Author.Needs.{needs}
-use Rattle.journal.proofs.Ring.{header-in}
+use Rattle.journal.proofs.Ring.{header-in, headed-by}
 use Rattle.journal.proofs.head.Statement.{statement}
 use Rattle.journal.proofs.head.Tie as tie
-
-returns : tie.Need-returns
-returns c = simp (c .before .before .store .ensures, c .before .before .before .before .before .before .before .format-of .ensures)
 
 pub head-spec : {M : Type 1} → statement M
 head-spec =
@@ -17,4 +14,4 @@ head-spec =
     (λ c. search needs)
     (λ c κs. search header-in)
     (λ c. search needs)
-    returns)
+    (λ c. search headed-by))
