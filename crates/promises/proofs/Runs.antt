@@ -44,7 +44,7 @@ use Rattle.batch.proofs.Course.{port-back}
 use Rattle.promises.specs.Runs.{Call, event, batch, back, empty, enlarge, isEnlarging, Given, SamplesOfTypes, OfItsTypes, AllOfTheirTypes, Run, left, refusal, refused}
 use Rattle.promises.specs.Runs.{batchRefusal, batchRefused, Standing, atStart, keepsEvent, keepsSample}
 use Rattle.promises.specs.Runs.{keeps, standing, stateAfter, dueState, bare, due, dueFrames, batchGiven, dueBatch}
-use Rattle.promises.specs.Runs.{enlargeRefusal, dueEnlarging, isRefusal, refuses, lent, Demand3}
+use Rattle.promises.specs.Runs.{enlargeRefusal, enlargeRefused, dueEnlarging, isRefusal, refuses, lent, Demand3}
 use Rattle.promises.specs.Ours.{Handed, handed, given, givesOurs, leavesOurs, ours}
 use Rattle.promises.proofs.Formats.{slots-200, any-52224}
 use Rattle.promises.proofs.Cases.{between-refusals, neither, create-cases}
@@ -375,9 +375,9 @@ module _ (id : ℕ) (small : id ≤ number.idMost) where
     refused-enlarging : (second : List ℕ) (n : ℕ) → madeLarge j second ≡ copied n j second → enlargeRefusal s second ≡ n → eqb n 0 ≡ false
         → isRefusal n ≡ true → Turn s j (enlarge second)
     refused-enlarging second n x e z r =
-        turns (enlarge second) s j
-        (ap (λ (y : Copied). bare (y .number) []) x ∙ sym (ap (λ (m : ℕ). cond (not (eqb m 0)) (bare m []) (bare 17 [])) e ∙ rw z refl))
-        (ap (λ (m : ℕ). cond (not (eqb m 0)) s (at-200 s)) e ∙ rw z refl) (ap after-enlarging x ∙ rw r refl) (λ t. i)
+        let h : enlargeRefused s second ≡ true = ap (λ (m : ℕ). not (eqb m 0)) e ∙ rw z refl in
+        turns (enlarge second) s j (ap (λ (y : Copied). bare (y .number) []) x ∙ rw h (ap (λ (m : ℕ). bare m []) (sym e))) (rw h refl)
+        (ap after-enlarging x ∙ rw r refl) (λ t. i)
 
     granted-enlarging : (second : List ℕ) → madeLarge j second ≡ copied 17 j (enlarged j second) → s .most ≡ 64 → length second ≡ 52224
         → Turn s j (enlarge second)
