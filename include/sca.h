@@ -60,8 +60,8 @@ extern "C" {
 
 /* ------------------------------------------------------------------ version */
 
-/* The version that this header is of, 1.6.0: major << 16 | minor << 8 | patch. */
-#define SCA_VERSION 0x010600
+/* The version that this header is of, 1.5.0: major << 16 | minor << 8 | patch. */
+#define SCA_VERSION 0x010500
 
 /* ------------------------------------------------------------------ numbers */
 
@@ -124,7 +124,7 @@ enum {
 #define SCA_I2C_MOST 16         /* the most bytes received in an I2C transaction */
 #define SCA_ID_MOST 0xFFFFFF    /* the greatest chip ID */
 #define SCA_RECEIVER_BYTES 24   /* a receiver */
-#define SCA_STATE_BYTES 413     /* an adapter's state */
+#define SCA_STATE_BYTES 411     /* an adapter's state */
 #define SCA_JOURNAL_BYTES 17408 /* a small journal */
 #define SCA_KEPT_MOST 64        /* the most events that it can take back */
 #define SCA_LARGE_JOURNAL_BYTES 52224 /* a large journal */
@@ -370,44 +370,42 @@ uint64_t sca_transmit(const uint8_t *body, size_t body_length, uint8_t *output, 
  *         3, then 2 the event's own arguments, as its text says
  *
  * THE STATE
- *     It holds all that lasts: the active port, link numbers and loopback of each
- *     port, registers, an open GO, the open I2C starts, the SEU counter and the
- *     chip ID. It may be copied, kept in a file and handed in again. Byte by byte; a
- *     field of several bytes has its lowest byte first, so that bit n of it is bit
- *     n % 8 of its byte n / 8:
+ *     It holds all that lasts: link numbers, port, loopback, registers, an open
+ *     GO, the open I2C starts, the SEU counter and the chip ID. It may be copied,
+ *     kept in a file and handed in again. Byte by byte; a field of several bytes
+ *     has its lowest byte first, so that bit n of it is bit n % 8 of its byte
+ *     n / 8:
  *
  *         byte      field                                channel  range
- *         0         active port                                   0 or 1
- *         1         send number of port 0                         0 to 7
- *         2         receive number of port 0                      0 to 7
+ *         0         send number                                   0 to 7
+ *         1         receive number                                0 to 7
+ *         2         active port                                   0 or 1
  *         3         port 0 is in loopback: 1                      0 or 1
- *         4         send number of port 1                         0 to 7
- *         5         receive number of port 1                      0 to 7
- *         6         port 1 is in loopback: 1                      0 or 1
- *         7         CRB                                  0x00     bit 0 is 0
- *         8         CRC                                  0x00
- *         9         CRD                                  0x00     bits 7 to 5 are 0
- *         10 to 13  SEU counter                          0x13
- *         14 to 17  DAC A, B, C, D                       0x15
- *         18 to 20  chip ID, byte 18 its bits 7 to 0     0x14
- *         21        chip ID, bits 31 to 24               0x14     0
- *         22, 23    CONTROL                              0x01
- *         24, 25    FREQ                                 0x01
- *         26        SS                                   0x01
- *         27 to 42  DATA, words 0 to 3                   0x01
- *         43        TRN of the open GO; 0: none is open  0x01
- *         44 to 47  DATAOUT                              0x02
- *         48 to 51  DATAIN                               0x02
- *         52 to 55  DIRECTION                            0x02
- *         56 to 59  INTSEL                               0x02
- *         60 to 63  INTTRIG                              0x02
- *         64 to 67  INTS                                 0x02
- *         68 to 71  CLKSEL                               0x02
- *         72 to 75  EDGESEL                              0x02
- *         76        INTENABLE                            0x02     0 or 1
+ *         4         port 1 is in loopback: 1                      0 or 1
+ *         5         CRB                                  0x00     bit 0 is 0
+ *         6         CRC                                  0x00
+ *         7         CRD                                  0x00     bits 7 to 5 are 0
+ *         8 to 11   SEU counter                          0x13
+ *         12 to 15  DAC A, B, C, D                       0x15
+ *         16 to 18  chip ID, byte 16 its bits 7 to 0     0x14
+ *         19        chip ID, bits 31 to 24               0x14     0
+ *         20, 21    CONTROL                              0x01
+ *         22, 23    FREQ                                 0x01
+ *         24        SS                                   0x01
+ *         25 to 40  DATA, words 0 to 3                   0x01
+ *         41        TRN of the open GO; 0: none is open  0x01
+ *         42 to 45  DATAOUT                              0x02
+ *         46 to 49  DATAIN                               0x02
+ *         50 to 53  DIRECTION                            0x02
+ *         54 to 57  INTSEL                               0x02
+ *         58 to 61  INTTRIG                              0x02
+ *         62 to 65  INTS                                 0x02
+ *         66 to 69  CLKSEL                               0x02
+ *         70 to 73  EDGESEL                              0x02
+ *         74        INTENABLE                            0x02     0 or 1
  *
  *     Then the sixteen I2C masters, 21 bytes each. Those of channel 0x03 + n
- *     stand from m = 77 + 21 * n on, the last ones up to byte 412:
+ *     stand from m = 75 + 21 * n on, the last ones up to byte 410:
  *
  *         byte              field                                   range
  *         m                 MASK
@@ -429,9 +427,8 @@ uint64_t sca_transmit(const uint8_t *body, size_t body_length, uint8_t *output, 
  *     length, or that is not in these ranges, is refused with 6, and no other is.
  *     Every call that is not refused leaves a state in range.
  *
- *     A state that a version before 1.6.0 of the library left has another length,
- *     since both ports shared one pair of numbers: 6. Make a new one with
- *     sca_create.
+ *     A state that a version before 1.2.0 of the library left has another length:
+ *     6. Make a new one with sca_create.
  *
  * THE JOURNAL
  *     It holds what sca_step_back needs. Every event that is not refused is kept
@@ -439,9 +436,9 @@ uint64_t sca_transmit(const uint8_t *body, size_t body_length, uint8_t *output, 
  *     SCA_LARGE_KEPT_MOST, the oldest is given up. An accepted RESET empties the
  *     journal instead. An event and a step back cost the same in both.
  *
- *     The length decides: SCA_JOURNAL_BYTES is a small journal and
- *     SCA_LARGE_JOURNAL_BYTES a large one. sca_empty makes either; a small one
- *     becomes large, with the events that it keeps, by sca_enlarge.
+ *     The length decides: SCA_JOURNAL_BYTES is a small journal, version 1, and
+ *     SCA_LARGE_JOURNAL_BYTES a large one, version 2. sca_empty makes either; a
+ *     small one becomes large, with the events that it keeps, by sca_enlarge.
  *
  *     A journal belongs to the state that went with it: hand both in as the last
  *     call left them, or copies of both that were taken at the same moment. A
@@ -450,7 +447,7 @@ uint64_t sca_transmit(const uint8_t *body, size_t body_length, uint8_t *output, 
  *
  *         byte          small                          large
  *         0 to 2        the mark: 0x53 0x43 0x4A, "SCJ", in both
- *         3, 4          the version: 0x03 0x00, in both
+ *         3, 4          the version: 0x01 0x00         0x02 0x00
  *         5             the first slot, 0 to 63        0 to 199
  *         6             the kept number, 0 to 64       0 to 200
  *         7 to 1023     not read and not written, in both
@@ -459,39 +456,35 @@ uint64_t sca_transmit(const uint8_t *body, size_t body_length, uint8_t *output, 
  *
  *     The records are the library's own and for sca_step_back alone; another
  *     version may lay them out otherwise. Number 4 means: a length that is neither,
- *     or one of bytes 0 to 6 that is not as the table says for this length.
+ *     or one of bytes 0 to 6 that is not as the table says for this length: so
+ *     version 2 in a small journal, or version 1 in a large one.
  *     sca_step_back also gives it where the record that it would take back is
  *     damaged, or would leave the state handed in out of range. No journal that
  *     the calls themselves left is refused with the state that went with it.
  *
- *     A journal that a version before 1.6.0 of the library left has version 1 or 2,
- *     and is refused with 4. Make it empty with sca_empty, and its state anew.
+ *     What 1.2.0 and later versions of the library left, state and journal, is good
+ *     as it is; before 1.5.0 every journal was small, and a large one is refused
+ *     there with 4. A journal of a version before 1.2.0 is a small one too by its
+ *     length, mark and version, but has other records, and no call can tell. Make it
+ *     empty with sca_empty first.
  *
  * THE CHIP
  *     A body is address, control, information. Address 0x00 is the chip's. The
  *     controls 0x2F and 0x3F are CONNECT, 0x8F and 0x9F RESET, 0xE3 and 0xF3
  *     TEST; they come without information on either port and are acknowledged
  *     with 00 63, or 00 73 where bit 4 was set. CONNECT makes its port active,
- *     zeroes this port's link numbers and ends loopback on both ports; RESET makes
- *     its port active too, zeroes the numbers of both ports, ends loopback on both,
- *     and sets all registers and the SEU counter to power-on, not the chip ID; TEST
- *     puts its own port in loopback, where any other body to address 0x00 without
- *     bit 0 of control comes back unchanged.
- *
- *     Each port has a send number and a receive number of its own. They change by
- *     what comes in on that port, by the replies and interrupts that leave on it,
- *     and by RESET on either port: a master on the other port never moves them
- *     otherwise.
+ *     zeroes both link numbers and ends loopback on both ports; RESET does the
+ *     same and sets all registers and the SEU counter to power-on, not the chip
+ *     ID; TEST puts its own port in loopback, where any other body to address
+ *     0x00 without bit 0 of control comes back unchanged.
  *
  *     A request is a numbered frame on the active port: control bits 3 to 1 are
- *     the receive number of the port that it comes in on, which then goes up by
- *     one modulo 8; another is dropped and SREJ goes out, control 0x0D plus 32
- *     times the receive number. A request's information is TRN, CH, LEN, CMD,
- *     D[23:16], D[31:24], D[7:0], D[15:8]. A reply has ERR, LEN in place of LEN,
- *     CMD; its control is twice the send number of the active port, on which it
- *     leaves and whose send number then goes up, plus 32 times that port's receive
- *     number. An interrupt is a reply with TRN 0xFF, CH 0x02, LEN 4 and INTS as its
- *     data.
+ *     the receive number, which then goes up by one modulo 8; another is dropped
+ *     and SREJ goes out, control 0x0D plus 32 times the receive number. A
+ *     request's information is TRN, CH, LEN, CMD, D[23:16], D[31:24], D[7:0],
+ *     D[15:8]. A reply has ERR, LEN in place of LEN, CMD; its control is twice
+ *     the send number, which then goes up, plus 32 times the receive number. An
+ *     interrupt is a reply with TRN 0xFF, CH 0x02, LEN 4 and INTS as its data.
  *     Data that a reply does not use is 0, and what a request does not use is not
  *     read.
  *
@@ -803,14 +796,10 @@ uint64_t sca_step_back(uint8_t *state, size_t state_length, uint8_t *journal, si
  *     other is. Every call that is not refused leaves a record in range.
  *
  *     A request counts the frame number up, modulo 8, and the link commands CONNECT
- *     and RESET set it to 0, as they do the numbers of their port. No call takes a
+ *     and RESET set it to 0, as they do the numbers of the chip. No call takes a
  *     number back, and sca_step_back knows nothing of the record: where a request
  *     was lost, or the chip was stepped back or answers SREJ, send the lost body
  *     again as it stands, while the chip still expects its number, or connect anew.
- *
- *     With masters on both ports, keep a record for each: the chip counts each
- *     port apart. RESET zeroes the numbers of the other port too, whose master has
- *     to connect anew.
  *
  *     Only its reply closes a transaction. CONNECT and RESET close none; and what the
  *     chip has dropped, by a RESET or because the channel of an open GO or start was

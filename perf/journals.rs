@@ -22,10 +22,10 @@ const KEPT: usize = 6;
 
 /// The events: what is written, and its channel, LEN and command. Their records are of each length that there is.
 const WRITES: [(&str, u8, u8, u8); 4] = [
-    ("a DAC written, record of 19 bytes", 0x15, 4, 0x10),
-    ("an I2C register, record of 82 bytes", 0x10, 4, 0x40),
-    ("a GPIO register, record of 179 bytes", 0x02, 4, 0x10),
-    ("an I2C register, record of 187 bytes", 0x08, 4, 0x40),
+    ("a DAC written, record of 17 bytes", 0x15, 4, 0x10),
+    ("an I2C register, record of 80 bytes", 0x10, 4, 0x40),
+    ("a GPIO register, record of 177 bytes", 0x02, 4, 0x10),
+    ("an I2C register, record of 185 bytes", 0x08, 4, 0x40),
 ];
 
 /// A journal that is full, and the state that went with it, in which frame 0 is due.

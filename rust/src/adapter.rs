@@ -153,7 +153,7 @@ impl Adapter {
     }
 
     /// An adapter that was kept as bytes, with a journal of either size; refused where the state is out of range or the
-    /// journal is wrong, as one that a version before 1.6.0 left. No event is played.
+    /// journal is wrong, as one whose version is not that of its length. No event is played.
     pub fn from_bytes(mut state: [u8; STATE_BYTES], journal: &[u8]) -> Result<Adapter, Refusal> {
         let mut journal = journal.to_vec();
         // Without output an event is refused, with 1 where it finds neither 6 nor 4.

@@ -27,10 +27,9 @@ pub enum Edge {
 /// A command of the link: [`crate::ControlRoom::command`] writes its body. Its number is the control's.
 #[derive(Clone, Copy, PartialEq, Eq, Debug)]
 pub enum LinkCommand {
-    /// Makes its port active, zeroes this port's numbers and ends loopback on both ports.
+    /// Makes its port active, zeroes the numbers of the link and ends loopback on both ports.
     Connect = 0x2F,
-    /// Makes its port active, zeroes the numbers of both ports, ends loopback on both, and sets all registers and the SEU
-    /// counter to power-on.
+    /// The same, and sets all registers and the SEU counter to power-on.
     Reset = 0x8F,
     /// Puts its port in loopback.
     Test = 0xE3,

@@ -15,9 +15,6 @@ const POLL: u32 = 0x10;
 /// stepped back or answers SREJ, send the lost body again, while the chip still expects its number, or connect anew; a record
 /// is kept through that, since the chip keeps an open GO or start. What the chip no longer answers stays open. Of a port in
 /// loopback nothing is to be handed to [`ControlRoom::reply`]: a request that comes back would be taken for its reply.
-///
-/// With masters on both ports, have one for each: the chip counts each port apart. RESET zeroes the numbers of the other port
-/// too, whose master has to connect anew.
 #[derive(Clone, PartialEq, Eq, Debug)]
 pub struct ControlRoom {
     record: [u8; RECORD_BYTES],

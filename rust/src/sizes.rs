@@ -1,8 +1,8 @@
 //! The version, the sizes of what calls take and the channels of the I2C masters, under the names of `include/sca.h`, there
 //! with `SCA_` in front.
 
-/// The version that this crate is made for, 1.6.0: major << 16 | minor << 8 | patch. [`crate::version`] gives the archive's.
-pub const VERSION: u64 = 0x01_0600;
+/// The version that this crate is made for, 1.5.0: major << 16 | minor << 8 | patch. [`crate::version`] gives the archive's.
+pub const VERSION: u64 = 0x01_0500;
 
 /// The bytes of the shortest body.
 pub const BODY_LEAST: usize = 2;
@@ -33,7 +33,7 @@ pub const ID_MOST: u32 = 0xFF_FFFF;
 /// The bytes of a receiver.
 pub const RECEIVER_BYTES: usize = 24;
 /// The bytes of an adapter's state.
-pub const STATE_BYTES: usize = 413;
+pub const STATE_BYTES: usize = 411;
 /// The bytes of a small journal.
 pub const JOURNAL_BYTES: usize = 17_408;
 /// The most events that it can take back.

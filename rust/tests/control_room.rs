@@ -536,7 +536,7 @@ impl Ends {
     }
 }
 
-/// The parallel lines and SPI, up to a GO that stays open while other things happen. A reply's control is twice the port's send
+/// The parallel lines and SPI, up to a GO that stays open while other things happen. A reply's control is twice the chip's send
 /// number, plus 32 times its receive number.
 #[test]
 fn a_conversation() {

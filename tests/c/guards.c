@@ -83,8 +83,7 @@ static void touched(int signal) {
 
 /* ----------------------------------------------------------------- journals */
 
-/* The two sizes of a journal; the length alone decides which it is. Each has a room of its own: what is lent of a small one stands between guards
- * too. */
+/* The two sizes of a journal. Each has a room of its own: what is lent of a small one stands between guards too. */
 static const struct format {
     size_t bytes;
     unsigned slots;
@@ -92,9 +91,6 @@ static const struct format {
 
 static const struct format *format;
 static struct lent small_room, large_room;
-
-/* The size that a length is, or NULL. */
-static const struct format *of_length(size_t length) { return length == small.bytes ? &small : length == large.bytes ? &large : NULL; }
 
 static void use(const struct format *of) {
     format = of;
@@ -133,15 +129,12 @@ static uint64_t call(enum call call) {
     }
 }
 
-/* A record stands at the front of its slot: its tag, the state's bytes 0 to 17, then those of its tag's group. docs/JOURNAL.md has them. */
-enum { CORE_BYTES = 18, SLOTS_AT = 1024, SLOT_BYTES = 256, MASTERS_AT = 77, MASTER_BYTES = 21 };
-
-/* Where a state has the receive number of port 0. */
-enum { RECEIVE_0 = 2 };
+/* A record stands at the front of its slot: its tag, the state's bytes 0 to 15, then those of its tag's group. docs/JOURNAL.md has them. */
+enum { CORE_BYTES = 16, SLOTS_AT = 1024, SLOT_BYTES = 256, MASTERS_AT = 75, MASTER_BYTES = 21 };
 
 /* Where the group of tag 1, 2 and 3 begins in a state: that of CRB, of CRC, of CRD. The last ends with it; tag 0 has none. */
-static const size_t groups[] = {22, 22, 182, 350, SCA_STATE_BYTES};
-enum { GROUPS_AT = 22, GROUP_MOST = 168 };
+static const size_t groups[] = {20, 20, 180, 348, SCA_STATE_BYTES};
+enum { GROUPS_AT = 20, GROUP_MOST = 168 };
 
 static size_t group_at(uint8_t tag) { return groups[tag]; }
 
@@ -242,20 +235,10 @@ static unsigned number_of(enum call which, int *good) {
 
 static uint8_t some_state[SCA_STATE_BYTES], some_journal[SCA_LARGE_JOURNAL_BYTES + 1];
 
-static void play(uint32_t on, const void *bytes, size_t length) {
-    uint8_t sent[SCA_OUTPUT_LEAST];
-    sca_frame(some_state, sizeof some_state, some_journal, format->bytes, on, bytes, length, sent, sizeof sent);
-}
-
 /* Plays requests on a new adapter: none, or enough to have something in the registers of every group, loopback, an open GO, and I2C starts open:
- * of a read of 16 bytes on channel 0x05, and one in each other group. Lines interrupt on rising. Port 0 is active; port 1 was before, and has the
- * numbers 2 and 3: of its three requests, one was a GO that was dropped. Then the event whose record has this tag: an upset, a pin sample, a write
- * of CRC, one of CRD. Unwritten slots hold what every group may hold, or what none may. */
+ * of a read of 16 bytes on channel 0x05, and one in each other group. Lines interrupt on rising. Then the event whose record has this tag: an
+ * upset, a pin sample, a write of CRC, one of CRD. Unwritten slots hold what every group may hold, or what none may. */
 static void reach(int deep, uint8_t tag) {
-    static const char *const requests_on_1[] = {
-        "\x00\x00\x01\x00\x04\x02\x00\x02\x00\x00", "\x00\x02\x02\x01\x02\x72\x00\x00\x00\x00",
-        "\x00\x04\x03\x00\x04\x02\x00\x00\x00\x00",
-    };
     static const char *const requests[] = {
         "\x00\x00\x01\x00\x04\x02\x00\xFF\x00\x00", "\x00\x02\x02\x00\x04\x06\x00\xFF\x00\x00",
         "\x00\x04\x03\x02\x04\x20\x55\x55\x00\x00", "\x00\x06\x04\x02\x04\x30\xFF\xFF\xFF\xFF",
@@ -271,20 +254,16 @@ static void reach(int deep, uint8_t tag) {
     sca_create(some_state, sizeof some_state, deep ? SCA_ID_MOST : 0x00000A);
     memset(some_journal, deep ? 0x00 : 0xEE, sizeof some_journal);
     sca_empty(some_journal, format->bytes);
-    if (deep) {
-        play(1, "\x00\x2F", 2);
-        for (size_t at = 0; at < sizeof requests_on_1 / sizeof requests_on_1[0]; at++) play(1, requests_on_1[at], 10);
-        play(0, "\x00\x2F", 2);
-        for (size_t at = 0; at < sizeof requests / sizeof requests[0]; at++) play(0, requests[at], 10);
-        play(1, "\x00\xE3", 2);
-    }
+    for (size_t at = 0; deep && at < sizeof requests / sizeof requests[0]; at++)
+        sca_frame(some_state, sizeof some_state, some_journal, format->bytes, 0, (const uint8_t *)requests[at], 10, sent, sizeof sent);
+    if (deep) sca_frame(some_state, sizeof some_state, some_journal, format->bytes, 1, (const uint8_t *)"\x00\xE3", 2, sent, sizeof sent);
     if (tag == 0) {
         sca_upset(some_state, sizeof some_state, some_journal, format->bytes, sent, sizeof sent);
     } else if (tag == 1) {
         sca_sample(some_state, sizeof some_state, some_journal, format->bytes, 0x12345678, SCA_SYSTEM_CLOCK, sent, sizeof sent);
     } else {
-        uint8_t written[] = {0x00, (uint8_t)(2 * some_state[RECEIVE_0]), 0x0A, 0x00, 0x04, (uint8_t)(2 * tag), 0x00, 0x19, 0x00, 0x00};
-        play(0, written, sizeof written);
+        uint8_t written[] = {0x00, (uint8_t)(2 * some_state[1]), 0x0A, 0x00, 0x04, (uint8_t)(2 * tag), 0x00, 0x19, 0x00, 0x00};
+        sca_frame(some_state, sizeof some_state, some_journal, format->bytes, 0, written, sizeof written, sent, sizeof sent);
     }
 }
 
@@ -318,7 +297,7 @@ static int master_in_range(const uint8_t *master, int enabled) {
 }
 
 static int masters_in_range(const uint8_t *bytes) {
-    unsigned enabled = (unsigned)bytes[7] >> 3 | (unsigned)bytes[8] << 5 | (bytes[9] & 7u) << 13;
+    unsigned enabled = (unsigned)bytes[5] >> 3 | (unsigned)bytes[6] << 5 | (bytes[7] & 7u) << 13;
     for (unsigned n = 0; n < 16; n++)
         if (!master_in_range(bytes + MASTERS_AT + MASTER_BYTES * n, enabled >> n & 1)) return 0;
     return 1;
@@ -326,11 +305,9 @@ static int masters_in_range(const uint8_t *bytes) {
 
 /* Number 6, on the bytes as sca.h lists them. */
 static int in_range(const uint8_t *bytes) {
-    int spi = bytes[7] & 0x02, gpio = bytes[7] & 0x04, link = bytes[0] <= 1;
-    for (size_t port_at = 1; port_at <= 4; port_at += 3) /* send number, receive number and loopback of a port */
-        link &= bytes[port_at] <= 7 && bytes[port_at + 1] <= 7 && bytes[port_at + 2] <= 1;
-    return link && !(bytes[7] & 0x01) && !(bytes[9] & 0xE0) && bytes[21] == 0 && bytes[76] <= 1 && (spi || all_zero(bytes, 22, 43)) &&
-           (gpio || all_zero(bytes, 44, 76)) && masters_in_range(bytes);
+    int spi = bytes[5] & 0x02, gpio = bytes[5] & 0x04;
+    return bytes[0] <= 7 && bytes[1] <= 7 && bytes[2] <= 1 && bytes[3] <= 1 && bytes[4] <= 1 && !(bytes[5] & 0x01) && !(bytes[7] & 0xE0) &&
+           bytes[19] == 0 && bytes[74] <= 1 && (spi || all_zero(bytes, 20, 41)) && (gpio || all_zero(bytes, 42, 74)) && masters_in_range(bytes);
 }
 
 /* What a step back by a slot's record makes of a state; it stays where the record is damaged. */
@@ -373,71 +350,44 @@ static void lengths_of_outputs(void) {
     check(good, "a batch's outputs of 2,535 to 2,561 bytes");
 }
 
-/* Upsets that fill the journal, and then some: it has gone round, and the first slot is no longer 0. */
-static void go_round(void) {
-    uint8_t sent[SCA_OUTPUT_LEAST];
-    for (unsigned n = 0; n < format->slots + 7; n++) sca_upset(some_state, sizeof some_state, some_journal, format->bytes, sent, sizeof sent);
-}
-
-/* Whether a step back on what is lent finds a record that restores a state. */
-static int newest_restores(void) {
-    uint8_t bytes[SCA_STATE_BYTES];
-    memcpy(bytes, state.at, sizeof bytes);
-    return restored(slot_of(journal.at, journal.at[6] - 1u), bytes);
-}
-
-/* Lengths around both sizes, of a journal of this size: what is longer has other bytes behind it, what is shorter is cut. The length alone says
- * which size it is; its slots are then those of that size. Of a journal that is full, a large one, cut, has more kept than a small one may have, and
- * in a small one, padded, the newest record is looked for in the padding. */
+/* Lengths around both sizes, of a journal of this size: what is longer has other bytes behind it, what is shorter is
+ * cut. */
 static void lengths_of_journals(void) {
-    static const size_t lengths[] = {0, 7, 1024, 17407, 17408, 17409, 52223, 52224, 52225};
-    const struct format *made = format;
-    int others = 1;
+    static const size_t lengths[] = {0, 17407, 17408, 17409, 52223, 52224, 52225};
+    int good = 1, others = 1;
     journal = large_room;
-    for (int full = 0; full <= 1; full++) {
-        int good = 1;
-        format = made;
-        if (full) go_round();
-        for (size_t at = 0; at < sizeof lengths / sizeof lengths[0]; at++) {
-            const size_t length = lengths[at];
-            const struct format *as = of_length(length);
-            const int right = as != NULL && some_journal[5] < as->slots && some_journal[6] <= as->slots;
-            const uint64_t kept = SCA_NO_FRAME | (uint64_t)some_journal[6] << 8;
-            good &= right == (as == made || (as != NULL && !(full && made == &large)));
-            EACH_CALL(STEP_BACK) {
-                int due = right;
-                format = made;
-                lend_all(which);
-                memcpy(lend(&journal, length), some_journal, length);
-                if (as != NULL) format = as;
-                if (right && which == STEP_BACK) due = newest_restores();
-                unsigned number = number_of(which, &good);
-                good &= (number == SCA_BAD_JOURNAL) == !due;
-                good &= as == made || !full || which != STEP_BACK || number == SCA_BAD_JOURNAL;
-            }
-            for (at_end = 0; at_end <= 1; at_end++) {
-                memcpy(lend(&journal, length), some_journal, length);
-                note(&journal);
-                writable(&journal, 0);
-                others &= sca_kept(journal.at, length) == (right ? kept : SCA_BAD_JOURNAL);
-                writable(&journal, 1);
-                others &= unchanged(&journal);
-                lend(&journal, length);
-                note(&journal);
-                others &= sca_empty(journal.at, length) == (as != NULL ? SCA_NO_FRAME : SCA_BAD_JOURNAL);
-                others &= unchanged_after(&journal, as != NULL ? 7 : 0);
-                others &= as == NULL || memcmp(journal.at, "SCJ\x03\x00\x00\x00", 7) == 0;
-                note(&journal);
-                writable(&journal, 0);
-                others &= sca_kept(journal.at, length) == (as != NULL ? SCA_NO_FRAME : SCA_BAD_JOURNAL);
-                writable(&journal, 1);
-                others &= unchanged(&journal);
-            }
+    for (size_t at = 0; at < sizeof lengths / sizeof lengths[0]; at++) {
+        size_t length = lengths[at];
+        int right = length == format->bytes, either = length == small.bytes || length == large.bytes;
+        const char *header = length == small.bytes ? "SCJ\x01\x00\x00\x00" : "SCJ\x02\x00\x00\x00";
+        uint64_t kept = SCA_NO_FRAME | (uint64_t)some_journal[6] << 8;
+        EACH_CALL(STEP_BACK) {
+            lend_all(which);
+            memcpy(lend(&journal, length), some_journal, length);
+            unsigned number = number_of(which, &good);
+            good &= (number == SCA_BAD_JOURNAL) == !right;
         }
-        check(good, full ? "and of a full one, cut and padded" : "journals of 0 to 1,024, 17,407 to 17,409 and 52,223 to 52,225 bytes");
+        for (at_end = 0; at_end <= 1; at_end++) {
+            memcpy(lend(&journal, length), some_journal, length);
+            note(&journal);
+            writable(&journal, 0);
+            others &= sca_kept(journal.at, length) == (right ? kept : SCA_BAD_JOURNAL);
+            writable(&journal, 1);
+            others &= unchanged(&journal);
+            lend(&journal, length);
+            note(&journal);
+            others &= sca_empty(journal.at, length) == (either ? SCA_NO_FRAME : SCA_BAD_JOURNAL);
+            others &= unchanged_after(&journal, either ? 7 : 0);
+            others &= !either || memcmp(journal.at, header, 7) == 0;
+            note(&journal);
+            writable(&journal, 0);
+            others &= sca_kept(journal.at, length) == (either ? SCA_NO_FRAME : SCA_BAD_JOURNAL);
+            writable(&journal, 1);
+            others &= unchanged(&journal);
+        }
     }
+    check(good, "journals of 0, 17,407 to 17,409 and 52,223 to 52,225 bytes");
     check(others, "and in sca_empty and sca_kept");
-    format = made;
 }
 
 /* Whether a header with this byte in this place is refused. */
@@ -596,8 +546,8 @@ static void records_apart(void) {
         sca_create(state.at, state.length, 0x123456);
         number = number_of(STEP_BACK, &good);
         memcpy(expected, deep, sizeof expected);
-        memset(expected + 10, 0, 4); /* the SEU counter before its upset */
-        memcpy(expected + 18, "\x56\x34\x12\x00", 4);
+        memset(expected + 8, 0, 4); /* the SEU counter before its upset */
+        memcpy(expected + 16, "\x56\x34\x12\x00", 4);
         memset(expected + GROUPS_AT, 0, SCA_STATE_BYTES - GROUPS_AT);
         good &= number == SCA_NO_FRAME && memcmp(state.at, expected, sizeof expected) == 0;
     }
@@ -615,10 +565,10 @@ static void records_of_frames(void) {
         for (unsigned at = 0; at < (to ? sizeof commands : 0x100); at++) {
             lend_all(FRAME);
             lend_bytes(&body, "\x00\x00\x0A\x00\x04\x00\x00\xFE\x00\x00", 10);
-            body.at[1] = (uint8_t)(2 * some_state[RECEIVE_0]); /* in sequence, so that the request is heard */
+            body.at[1] = (uint8_t)(2 * some_state[1]); /* in sequence, so that the request is heard */
             body.at[3] = (uint8_t)to, body.at[5] = to ? commands[at] : (uint8_t)at;
             unsigned number = number_of(FRAME, &good);
-            good &= !sca_refused(number) && state.at[RECEIVE_0] == (some_state[RECEIVE_0] + 1) % 8;
+            good &= !sca_refused(number) && state.at[1] == (some_state[1] + 1) % 8;
         }
     check(good, "the records of requests to every channel");
     good = 1;
@@ -638,8 +588,7 @@ static void records_of_frames(void) {
 }
 
 static void lengths_of_states(void) {
-    /* 74 to 76 before there were masters, 411 before each port had numbers of its own */
-    static const size_t lengths[] = {0, 74, 75, 76, 411, SCA_STATE_BYTES - 1, SCA_STATE_BYTES, SCA_STATE_BYTES + 1};
+    static const size_t lengths[] = {0, MASTERS_AT, SCA_STATE_BYTES - 1, SCA_STATE_BYTES, SCA_STATE_BYTES + 1};
     int good = 1;
     for (size_t at = 0; at < sizeof lengths / sizeof lengths[0]; at++) {
         size_t length = lengths[at];
@@ -658,7 +607,7 @@ static void lengths_of_states(void) {
                 good &= unchanged_after(&state, number == SCA_NO_FRAME ? length : 0);
             }
     }
-    check(good, "states one byte short and long, of none, and as they were before 1.6.0");
+    check(good, "states one byte short and long, of none, and as before there were masters");
 }
 
 static void arguments(void) {
@@ -740,8 +689,8 @@ static void order(void) {
         for (unsigned wrong = 1; wrong < 32; wrong++) {
             unsigned first = wrong & 1 ? 6 : wrong & 2 ? 4 : wrong & 4 ? 1 : wrong & 8 ? 3 : 2;
             lend_all(FRAME);
-            if (wrong & 1) state.at[at_end ? 5 : 2] = 8;
-            if (wrong & 2) journal.at[3] = at_end ? 1 : 2; /* a version of before */
+            if (wrong & 1) state.at[1] = 8;
+            if (wrong & 2) journal.at[0] = 0;
             if (wrong & 4) lend(&output, SCA_OUTPUT_LEAST - 1);
             if (wrong & 8) port = at_end ? 256 : 2;
             if (wrong & 16) lend(&body, SCA_BODY_MOST + 1);
@@ -822,7 +771,7 @@ static void batch_order(void) {
             size_t all = wrong & 16 ? SCA_SAMPLES_MOST + 1 : SCA_SAMPLES_MOST;
             lend_all(SAMPLES);
             lend_swinging(all, all)[all - 1].kind = !(wrong & 8) ? SCA_SYSTEM_CLOCK : at_end ? 256 : 3;
-            if (wrong & 1) state.at[at_end ? 4 : 1] = 8;
+            if (wrong & 1) state.at[1] = 8;
             if (wrong & 2) journal.at[0] = 0;
             if (wrong & 4) lend(&output, SCA_BATCH_LEAST - 1);
             number = number_of(SAMPLES, &good);
@@ -865,7 +814,7 @@ static void no_buffers(void) {
  * of its room is as it was. */
 static int second_as_left(void) {
     uint8_t *due = second.was + (second.at - second.room);
-    memcpy(due, "\x53\x43\x4A\x03\x00\x00", 6);
+    memcpy(due, "\x53\x43\x4A\x02\x00\x00", 6);
     due[6] = journal.at[6];
     for (unsigned k = 0; k < journal.at[6]; k++)
         memcpy(due + SLOTS_AT + SLOT_BYTES * k, slot_of(journal.at, k), SLOT_BYTES);
@@ -896,30 +845,26 @@ static void lend_journals(int journal_end, size_t length, int second_end, size_t
     lend(&second, second_length);
 }
 
-/* Lengths around both sizes for either buffer, with a journal of each size cut or with more behind it. Whatever has 17,408 bytes and the header of a
- * small journal is one; a large one that is full, cut, has not. */
+/* Lengths around both sizes for either buffer, with a journal of each size cut or with more behind it. */
 static void lengths_at_enlarging(void) {
     static const size_t lengths[] = {0, 1, 7, 1024, 17407, 17408, 17409, 52223, 52224, 52225};
-    static const char *const texts[] = {"both buffers of 0 to 52,225 bytes", "with a journal that has gone round",
-                                        "a large journal, cut and padded, into each", "and a full large one"};
     enum { LENGTHS = sizeof lengths / sizeof lengths[0] };
-    for (unsigned row = 0; row < 4; row++) {
+    for (unsigned of_large = 0; of_large <= 1; of_large++) {
         int good = 1;
-        use(row >= 2 ? &large : &small);
+        use(of_large ? &large : &small);
         reach(1, 0);
-        if (row % 2) go_round();
-        journal = large_room, format = &small;
+        journal = large_room;
         EACH_END
         for (size_t at = 0; at < LENGTHS; at++)
             for (size_t second_at = 0; second_at < LENGTHS; second_at++) {
                 size_t length = lengths[at], second_length = lengths[second_at];
                 unsigned number, due = second_length == 52224 ? SCA_NO_FRAME : SCA_SHORT_OUTPUT;
-                if (row == 3 || length != 17408) due = SCA_BAD_JOURNAL;
+                if (of_large || length != 17408) due = SCA_BAD_JOURNAL;
                 lend_journals(journal_end, length, second_end, second_length);
                 number = enlarging(&good);
                 good &= number == due;
             }
-        check(good, texts[row]);
+        check(good, of_large ? "a large journal, cut and padded, into each" : "both buffers of 0 to 52,225 bytes");
     }
 }
 

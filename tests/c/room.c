@@ -1,5 +1,5 @@
 /* The control room as a C program sees it. Bodies, answers and records are worked out by hand, from document 01, the
- * requests 2026-01, 2026-05 and 2026-07 and docs/RECORD.md; the chip's, in the conversations at the end, too. */
+ * requests 2026-01 and 2026-05 and docs/RECORD.md; the chip's, in the conversation at the end, too. */
 #include <stdint.h>
 #include <string.h>
 
@@ -654,12 +654,10 @@ static void texts(void) {
 static uint8_t state[SCA_STATE_BYTES], journal[SCA_JOURNAL_BYTES], sent[SCA_OUTPUT_LEAST];
 
 /* The chip hears what the room wrote last: a command of the link, whose control has bit 0 set, or a request. */
-static uint64_t hear_on(uint32_t port) {
+static uint64_t hear(void) {
     size_t length = output[1] & 1 ? 2 : 10;
-    return sca_frame(state, sizeof state, journal, sizeof journal, port, output, length, sent, sizeof sent);
+    return sca_frame(state, sizeof state, journal, sizeof journal, SCA_PRIMARY, output, length, sent, sizeof sent);
 }
-
-static uint64_t hear(void) { return hear_on(SCA_PRIMARY); }
 
 /* Whether the chip sent this body and no other. */
 static int sends(uint64_t event, const char *body) {
@@ -762,70 +760,6 @@ static void conversation(void) {
     check(good, "after a RESET a new record goes with the chip");
 }
 
-/* ---- two control rooms, each with a record and a port of its own */
-
-static uint8_t other_record[SCA_RECORD_BYTES];
-
-/* The other room's turn. */
-static void change_rooms(void) {
-    uint8_t of_this[SCA_RECORD_BYTES];
-    memcpy(of_this, record, sizeof record);
-    memcpy(record, other_record, sizeof record), memcpy(other_record, of_this, sizeof record);
-}
-
-/* The chip's link: the active port, then send number, receive number and loopback of port 0 and of port 1. */
-static int link_is(const char *bytes) {
-    uint8_t due[7];
-    return spelled(bytes, due) == 7 && memcmp(state, due, 7) == 0;
-}
-
-/* The receive number of a port is the frame number of the room there, until a request is not heard. */
-static void two_rooms(void) {
-    static const uint8_t received[SCA_TRANSFER_BYTES] = {0x78, 0x56, 0x34, 0x12};
-    uint64_t event;
-    int good;
-    sca_create(state, sizeof state, 0x00000A);
-    sca_empty(journal, sizeof journal);
-    begin();
-    memcpy(other_record, record, sizeof record);
-
-    /* the first, on port 0: DAC A, CRB with SPI, and a GO that stays open */
-    good = wrote(request(0x15, 0x10, 0x00000077), "0000 01 15 04 10 00007700");
-    good &= answers(hear(), "0020 01 15 00 01 00000000", "01 15 10 00 01 00000000", "0100") && link_is("00 010100 000000");
-    good &= wrote(request(0x00, 0x02, 0x02000000), "0002 01 00 04 02 00020000");
-    good &= answers(hear(), "0042 01 00 00 02 00000000", "01 00 02 00 02 00000000", "0200") && link_is("00 020200 000000");
-    good &= wrote(request(0x01, 0x72, 0), "0004 01 01 02 72 00000000") && hear() == SCA_NO_FRAME;
-    check(good && record_is("0300 0172") && link_is("00 020300 000000"), "a control room on port 0 counts there");
-
-    /* the second, on port 1, from 0 on */
-    change_rooms();
-    good = wrote(command(SCA_CONNECT), "002f") && sends(hear_on(SCA_AUXILIARY), "0063") && link_is("01 020300 000000");
-    good &= wrote(request(0x15, 0x11, 0), "0000 01 15 01 11 00000000");
-    event = hear_on(SCA_AUXILIARY);
-    good &= sca_port(event) == SCA_AUXILIARY;
-    good &= answers(event, "0020 01 15 00 04 00007700", "01 15 11 00 04 77000000", "0100") && link_is("01 020300 010100");
-    check(good && other_record[0] == state[2], "one on port 1 counts there, and the first one's number is still that of port 0");
-
-    /* the GO's reply leaves on port 1, with its pair: 2 * 1 + 32 * 1. It is the first one's. */
-    event = sca_completion(state, sizeof state, journal, sizeof journal, received, sizeof received, sent, sizeof sent);
-    good = sends(event, "0022 01 01 00 06 34127856") && sca_port(event) == SCA_AUXILIARY && link_is("01 020300 020100");
-    good &= refused(reply_of(sent, 10), SCA_NO_MATCH);
-    change_rooms();
-    good &= wrote(reply_of(sent, 10), "01 01 72 00 06 78563412") && record_is("0300");
-    check(good, "a late reply counts on the port that is active; the room that asked reads it, the other does not");
-
-    /* the first one is not heard now, and connects anew */
-    good = wrote(request(0x15, 0x11, 0), "0006 01 15 01 11 00000000") && hear() == SCA_OTHER_PORT && link_is("01 020300 020100");
-    good &= wrote(command(SCA_CONNECT), "002f") && sends(hear(), "0063") && link_is("00 000000 020100");
-    good &= wrote(request(0x15, 0x11, 0), "0000 02 15 01 11 00000000");
-    good &= answers(hear(), "0020 02 15 00 04 00007700", "02 15 11 00 04 77000000", "0100 1511") && link_is("00 010100 020100");
-    check(good && other_record[0] == state[5], "CONNECT sets its own numbers anew, and the second one's is still that of port 1");
-
-    /* RESET takes both */
-    good = wrote(command(SCA_RESET), "008f") && sends(hear(), "0063") && link_is("00 000000 000000");
-    check(good && record_is("0000 1511"), "RESET zeroes those of both ports");
-}
-
 int main(void) {
     read_tables();
     sizes();
@@ -849,6 +783,5 @@ int main(void) {
     results();
     texts();
     conversation();
-    two_rooms();
     return failures != 0;
 }

@@ -306,10 +306,10 @@ static void back_over_completion(void) {
     CALL(sca_step_back, ADAPTER);
 }
 
-/* The newest record's third byte, the send number of port 0, is out of range. */
+/* The newest record's second byte, the send number, is out of range. */
 static void back_damaged(void) {
     back();
-    journal[1024 + 256 * ((journal[5] + journal[6] - 1u) % most_kept()) + 2] = 0xFF;
+    journal[1024 + 256 * ((journal[5] + journal[6] - 1u) % most_kept()) + 1] = 0xFF;
 }
 
 static void receiver_new(void) { CALL(sca_receiver_new, LENT(receiver)); }

@@ -3,7 +3,6 @@
 use crate::calls::Call;
 use crate::harness::report::{all, list, say};
 use crate::journals::Found;
-use crate::ports::Asked;
 use crate::ring::{LARGE, SMALL};
 use crate::seen::each;
 use crate::tally::is_reset;
@@ -51,7 +50,6 @@ pub struct Seen<'a> {
     pub taken: &'a [Taken],
     pub answer: &'a RawBatch,
     pub after: State,
-    pub asked: Asked,
 }
 
 impl Seen<'_> {
@@ -73,7 +71,7 @@ impl Seen<'_> {
 
 #[derive(Default)]
 pub struct Batches {
-    pub numbers: Vec<u64>,
+    numbers: Vec<u64>,
     samples: u64,
     /// Those that were done, by their size; those of them that sent something, and nothing.
     done: Vec<u64>,

@@ -40,8 +40,7 @@ pub enum Call {
         room: usize,
     },
     /// A numbered frame whose port and number depend on the state that it finds, so that it is still in sequence where
-    /// calls before it are left out. `skew` is added to the number that is due on its port, `high` are bits 7 to 4 of
-    /// control.
+    /// calls before it are left out. `skew` is added to the number that is due, `high` are bits 7 to 4 of control.
     Request {
         way: Way,
         skew: u8,
@@ -93,12 +92,6 @@ pub enum Call {
         bit: usize,
         call: Box<Call>,
     },
-    /// The call on a copy of the state with one byte altered.
-    AlteredState {
-        at: usize,
-        byte: u8,
-        call: Box<Call>,
-    },
     /// The call on a copy of the state, cut or lengthened.
     StateOfLength {
         length: usize,
@@ -144,7 +137,6 @@ impl Call {
         match self {
             Call::FlippedState { call, .. } => Some(call),
             Call::StateOfLength { call, .. } => Some(call),
-            Call::AlteredState { call, .. } => Some(call),
             Call::OtherState { call, .. } => Some(call),
             Call::AlteredJournal { call, .. } => Some(call),
             Call::AlteredRecord { call, .. } => Some(call),
@@ -160,7 +152,6 @@ impl Call {
         match &mut changed {
             Call::FlippedState { call, .. } => **call = other,
             Call::StateOfLength { call, .. } => **call = other,
-            Call::AlteredState { call, .. } => **call = other,
             Call::OtherState { call, .. } => **call = other,
             Call::AlteredJournal { call, .. } => **call = other,
             Call::AlteredRecord { call, .. } => **call = other,
@@ -182,13 +173,11 @@ impl Call {
                 information,
                 room,
             } => {
-                let port = state.active ^ u8::from(*way == Way::Other);
-                // a damaged state may have any active port
-                let due = state.receive[usize::from(port & 1)];
-                let mut body = vec![0x00, high << 4 | due.wrapping_add(*skew) % 8 << 1];
+                let number = state.receive.wrapping_add(*skew) % 8;
+                let mut body = vec![0x00, high << 4 | number << 1];
                 body.extend_from_slice(information);
                 Call::Frame {
-                    port: u32::from(port),
+                    port: u32::from(state.active) ^ u32::from(*way == Way::Other),
                     body,
                     room: *room,
                 }
@@ -290,7 +279,6 @@ impl fmt::Display for Call {
             Call::StepBack => write!(out, "B"),
             Call::Adopt { state } => write!(out, "adopt {}", Hex(state)),
             Call::FlippedState { bit, call } => write!(out, "flip {} {}", bit, call),
-            Call::AlteredState { at, byte, call } => write!(out, "put {} {} {}", at, byte, call),
             Call::StateOfLength { length, call } => write!(out, "state {} {}", length, call),
             Call::OtherState { state, call } => write!(out, "other {} {}", Hex(state), call),
             Call::AlteredJournal { at, byte, call } => write!(out, "alter {} {} {}", at, byte, call),
@@ -375,11 +363,6 @@ fn call_of(words: &[&str]) -> Option<Call> {
         ["flip", bit, ..] => Some(Call::FlippedState {
             bit: number(bit)?,
             call: inner(&words[2..])?,
-        }),
-        ["put", at, byte, ..] => Some(Call::AlteredState {
-            at: number(at)?,
-            byte: byte.parse().ok()?,
-            call: inner(&words[3..])?,
         }),
         ["state", length, ..] => Some(Call::StateOfLength {
             length: number(length)?,

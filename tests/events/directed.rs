@@ -1,12 +1,9 @@
-//! Runs that are the same every time, around the ends of both sizes of a journal and of enlarging, journals' versions and
-//! the ports' numbers. What must come of them is counted here too, so that both sides cannot be wrong in the same way.
-
-mod ports;
-mod versions;
+//! Runs that are the same every time, around the ends of both sizes of a journal and of enlarging. What must come of
+//! them is counted here too, so that both sides cannot be wrong in the same way.
 
 use crate::calls::{Call, Way};
 use crate::journals::{refusals, Kind};
-use crate::ring::{front, CURRENT, LARGE, SMALL};
+use crate::ring::{front, LARGE, SMALL};
 use crate::streams::information;
 use crate::tally::Tally;
 use sca::boundary::RawSample;
@@ -27,13 +24,6 @@ pub struct Directed {
 }
 
 pub fn directed() -> Vec<Directed> {
-    let mut all = around_the_ends();
-    all.extend(versions::directed());
-    all.extend(ports::directed());
-    all
-}
-
-fn around_the_ends() -> Vec<Directed> {
     vec![
         Directed {
             name: "enlarged at each kept number and first slot, and all of it taken back",
@@ -250,30 +240,26 @@ fn wrong_journals() -> Vec<Call> {
 
 /// Fronts of a journal of this length, each with one byte wrong: of the mark, of the version, the first slot or the
 /// kept number.
-fn wrong_fronts(length: usize) -> [[u8; 7]; 15] {
-    let most = match length {
-        JOURNAL_BYTES => SMALL as u8,
-        _ => LARGE as u8,
+fn wrong_fronts(length: usize) -> [[u8; 7]; 11] {
+    let (version, most) = match length {
+        JOURNAL_BYTES => (1, SMALL as u8),
+        _ => (2, LARGE as u8),
     };
     let wrong = [
         (0, 0x52),
         (1, 0x63),
         (2, 0x00),
+        (3, 3 - version),
         (3, 0),
-        (3, 1),
-        (3, 2),
-        (3, 4),
-        (3, 255),
+        (3, 3),
         (4, 1),
-        (4, 3),
-        (4, 255),
         (5, most),
         (5, 255),
         (6, most + 1),
         (6, 255),
     ];
     wrong.map(|(at, byte)| {
-        let mut front = front(CURRENT, 3, 5);
+        let mut front = front(version, 3, 5);
         front[at] = byte;
         front
     })

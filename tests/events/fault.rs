@@ -1,7 +1,6 @@
 //! Changes to our side, by which the comparison shows that it can fail.
 
 use crate::record::{CRB, CRC, CRD};
-use crate::ring::{Wrong, LARGE, SMALL};
 
 #[derive(Clone, Copy, PartialEq, Eq, Debug)]
 pub enum Fault {
@@ -25,75 +24,13 @@ pub enum Fault {
     RefusedOutput,
     KeptNumber,
     Created,
-    /// In a large journal.
+    /// In a large journal: 64 kept, and version 1 after an emptying.
     KeepsSixtyFour,
-    /// With a journal's version.
-    Version(VersionFault),
-    /// With the numbers of the ports.
-    Ports(PortFault),
+    EmptiedAsSmall,
     /// In a batch of pin samples.
     Batch(BatchFault),
     /// In an enlarging.
     Enlarge(EnlargeFault),
-}
-
-/// What could go wrong with a journal's version.
-#[derive(Clone, Copy, PartialEq, Eq, Debug)]
-pub enum VersionFault {
-    /// A journal taken, by which call, that has this wrong in it.
-    Taken(By, Wrong),
-    /// Written by an emptying, or by a RESET, into a journal of this size.
-    Emptied(u16, usize),
-    Reset(u16, usize),
-}
-
-/// Calls that a journal is handed to.
-#[derive(Clone, Copy, PartialEq, Eq, Debug)]
-pub enum By {
-    Event,
-    Batch,
-    StepBack,
-    Counting,
-    Enlarging,
-}
-
-/// What could go wrong with the two ports' numbers.
-#[derive(Clone, Copy, PartialEq, Eq, Debug)]
-pub enum PortFault {
-    ConnectBoth,
-    ConnectOther,
-    ConnectNone,
-    ConnectSendAlone,
-    ConnectReceiveAlone,
-    ConnectLoopback,
-    ConnectUnkept,
-    ResetOwnAlone,
-    ResetOtherAlone,
-    TestZeroes,
-    ReplySend,
-    ReplyReceive,
-    SendOther,
-    ReceiveOther,
-    SendBoth,
-    ReceiveBoth,
-    StartOther,
-    Judged,
-    Rejected,
-    InactiveCounts,
-    LoopCounts,
-    EndAsked,
-    StartAsked,
-    InterruptAsked,
-    LeavesAsked,
-    BackInactive,
-    BackZeroed,
-    BackSwapped,
-    BackActiveAlone,
-    BackRecordOver,
-    RecordInactive,
-    /// One of the four numbers over 7 taken.
-    Over(usize),
-    ActiveAlone,
 }
 
 /// What a batch could do wrong.
@@ -111,8 +48,6 @@ pub enum BatchFault {
     SamplePlace,
     OutputBehind,
     OutsideOutput,
-    OtherPair,
-    ActiveAlone,
     State,
     Record,
     OneRecord,
@@ -134,7 +69,7 @@ pub enum EnlargeFault {
     SlotOfFirstChanged,
     KeptTooHigh,
     KeptTooLow,
-    Version(u16),
+    Version,
     FirstKept,
     OldestForgotten,
     NewestForgotten,
@@ -150,7 +85,7 @@ pub enum EnlargeFault {
     RefusedFirst,
 }
 
-const FAULTS: [(Fault, &str); 22] = [
+const FAULTS: [(Fault, &str); 23] = [
     (Fault::Number, "an event's number changed"),
     (Fault::Port, "a frame's port changed"),
     (Fault::Length, "a frame's length changed"),
@@ -173,158 +108,10 @@ const FAULTS: [(Fault, &str); 22] = [
     (Fault::KeptNumber, "the kept number changed"),
     (Fault::Created, "a bit of a new state changed"),
     (Fault::KeepsSixtyFour, "64 kept in a large journal"),
+    (Fault::EmptiedAsSmall, "version 1 in a large journal made empty"),
 ];
 
-const VERSION_FAULTS: [(VersionFault, &str); 20] = [
-    (
-        VersionFault::Taken(By::Event, Wrong::Version1),
-        "a journal of version 1 taken by an event",
-    ),
-    (
-        VersionFault::Taken(By::Event, Wrong::Version2),
-        "a journal of version 2 taken by an event",
-    ),
-    (
-        VersionFault::Taken(By::Event, Wrong::HighVersion),
-        "a journal taken by an event for its version's low byte",
-    ),
-    (
-        VersionFault::Taken(By::Event, Wrong::Version),
-        "a journal of any version taken by an event",
-    ),
-    (
-        VersionFault::Taken(By::Batch, Wrong::Version1),
-        "a journal of version 1 taken by a batch",
-    ),
-    (
-        VersionFault::Taken(By::Batch, Wrong::Version2),
-        "a journal of version 2 taken by a batch",
-    ),
-    (
-        VersionFault::Taken(By::StepBack, Wrong::Version1),
-        "a journal of version 1 taken by a step back",
-    ),
-    (
-        VersionFault::Taken(By::StepBack, Wrong::Version2),
-        "a journal of version 2 taken by a step back",
-    ),
-    (
-        VersionFault::Taken(By::Counting, Wrong::Version1),
-        "a journal of version 1 counted",
-    ),
-    (
-        VersionFault::Taken(By::Counting, Wrong::Version2),
-        "a journal of version 2 counted",
-    ),
-    (
-        VersionFault::Taken(By::Enlarging, Wrong::Version1),
-        "a journal of version 1 enlarged",
-    ),
-    (
-        VersionFault::Taken(By::Enlarging, Wrong::Version2),
-        "a journal of version 2 enlarged",
-    ),
-    (
-        VersionFault::Emptied(1, SMALL),
-        "version 1 in a small journal made empty",
-    ),
-    (
-        VersionFault::Emptied(1, LARGE),
-        "version 1 in a large journal made empty",
-    ),
-    (
-        VersionFault::Emptied(2, SMALL),
-        "version 2 in a small journal made empty",
-    ),
-    (
-        VersionFault::Emptied(2, LARGE),
-        "version 2 in a large journal made empty",
-    ),
-    (VersionFault::Reset(1, SMALL), "version 1 in a small journal by a RESET"),
-    (VersionFault::Reset(1, LARGE), "version 1 in a large journal by a RESET"),
-    (VersionFault::Reset(2, SMALL), "version 2 in a small journal by a RESET"),
-    (VersionFault::Reset(2, LARGE), "version 2 in a large journal by a RESET"),
-];
-
-const PORT_FAULTS: [(PortFault, &str); 36] = [
-    (PortFault::ConnectBoth, "a CONNECT that zeroes both pairs"),
-    (PortFault::ConnectOther, "a CONNECT that zeroes the other's pair"),
-    (PortFault::ConnectNone, "a CONNECT that zeroes no pair"),
-    (
-        PortFault::ConnectSendAlone,
-        "a CONNECT that zeroes its send number alone",
-    ),
-    (
-        PortFault::ConnectReceiveAlone,
-        "a CONNECT that zeroes its receive number alone",
-    ),
-    (
-        PortFault::ConnectLoopback,
-        "a CONNECT that leaves the other port in loopback",
-    ),
-    (
-        PortFault::ConnectUnkept,
-        "a CONNECT whose record has its pair zeroed already",
-    ),
-    (PortFault::ResetOwnAlone, "a RESET that zeroes its own pair alone"),
-    (PortFault::ResetOtherAlone, "a RESET that zeroes the other's pair alone"),
-    (PortFault::TestZeroes, "a TEST that zeroes its pair"),
-    (PortFault::ReplySend, "a reply with the other port's send number"),
-    (PortFault::ReplyReceive, "a reply with the other port's receive number"),
-    (PortFault::SendOther, "a reply counted on the other port"),
-    (PortFault::ReceiveOther, "a request counted on the other port"),
-    (PortFault::SendBoth, "a reply counted on both ports"),
-    (PortFault::ReceiveBoth, "a request counted on both ports"),
-    (PortFault::StartOther, "a start counted on the other port"),
-    (PortFault::Judged, "a request taken in the other port's number"),
-    (PortFault::Rejected, "SREJ with the other port's number"),
-    (
-        PortFault::InactiveCounts,
-        "a frame counted on the port that is not active",
-    ),
-    (PortFault::LoopCounts, "a frame counted that is looped back"),
-    (PortFault::EndAsked, "a GO's end counted on the port that asked for it"),
-    (
-        PortFault::StartAsked,
-        "an I2C start's end counted on the port that asked for it",
-    ),
-    (
-        PortFault::InterruptAsked,
-        "an interrupt counted on the port that the request came from",
-    ),
-    (
-        PortFault::LeavesAsked,
-        "a late end that leaves on the port that asked for it",
-    ),
-    (
-        PortFault::BackInactive,
-        "a step back that loses the pair that is not active",
-    ),
-    (
-        PortFault::BackZeroed,
-        "a step back that does not give back what a CONNECT zeroed",
-    ),
-    (
-        PortFault::BackSwapped,
-        "a step back with the pairs in each other's place",
-    ),
-    (
-        PortFault::BackActiveAlone,
-        "a step back that looks at the active port's numbers alone",
-    ),
-    (PortFault::BackRecordOver, "a record with a number over 7 taken back"),
-    (
-        PortFault::RecordInactive,
-        "a record without the pair that is not active",
-    ),
-    (PortFault::Over(0), "a send number of port 0 over 7 taken"),
-    (PortFault::Over(1), "a receive number of port 0 over 7 taken"),
-    (PortFault::Over(2), "a send number of port 1 over 7 taken"),
-    (PortFault::Over(3), "a receive number of port 1 over 7 taken"),
-    (PortFault::ActiveAlone, "6 by the active port's numbers alone"),
-];
-
-const BATCH_FAULTS: [(BatchFault, &str); 25] = [
+const BATCH_FAULTS: [(BatchFault, &str); 23] = [
     (BatchFault::Number, "a batch's number changed"),
     (BatchFault::NumberAlone, "16 for a batch with GPIO disabled"),
     (BatchFault::Port, "a batch's port changed"),
@@ -340,11 +127,6 @@ const BATCH_FAULTS: [(BatchFault, &str); 25] = [
         "a byte of output behind a batch's bodies changed",
     ),
     (BatchFault::OutsideOutput, "a byte behind a batch's output changed"),
-    (BatchFault::OtherPair, "a batch's interrupts counted on the other port"),
-    (
-        BatchFault::ActiveAlone,
-        "6 for a batch by the active port's numbers alone",
-    ),
     (BatchFault::State, "a bit of the state after a batch changed"),
     (
         BatchFault::Record,
@@ -370,7 +152,7 @@ const BATCH_FAULTS: [(BatchFault, &str); 25] = [
     (BatchFault::RefusedOutput, "a byte of output at a refused batch changed"),
 ];
 
-const ENLARGE_FAULTS: [(EnlargeFault, &str); 20] = [
+const ENLARGE_FAULTS: [(EnlargeFault, &str); 19] = [
     (EnlargeFault::Number, "an enlarging's number changed"),
     (
         EnlargeFault::FirstChanged,
@@ -388,8 +170,7 @@ const ENLARGE_FAULTS: [(EnlargeFault, &str); 20] = [
         EnlargeFault::KeptTooLow,
         "an enlarged journal's kept number, one too low",
     ),
-    (EnlargeFault::Version(1), "version 1 in an enlarged journal"),
-    (EnlargeFault::Version(2), "version 2 in an enlarged journal"),
+    (EnlargeFault::Version, "version 1 in an enlarged journal"),
     (
         EnlargeFault::FirstKept,
         "the first slot as it was in an enlarged journal",
@@ -436,8 +217,5 @@ const ENLARGE_FAULTS: [(EnlargeFault, &str); 20] = [
 pub fn faults() -> impl Iterator<Item = (Fault, &'static str)> {
     let in_a_batch = BATCH_FAULTS.map(|(fault, name)| (Fault::Batch(fault), name));
     let in_an_enlarging = ENLARGE_FAULTS.map(|(fault, name)| (Fault::Enlarge(fault), name));
-    let of_a_version = VERSION_FAULTS.map(|(fault, name)| (Fault::Version(fault), name));
-    let of_a_port = PORT_FAULTS.map(|(fault, name)| (Fault::Ports(fault), name));
-    let others = in_a_batch.into_iter().chain(in_an_enlarging);
-    FAULTS.into_iter().chain(others).chain(of_a_version).chain(of_a_port)
+    FAULTS.into_iter().chain(in_a_batch).chain(in_an_enlarging)
 }

@@ -1,30 +1,13 @@
-//! A state's 413 bytes, field by field, as docs/JOURNAL.md lists them.
+//! A state's 411 bytes, field by field, as docs/JOURNAL.md lists them.
 
 use reference::adapter::{Gpio, Master, Spi, State};
 use sca::STATE_BYTES;
 
-pub const PORTS: [usize; 2] = [0, 1];
-/// Where the active port stands, and CRB, CRC and CRD from here on.
-pub const ACTIVE_AT: usize = 0;
-pub const SWITCHES_AT: usize = 7;
 /// Where the I2C masters stand, and the bytes of each.
-pub const MASTERS_AT: usize = 77;
+pub const MASTERS_AT: usize = 75;
 pub const MASTER_BYTES: usize = 21;
 /// Where a master's DATA stands in its own bytes.
 pub const DATA_AT: usize = 5;
-
-/// Where a port's own bytes stand: its send number, its receive number, its loopback.
-pub const fn send_at(port: usize) -> usize {
-    1 + 3 * port
-}
-
-pub const fn receive_at(port: usize) -> usize {
-    send_at(port) + 1
-}
-
-pub const fn loopback_at(port: usize) -> usize {
-    send_at(port) + 2
-}
 
 fn word(bytes: &[u8], at: usize) -> u32 {
     u32::from_le_bytes([bytes[at], bytes[at + 1], bytes[at + 2], bytes[at + 3]])
@@ -36,7 +19,7 @@ fn half(bytes: &[u8], at: usize) -> u16 {
 
 /// Whether no bit is set that no field has.
 fn spelled(bytes: &[u8]) -> bool {
-    [loopback_at(0), loopback_at(1), 76].iter().all(|at| bytes[*at] < 2)
+    [3, 4, 74].iter().all(|at| bytes[*at] < 2)
 }
 
 /// Where byte k of a master's DATA stands in its own bytes: a word's first byte is its highest, and stands last.
@@ -83,40 +66,40 @@ fn bytes_of_master(master: &Master) -> [u8; MASTER_BYTES] {
     bytes
 }
 
-/// The state that bytes spell; none where they are not 413, or a bit is set that no field has.
+/// The state that bytes spell; none where they are not 411, or a bit is set that no field has.
 pub fn state_in(bytes: &[u8]) -> Option<State> {
     if bytes.len() != STATE_BYTES || !spelled(bytes) {
         return None;
     }
     let words = |at: usize| word(bytes, at);
     Some(State {
-        active: bytes[ACTIVE_AT],
-        send: PORTS.map(|port| bytes[send_at(port)]),
-        receive: PORTS.map(|port| bytes[receive_at(port)]),
-        loopback: PORTS.map(|port| bytes[loopback_at(port)] != 0),
-        crb: bytes[SWITCHES_AT],
-        crc: bytes[SWITCHES_AT + 1],
-        crd: bytes[SWITCHES_AT + 2],
-        seu: words(10),
-        dac: [bytes[14], bytes[15], bytes[16], bytes[17]],
-        id: words(18),
+        send: bytes[0],
+        receive: bytes[1],
+        active: bytes[2],
+        loopback: [bytes[3] != 0, bytes[4] != 0],
+        crb: bytes[5],
+        crc: bytes[6],
+        crd: bytes[7],
+        seu: words(8),
+        dac: [bytes[12], bytes[13], bytes[14], bytes[15]],
+        id: words(16),
         spi: Spi {
-            control: half(bytes, 22),
-            frequency: half(bytes, 24),
-            slave_select: bytes[26],
-            data: [words(27), words(31), words(35), words(39)],
-            open_go: Some(bytes[43]).filter(|transaction| *transaction != 0),
+            control: half(bytes, 20),
+            frequency: half(bytes, 22),
+            slave_select: bytes[24],
+            data: [words(25), words(29), words(33), words(37)],
+            open_go: Some(bytes[41]).filter(|transaction| *transaction != 0),
         },
         gpio: Gpio {
-            dataout: words(44),
-            datain: words(48),
-            direction: words(52),
-            intsel: words(56),
-            inttrig: words(60),
-            ints: words(64),
-            clksel: words(68),
-            edgesel: words(72),
-            intenable: u32::from(bytes[76]),
+            dataout: words(42),
+            datain: words(46),
+            direction: words(50),
+            intsel: words(54),
+            inttrig: words(58),
+            ints: words(62),
+            clksel: words(66),
+            edgesel: words(70),
+            intenable: u32::from(bytes[74]),
         },
         masters: masters_in(&bytes[MASTERS_AT..]),
     })
@@ -125,10 +108,8 @@ pub fn state_in(bytes: &[u8]) -> Option<State> {
 pub fn bytes_of(state: &State) -> Vec<u8> {
     let (spi, gpio) = (&state.spi, &state.gpio);
     let mut bytes = Vec::with_capacity(STATE_BYTES);
-    bytes.push(state.active);
-    for port in PORTS {
-        bytes.extend([state.send[port], state.receive[port], u8::from(state.loopback[port])]);
-    }
+    bytes.extend([state.send, state.receive, state.active]);
+    bytes.extend(state.loopback.map(u8::from));
     bytes.extend([state.crb, state.crc, state.crd]);
     bytes.extend(state.seu.to_le_bytes());
     bytes.extend(state.dac);

@@ -16,9 +16,6 @@ pub const WRONG_SECONDS: [usize; 4] = [0, JOURNAL_BYTES, LARGE_JOURNAL_BYTES - 1
 const ROOM: [&str; 4] = ["under 64", "64", "65 to 199", "200"];
 /// What a small journal kept before an enlarging.
 const ENLARGED: [&str; 4] = ["none", "some", "64 from slot 0 on", "64 from another slot on"];
-/// The versions that a journal must not have, in either size.
-pub const WRONG_VERSIONS: [Wrong; 4] = [Wrong::Version1, Wrong::Version2, Wrong::HighVersion, Wrong::Version];
-const VERSION_NAMES: [&str; 4] = ["1", "2", "3 by its low byte alone", "any other"];
 /// What somebody made of a journal of the other size, and whether it was one then.
 const FITTED: [&str; 4] = ["cut, none", "cut", "lengthened, none", "lengthened"];
 /// What a step back over the records of an enlarged journal came to.
@@ -141,9 +138,8 @@ pub struct Found {
     pub in_a_row: usize,
     /// What an enlarging put into it, where one made it.
     pub copied: Option<Copied>,
-    /// Somebody altered its bytes; and so that it is of the other size.
+    /// Somebody altered its bytes.
     pub altered: bool,
-    pub fitted: bool,
 }
 
 #[derive(Default)]
@@ -153,13 +149,9 @@ pub struct Journals {
     done_enlarged: BTreeMap<Kind, u64>,
     /// Calls that were refused for their journal.
     pub refused: BTreeSet<(Kind, usize, Wrong)>,
-    /// Journals cut or lengthened to the other size's length; what was kept there and taken back, by the size that they
-    /// have then.
+    /// Journals cut or lengthened to the other size's length; those with the other size's version that were made empty.
     fitted: [u64; FITTED.len()],
-    fitted_kept: [u64; 2],
-    fitted_back: [u64; 2],
-    /// Journals that were made empty, by their size and what was wrong with them.
-    mended: BTreeMap<(usize, Wrong), u64>,
+    mended: [u64; 2],
     /// The numbers of events on a large journal, and of steps back.
     events: Vec<u64>,
     steps_back: Vec<u64>,
@@ -212,14 +204,9 @@ impl Journals {
         if kind == Kind::StepBack {
             self.stepped_back(found, number);
         }
-        if let (Kind::Emptying, DONE, Some(wrong)) = (kind, number, found.wrong) {
-            *self.mended.entry((found.most, wrong)).or_default() += 1;
+        if kind == Kind::Emptying && found.wrong == Some(Wrong::OthersVersion) {
+            self.mended[usize::from(found.most == LARGE)] += 1;
         }
-    }
-
-    /// How many journals of this size with this wrong in them were made empty.
-    pub fn mended(&self, most: usize, wrong: Wrong) -> u64 {
-        self.mended.get(&(most, wrong)).copied().unwrap_or(0)
     }
 
     /// A journal, and what somebody made of it.
@@ -242,7 +229,6 @@ impl Journals {
             };
             self.room[place] += 1;
         }
-        self.fitted_kept[usize::from(found.most == LARGE)] += u64::from(found.fitted);
         let oldest = found.copied.map_or(0, |copied| copied.left);
         self.given_up += u64::from(found.kept == found.most && oldest > 0);
     }
@@ -254,7 +240,6 @@ impl Journals {
         for (count, most) in self.all_back.iter_mut().zip([SMALL, LARGE]) {
             *count += u64::from(number == NOTHING_KEPT && (found.in_a_row, found.most) == (most, most));
         }
-        self.fitted_back[usize::from(found.most == LARGE)] += u64::from(found.fitted && number == DONE);
         let copied = match found.copied {
             Some(copied) => copied,
             None => return,
@@ -311,7 +296,6 @@ impl Journals {
         let enlarged = Kind::DONE.map(|kind| self.done_enlarged.get(&kind).copied().unwrap_or(0));
         let names = Kind::DONE.map(|kind| format!("{:?}", kind));
         let seconds = WRONG_SECONDS.map(|length| self.seconds.get(&length).copied().unwrap_or(0));
-        let mended = |most: usize| WRONG_VERSIONS.map(|wrong| self.mended(most, wrong));
         vec![
             each("calls on a small journal", &names, &done(SMALL)),
             each("calls on a large journal", &names, &done(LARGE)),
@@ -335,21 +319,10 @@ impl Journals {
                 all_wrongs,
             ),
             each("journals fitted to the other length", &FITTED, &self.fitted),
-            each("events kept in journals fitted so", &[SMALL, LARGE], &self.fitted_kept),
             each(
-                "steps back granted in journals fitted so",
+                "journals of the other version made empty",
                 &[SMALL, LARGE],
-                &self.fitted_back,
-            ),
-            each(
-                "small journals of another version made empty",
-                &VERSION_NAMES,
-                &mended(SMALL),
-            ),
-            each(
-                "large journals of another version made empty",
-                &VERSION_NAMES,
-                &mended(LARGE),
+                &self.mended,
             ),
             numbers("an enlarging", &self.enlargings, &[1, 4, 17]),
             each(
@@ -376,8 +349,8 @@ const EVENT_NUMBERS: [usize; 13] = [0, 1, 2, 3, 4, 6, 11, 12, 13, 14, 15, 16, 17
 /// Each call for each thing by which a journal can be none: its length, or in both sizes what stands in front.
 pub fn refusals() -> Vec<(Kind, usize, Wrong)> {
     use Wrong::*;
-    let in_front = [&[Mark][..], &WRONG_VERSIONS, &[First, Kept]].concat();
-    let of_size = |kind: Kind, most: usize| in_front.iter().map(|wrong| (kind, most, *wrong)).collect::<Vec<_>>();
+    let in_front = [Mark, OthersVersion, Version, First, Kept];
+    let of_size = |kind: Kind, most: usize| in_front.map(|wrong| (kind, most, wrong));
     let of_kind = |kind: Kind| [&[(kind, 0, Length)][..], &of_size(kind, SMALL), &of_size(kind, LARGE)].concat();
     Kind::ALL.into_iter().flat_map(of_kind).collect()
 }

@@ -3,7 +3,7 @@
 use crate::calls::Call;
 use crate::harness::chance::Chance;
 use crate::journals::WRONG_SECONDS;
-use crate::ring::{front, CURRENT, EARLIER, FIRST, KEPT, LARGE, SMALL, VERSION};
+use crate::ring::{front, FIRST, KEPT, LARGE, SMALL, VERSION};
 use crate::streams::{event, event_or_step_back, many};
 use sca::{JOURNAL_BYTES, LARGE_JOURNAL_BYTES};
 
@@ -37,15 +37,6 @@ fn emptied_aside(chance: &mut Chance, length: usize) -> Call {
     let mut calls = vec![Call::Empty { length }];
     calls.extend(many(chance, 1, 3, event_or_step_back));
     Call::Aside { calls }
-}
-
-/// A call on a journal of this length; now and then the journal is made empty in its place.
-fn perhaps_emptied(chance: &mut Chance, length: usize, call: Box<Call>) -> Box<Call> {
-    if chance.once_in(3) {
-        Box::new(emptied_aside(chance, length))
-    } else {
-        call
-    }
 }
 
 /// What a second buffer holds.
@@ -106,61 +97,13 @@ pub fn enlarging(chance: &mut Chance) -> Vec<Call> {
     calls
 }
 
-/// A version: every other time the current one; else most often one of before, or one beside these, by its low or its
-/// high byte.
-fn version(chance: &mut Chance) -> u16 {
-    if chance.once_in(2) {
-        CURRENT
-    } else {
-        other_version(chance)
-    }
-}
-
-fn other_version(chance: &mut Chance) -> u16 {
-    const BESIDE: [u16; 7] = [0, 4, 0xFF, 0x0101, 0x0102, 0x0300, 0xFFFF];
-    match chance.below(4) {
-        0 => BESIDE[chance.below(BESIDE.len())],
-        1 => CURRENT | (chance.between(1, 0xFF) as u16) << 8,
-        _ => EARLIER[chance.below(EARLIER.len())],
-    }
-}
-
-/// Journals that another version of the library left, or that somebody cut or lengthened: handed in as they are, or made
-/// empty first.
-pub fn strange_journals(chance: &mut Chance) -> Vec<Call> {
-    many(chance, 1, 6, |chance| {
-        let length = length(chance);
-        let (first, kept) = (chance.below(SMALL) as u8, chance.below(SMALL + 1) as u8);
-        let front = front(other_version(chance), first, kept).to_vec();
-        let aside = Call::Aside {
-            calls: many(chance, 1, 5, event_or_step_back),
-        };
-        match chance.below(4) {
-            0 => Call::JournalWithFront {
-                length,
-                front,
-                call: Box::new(emptied_aside(chance, length)),
-            },
-            1 => Call::JournalWithFront {
-                length,
-                front,
-                call: Box::new(aside),
-            },
-            _ => Call::JournalOfLength {
-                length,
-                call: Box::new(aside),
-            },
-        }
-    })
-}
-
 /// A place in the front of a journal, and a byte for it: most often one around the ends of what may stand there.
 pub fn front_byte(chance: &mut Chance) -> (usize, u8) {
     const FIRSTS: [u8; 6] = [0, 63, 64, 199, 200, 255];
     const KEPTS: [u8; 7] = [0, 1, 64, 65, 200, 201, 255];
     let at = [chance.below(VERSION), VERSION, VERSION + 1, FIRST, KEPT][chance.below(5)];
     let byte = match at {
-        VERSION => chance.below(5) as u8,
+        VERSION => chance.below(4) as u8,
         FIRST => FIRSTS[chance.below(FIRSTS.len())],
         KEPT => KEPTS[chance.below(KEPTS.len())],
         _ => chance.byte(),
@@ -168,18 +111,8 @@ pub fn front_byte(chance: &mut Chance) -> (usize, u8) {
     (at, byte)
 }
 
-/// The call on a journal of another version, most often one of before, that has nothing else wrong.
-pub fn of_other_version(chance: &mut Chance, call: Box<Call>) -> Call {
-    let (at, byte) = match chance.below(5) {
-        0 => (VERSION, chance.byte()),
-        1 => (VERSION + 1, chance.between(1, 255) as u8),
-        _ => (VERSION, EARLIER[chance.below(EARLIER.len())] as u8),
-    };
-    Call::AlteredJournal { at, byte, call }
-}
-
 /// The call on a journal cut or lengthened: to a length that none has, or to one that has, perhaps with a front that
-/// goes with it or does not. Now and then it is made empty first, whatever stands in front.
+/// goes with it or does not. Now and then it is made empty first.
 pub fn of_other_length(chance: &mut Chance, call: Box<Call>) -> Call {
     match chance.below(4) {
         0 => Call::JournalOfLength {
@@ -188,14 +121,18 @@ pub fn of_other_length(chance: &mut Chance, call: Box<Call>) -> Call {
         },
         1 => {
             let length = length(chance);
-            let call = perhaps_emptied(chance, length, call);
+            let call = if chance.once_in(3) {
+                Box::new(emptied_aside(chance, length))
+            } else {
+                call
+            };
             Call::JournalOfLength { length, call }
         }
         _ => {
             let (first, kept) = (chance.below(LARGE) as u8, chance.below(LARGE + 1) as u8);
             let few = chance.once_in(2);
             let mut front = front(
-                version(chance),
+                chance.between(1, 2) as u8,
                 if few { first % SMALL as u8 } else { first },
                 if few { kept % SMALL as u8 } else { kept },
             );
@@ -203,11 +140,10 @@ pub fn of_other_length(chance: &mut Chance, call: Box<Call>) -> Call {
                 let (at, byte) = front_byte(chance);
                 front[at] = byte;
             }
-            let length = length(chance);
             Call::JournalWithFront {
-                length,
+                length: length(chance),
                 front: front.to_vec(),
-                call: perhaps_emptied(chance, length, call),
+                call,
             }
         }
     }

@@ -16,7 +16,6 @@ mod calls;
 mod directed;
 mod exchanges;
 mod fault;
-mod fibres;
 #[path = "../harness/mod.rs"]
 mod harness;
 mod image;
@@ -24,14 +23,12 @@ mod journals;
 mod lengths;
 mod listing;
 mod masters;
-mod ports;
 mod probes;
 mod record;
 mod ring;
 mod run;
 mod seen;
 mod shrink;
-mod spoken;
 mod streams;
 mod tally;
 mod twins;
@@ -107,7 +104,6 @@ fn compare(options: &Options) -> bool {
             all_seen(&tally),
             all_directed(),
             twins::agree(),
-            spoken::holds(),
             read_as_printed(options.seed),
         ])
     };
@@ -224,7 +220,6 @@ fn all_seen(tally: &Tally) -> bool {
     results.extend(tally.masters.all_seen());
     results.extend(tally.batches.all_seen());
     results.extend(tally.journals.all_seen());
-    results.extend(tally.ports.all_seen());
     all_of(&results)
 }
 

@@ -2,17 +2,13 @@
 
 use crate::exchanges::{length_of, MULTI_BYTE, STARTS};
 use crate::harness::report::{all, list, say};
-use crate::image::{MASTERS_AT, MASTER_BYTES, SWITCHES_AT};
+use crate::image::{MASTERS_AT, MASTER_BYTES};
 use crate::seen::whole;
 use reference::adapter::{Master, State};
 use reference::numbers::{BAD_ARGUMENT, FRAME, NOT_BUSY};
 use sca::{I2C_FIRST, I2C_MOST};
 use std::cmp::Ordering;
 use std::collections::BTreeSet;
-
-/// CRB stands at the first of these.
-const CRC_AT: usize = SWITCHES_AT + 1;
-const CRD_AT: usize = SWITCHES_AT + 2;
 
 const COUNT: usize = 16;
 /// A count for each master.
@@ -272,9 +268,9 @@ impl Masters {
     /// A state with this bit flipped, and whether it was still taken.
     pub fn flipped(&mut self, bit: usize, state: &State, taken: bool) {
         let seen = match bit / 8 {
-            SWITCHES_AT if bit % 8 >= 3 => (Field::Switch, state.crb >> (bit % 8) & 1 == 1),
-            CRC_AT => (Field::Switch, state.crc >> (bit % 8) & 1 == 1),
-            CRD_AT if bit % 8 <= 2 => (Field::Switch, state.crd >> (bit % 8) & 1 == 1),
+            5 if bit % 8 >= 3 => (Field::Switch, state.crb >> (bit % 8) & 1 == 1),
+            6 => (Field::Switch, state.crc >> (bit % 8) & 1 == 1),
+            7 if bit % 8 <= 2 => (Field::Switch, state.crd >> (bit % 8) & 1 == 1),
             byte if byte >= MASTERS_AT => {
                 let (place, own) = ((byte - MASTERS_AT) / MASTER_BYTES, (byte - MASTERS_AT) % MASTER_BYTES);
                 (field_at(own), is_on(state, place))

@@ -2,7 +2,6 @@
 
 use crate::batches::{SIZES, TOO_MANY};
 use crate::calls::Call;
-use crate::fibres::with_number;
 use crate::harness::chance::Chance;
 use crate::lengths::most;
 use crate::streams::{any_request, damaged_by, link_frame, many, request, sample, wide, word};
@@ -34,7 +33,7 @@ pub fn probing(chance: &mut Chance) -> Vec<Call> {
     calls
 }
 
-/// A CONNECT, so that requests are heard; then the lines.
+/// A CONNECT, so that requests are heard; then the lines' registers, most often so that lines interrupt.
 fn set_up(chance: &mut Chance) -> Vec<Call> {
     let mut calls = vec![link_frame(chance, CONNECT)];
     let crb = word(chance);
@@ -43,13 +42,6 @@ fn set_up(chance: &mut Chance) -> Vec<Call> {
         return calls;
     }
     calls.push(request(chance, CONTROLLER, WRITE_CRB, 4, crb | 0x0400_0000));
-    calls.extend(lines(chance));
-    calls
-}
-
-/// The lines' registers, most often so that lines interrupt.
-pub fn lines(chance: &mut Chance) -> Vec<Call> {
-    let mut calls = Vec::new();
     let strobed = chance.once_in(2);
     for (command, data) in [
         (DIRECTION, [0, word(chance) & word(chance)][chance.below(2)]),
@@ -151,10 +143,9 @@ fn too_short(chance: &mut Chance) -> usize {
     [BATCH_LEAST - 1, BATCH_LEAST - 1, 16, 0, chance.below(BATCH_LEAST)][chance.below(5)]
 }
 
-/// What comes after a batch: nothing, steps back, single samples, a RESET, the lines read, requests, batches on damaged
-/// copies or with another number of a port, a CONNECT on either port.
+/// What comes after a batch: nothing, steps back, single samples, a RESET, the lines read, requests, batches on damaged copies.
 fn between(chance: &mut Chance) -> Vec<Call> {
-    match chance.below(14) {
+    match chance.below(12) {
         0 => many(chance, 1, 12, |_| Call::StepBack),
         1 => {
             let most = most(chance);
@@ -168,11 +159,6 @@ fn between(chance: &mut Chance) -> Vec<Call> {
             let batch = any_batch(chance);
             damaged_by(chance, batch)
         }),
-        7 => many(chance, 1, 4, |chance| {
-            let batch = any_batch(chance);
-            with_number(chance, batch)
-        }),
-        8 | 9 => vec![link_frame(chance, CONNECT)],
         _ => Vec::new(),
     }
 }

@@ -14,11 +14,11 @@ pub const CRD: u8 = 3;
 pub const TAGS: [u8; 4] = [CORE, CRB, CRC, CRD];
 
 /// The state's bytes that every record has, behind its tag: the core but for the chip ID.
-const CORE_BYTES: usize = 18;
+const CORE_BYTES: usize = 16;
 /// Where the group's bytes stand in a record.
 const GROUP_AT: usize = 1 + CORE_BYTES;
 /// Where the groups of CRB, CRC and CRD begin in a state; the last ends with it.
-const GROUPS: [usize; 3] = [22, 182, 350];
+const GROUPS: [usize; 3] = [20, 180, 348];
 
 /// The state's bytes of a tag's group; none where it is no tag.
 fn group(tag: u8) -> Option<Range<usize>> {

@@ -1,5 +1,5 @@
-//! A journal's bytes as docs/JOURNAL.md says that the calls leave them. The length alone says which of the two sizes a
-//! journal has; the version is the same in both.
+//! A journal's bytes as docs/JOURNAL.md says that the calls leave them. The length says which of the two sizes a
+//! journal has.
 
 use crate::record::{length_of, record_of, restored};
 use reference::adapter::State;
@@ -8,7 +8,6 @@ use sca::{JOURNAL_BYTES, LARGE_JOURNAL_BYTES};
 const HEADER: usize = 1_024;
 pub const SLOT: usize = 256;
 const MARK: [u8; 3] = [0x53, 0x43, 0x4A];
-/// Where the version stands, the first slot, and the kept number.
 pub const VERSION: usize = 3;
 pub const FIRST: usize = 5;
 pub const KEPT: usize = 6;
@@ -17,41 +16,22 @@ pub const KEPT: usize = 6;
 pub const SMALL: usize = 64;
 pub const LARGE: usize = 200;
 
-/// The version of every journal, and those of small and large ones before.
-pub const CURRENT: u16 = 3;
-pub const EARLIER: [u16; 2] = [1, 2];
-
 /// The first thing for which bytes are no journal.
 #[derive(Clone, Copy, PartialEq, Eq, PartialOrd, Ord, Debug)]
 pub enum Wrong {
     Length,
     Mark,
-    /// Of before, the lower one first.
-    Version1,
-    Version2,
-    /// By its high byte alone.
-    HighVersion,
-    /// Any other.
+    /// That of the other size.
+    OthersVersion,
     Version,
     First,
     Kept,
 }
 
 /// Mark, version, first slot and kept number.
-pub fn front(version: u16, first: u8, kept: u8) -> [u8; 7] {
-    let ([s, c, j], [low, high]) = (MARK, version.to_le_bytes());
-    [s, c, j, low, high, first, kept]
-}
-
-/// What is wrong with a version; nothing where it is the current one.
-pub fn wrong_version(version: u16) -> Option<Wrong> {
-    match version {
-        CURRENT => None,
-        1 => Some(Wrong::Version1),
-        2 => Some(Wrong::Version2),
-        _ if version & 0xFF == CURRENT => Some(Wrong::HighVersion),
-        _ => Some(Wrong::Version),
-    }
+pub fn front(version: u8, first: u8, kept: u8) -> [u8; 7] {
+    let [s, c, j] = MARK;
+    [s, c, j, version, 0, first, kept]
 }
 
 #[derive(Clone, PartialEq, Eq)]
@@ -72,8 +52,12 @@ impl Ring {
         }
     }
 
-    fn version(&self) -> u16 {
-        u16::from_le_bytes([self.0[VERSION], self.0[VERSION + 1]])
+    fn version(&self) -> u8 {
+        if self.most() == LARGE {
+            2
+        } else {
+            1
+        }
     }
 
     /// What every event and step back asks of a journal.
@@ -83,12 +67,15 @@ impl Ring {
 
     /// Why these bytes are no journal; none where they are one.
     pub fn wrong(&self) -> Option<Wrong> {
+        let version = |version: u8| [version, 0];
         if self.most() == 0 {
             Some(Wrong::Length)
         } else if self.0[..VERSION] != MARK {
             Some(Wrong::Mark)
-        } else if let Some(wrong) = wrong_version(self.version()) {
-            Some(wrong)
+        } else if self.0[VERSION..FIRST] == version(3 - self.version()) {
+            Some(Wrong::OthersVersion)
+        } else if self.0[VERSION..FIRST] != version(self.version()) {
+            Some(Wrong::Version)
         } else if self.first() >= self.most() {
             Some(Wrong::First)
         } else if self.kept() > self.most() {
@@ -96,14 +83,6 @@ impl Ring {
         } else {
             None
         }
-    }
-
-    /// What is wrong with the version, where nothing else is.
-    pub fn wrong_in_version(&self) -> Option<Wrong> {
-        let wrong = self
-            .wrong()
-            .filter(|wrong| *wrong > Wrong::Mark && *wrong < Wrong::First);
-        wrong.filter(|_| self.first() < self.most() && self.kept() <= self.most())
     }
 
     pub fn first(&self) -> usize {
@@ -120,7 +99,7 @@ impl Ring {
     }
 
     pub fn empty(&mut self) {
-        let front = front(CURRENT, 0, 0);
+        let front = front(self.version(), 0, 0);
         self.0[..front.len()].copy_from_slice(&front);
     }
 
@@ -162,11 +141,6 @@ impl Ring {
     /// Where the newest record starts: where none is kept, the slot before the first.
     pub fn newest_at(&self) -> usize {
         self.record_at(0)
-    }
-
-    /// The slot of the newest record.
-    pub fn newest_slot(&self) -> &[u8] {
-        &self.0[self.newest_at()..][..SLOT]
     }
 
     /// Where a record starts: the newest is 0, and older ones follow.

@@ -3,21 +3,17 @@
 
 mod batch;
 mod enlarge;
-mod masks;
 mod pair;
-mod ports;
 
 use crate::calls::Call;
-use crate::fault::{By, Fault, VersionFault};
+use crate::fault::Fault;
 use crate::harness::output::Output;
 use crate::harness::same::{same, same_bytes, Checked};
 use crate::image::{bytes_of, state_in};
 use crate::journals::Kind;
-use crate::ports::Happened;
 use crate::record::{tag_of, CORE};
-use crate::ring::{EARLIER, FIRST, KEPT, LARGE, SMALL, VERSION};
+use crate::ring::{FIRST, KEPT, LARGE, SMALL, VERSION};
 use crate::tally::{Back, Step, Tally};
-use masks::masked;
 use pair::Pair;
 use reference::adapter::{self, Journal, State};
 use reference::numbers::{BAD_ID, BAD_JOURNAL, DONE, FRAME, NOTHING_KEPT, OUT_OF_RANGE, UNREADABLE};
@@ -107,11 +103,6 @@ impl Both<'_> {
                 if let (Some(state), false) = (pair.expected, *call == Call::Kept) {
                     self.tally.masters.flipped(bit, &state, taken);
                 }
-                self.on_state(pair, bytes, &call)
-            }
-            Call::AlteredState { at, byte, call } => {
-                let mut bytes = pair.state.clone();
-                bytes[at] = byte;
                 self.on_state(pair, bytes, &call)
             }
             Call::StateOfLength { length, call } => self.on_state(pair, resized(&pair.state, length), &call),
@@ -224,11 +215,8 @@ impl Both<'_> {
         if expected == DONE {
             pair.empty_ring();
         }
-        for version in EARLIER {
-            let emptied = VersionFault::Emptied(version, pair.ring.most());
-            if self.lay(Fault::Version(emptied), expected == DONE) {
-                pair.journal[VERSION] = version as u8;
-            }
+        if self.lay(Fault::EmptiedAsSmall, pair.ring.most() == LARGE) {
+            pair.journal[VERSION] = 1;
         }
         self.tally.empty[usize::from(expected)] += 1;
         self.tally.journals.seen(Kind::Emptying, &found, expected);
@@ -247,6 +235,7 @@ impl Both<'_> {
         };
         let found = pair.found();
         let (mut ours, mut expected_output) = (Output::new(room), Output::new(room));
+        let mut answer = by_library(&mut pair.state, &mut pair.journal, call, ours.lent());
         let before = pair.expected;
         let expected = match &mut pair.expected {
             None => RawAnswer {
@@ -257,62 +246,25 @@ impl Both<'_> {
             Some(state) => by_reference(state, &mut pair.earlier, call, expected_output.lent()),
         };
         let kept = !refused(expected.number);
-        let happened = match (before, pair.expected) {
-            (Some(before), Some(after)) if kept => {
-                let sent = &expected_output.lent()[..expected.length];
-                let known = (pair.asked, pair.returned);
-                Some(Happened::of(call, (before, after), &expected, sent, known))
-            }
-            _ => None,
-        };
-        let mask = self.mask(pair, happened.as_ref(), expected.number);
-        let mut answer = masked(mask, pair, |state, journal| {
-            by_library(state, journal, call, ours.lent())
-        });
         if kept && pair.sampled > 0 {
             self.tally.batches.followed_by(call);
         }
-        if let Some(happened) = &happened {
-            self.happened(pair, happened, expected.number);
+        if let (true, Some(before)) = (kept, before) {
+            match adapter::kept(&pair.earlier) {
+                (_, 0) => pair.empty_ring(),
+                _ => {
+                    pair.push(tag_of(call), &before);
+                    self.tally.recorded(tag_of(call), expected.number);
+                }
+            }
         }
         self.break_event(pair, &mut answer, &mut ours, kept);
-        if let Some(happened) = &happened {
-            self.break_ports(pair, happened, &mut answer, ours.lent());
-        }
-        self.out_of_range(Kind::of(call), &before, expected.number);
         self.tally
             .event(call, &before, &pair.expected, &expected, expected_output.lent());
         self.tally.journals.seen(Kind::of(call), &found, expected.number);
         same("the answer", answer, expected)?;
         same("the output", ours, expected_output)?;
         self.left(pair)
-    }
-
-    /// An event that was not refused is counted, and kept.
-    fn happened(&mut self, pair: &mut Pair, happened: &Happened, number: u8) {
-        self.tally.ports.event(happened);
-        pair.asked = happened.asked_after();
-        pair.returned = false;
-        if let (_, 0) = adapter::kept(&pair.earlier) {
-            pair.empty_ring();
-            for version in EARLIER {
-                let reset = VersionFault::Reset(version, pair.ring.most());
-                if self.lay(Fault::Version(reset), true) {
-                    pair.journal[VERSION] = version as u8;
-                }
-            }
-            return;
-        }
-        let tag = tag_of(happened.call);
-        pair.push(tag, &happened.before, happened.mark());
-        self.tally.recorded(tag, number);
-    }
-
-    /// What a call was refused for with 6, where it was.
-    fn out_of_range(&mut self, kind: Kind, before: &Option<State>, number: u8) {
-        if let (OUT_OF_RANGE, Some(state)) = (number, before) {
-            self.tally.ports.out_of_range(kind, state);
-        }
     }
 
     fn break_event(&mut self, pair: &mut Pair, answer: &mut RawAnswer, output: &mut Output, kept: bool) {
@@ -337,7 +289,7 @@ impl Both<'_> {
             *output.bytes.last_mut().unwrap() ^= 1;
         }
         if self.lay(Fault::State, kept) {
-            pair.state[14] ^= 1;
+            pair.state[12] ^= 1;
         }
         if self.lay(Fault::Master, kept) {
             *pair.state.last_mut().unwrap() ^= 1;
@@ -384,6 +336,7 @@ impl Both<'_> {
     /// too.
     fn step_back(&mut self, pair: &mut Pair) -> Checked {
         let (found, back) = (pair.found(), pair.back());
+        let answer = boundary::sca_step_back(&mut pair.state, &mut pair.journal);
         let before = pair.expected;
         let (number, after) = match before.filter(adapter::in_range) {
             None => (OUT_OF_RANGE, before),
@@ -399,8 +352,6 @@ impl Both<'_> {
             same("docs/JOURNAL.md's number", number, theirs)?;
             same("docs/JOURNAL.md's state", after, Some(left))?;
         }
-        let mask = self.mask_back(pair, number);
-        let answer = masked(mask, pair, boundary::sca_step_back);
         self.tally.step_back(&Step {
             number,
             back,
@@ -408,29 +359,17 @@ impl Both<'_> {
             sampled: pair.sampled,
             journal: found,
         });
-        let mark = pair.marks.back().copied().filter(|_| back == Back::Together);
         if let (DONE, Back::Together, Some(before), Some(after)) = (number, back, &before, &after) {
             self.tally.masters.stepped_back(before, after);
-            if let Some(mark) = &mark {
-                self.tally.ports.stepped_back(mark, before, after);
-            }
         }
-        self.out_of_range(Kind::StepBack, &before, number);
-        match (number, &before, &after) {
-            (DONE, Some(before), Some(after)) => {
-                pair.lower();
-                pair.returned = before.active != after.active;
-                self.break_back(pair, after, mark);
-            }
-            (NOTHING_KEPT, ..) => pair.reach_end(),
-            (BAD_JOURNAL, Some(state), _) if pair.ring.well_formed() => {
-                self.tally.ports.damaged(pair.ring.newest_slot(), state);
-            }
+        match number {
+            DONE => pair.lower(),
+            NOTHING_KEPT => pair.reach_end(),
             _ => {}
         }
         pair.expected = after;
         if self.lay(Fault::RestoredState, number == DONE) {
-            pair.state[10] ^= 1;
+            pair.state[8] ^= 1;
         }
         let expected = RawAnswer {
             number,
@@ -450,12 +389,7 @@ impl Both<'_> {
     }
 
     fn kept(&mut self, pair: &Pair) -> Checked {
-        let mut ours = match self.mask_version(By::Counting, pair) {
-            Some(_) => masked(Some(masks::Mask::Version), &mut pair.clone(), |_, journal| {
-                boundary::sca_kept(journal)
-            }),
-            None => boundary::sca_kept(&pair.journal),
-        };
+        let mut ours = boundary::sca_kept(&pair.journal);
         let expected = if pair.ring.well_formed() {
             (DONE, pair.ring.kept())
         } else {

@@ -3,12 +3,10 @@
 use crate::calls::{Call, Way};
 use crate::exchanges::{any_channel, at_once, bit, ending, exchange, i2c_commands, i2c_request};
 use crate::exchanges::{is_start, master, some_master, unknown_code, whole_start};
-use crate::fibres::{damaged_link, two_masters, with_number, with_number_in_record};
 use crate::harness::chance::Chance;
-use crate::image::{bytes_of, DATA_AT, MASTERS_AT, MASTER_BYTES, SWITCHES_AT};
+use crate::image::{bytes_of, DATA_AT, MASTERS_AT, MASTER_BYTES};
 use crate::lengths::{
     emptied, enlarge, enlarged_aside, enlarged_back, enlarging, front_byte, most, no_length, of_other_length,
-    of_other_version, strange_journals,
 };
 use crate::masters::is_on;
 use crate::probes::{any_batch, probing, wrong_batch};
@@ -79,7 +77,7 @@ const WRITE_CRB: u8 = 0x02;
 const WRITE_CRC: u8 = 0x04;
 const WRITE_CRD: u8 = 0x06;
 /// The bytes of the longest record: a tag, the core, and the group of CRC.
-const RECORD_MOST: usize = 1 + 18 + 168;
+const RECORD_MOST: usize = 1 + 16 + 168;
 
 /// CONNECT, RESET and TEST, with bit 4 clear and set.
 pub const LINK_COMMANDS: [u8; 6] = [0x2F, 0x3F, 0x8F, 0x9F, 0xE3, 0xF3];
@@ -114,7 +112,7 @@ fn create(chance: &mut Chance) -> Call {
 }
 
 fn phase(chance: &mut Chance) -> Vec<Call> {
-    match chance.below(37) {
+    match chance.below(32) {
         0..=3 => many(chance, 1, 20, request_or_ending),
         4..=6 => transfer(chance),
         7..=9 => pins(chance),
@@ -127,7 +125,7 @@ fn phase(chance: &mut Chance) -> Vec<Call> {
         }
         14 => filled_then_back(chance),
         15 => many(chance, 1, 8, refused),
-        16 => many(chance, 1, 6, damaged_or_link),
+        16 => many(chance, 1, 6, damaged),
         17 => enable(chance),
         18 => one_of_all(chance),
         19..=22 => exchange(chance),
@@ -135,8 +133,6 @@ fn phase(chance: &mut Chance) -> Vec<Call> {
         25 => many(chance, 1, 12, unknown_code),
         26..=28 => probing(chance),
         29 | 30 => enlarging(chance),
-        31..=34 => two_masters(chance),
-        35 => strange_journals(chance),
         _ => vec![match chance.below(4) {
             0 => emptied(chance),
             1 => create(chance),
@@ -299,7 +295,7 @@ pub fn switching(chance: &mut Chance) -> Call {
     request(chance, CONTROLLER, command, 4, data)
 }
 
-pub fn completion(chance: &mut Chance) -> Call {
+fn completion(chance: &mut Chance) -> Call {
     Call::Completion {
         received: chance.bytes(16),
         room: room(chance),
@@ -507,15 +503,8 @@ fn refused(chance: &mut Chance) -> Call {
             }
         }
         7 => Call::Create {
-            // 75 bytes are a state of before the masters, 411 one of before each port had a pair
-            length: [
-                STATE_BYTES,
-                STATE_BYTES - 1,
-                STATE_BYTES + 1,
-                75,
-                411,
-                chance.below(500),
-            ][chance.below(6)],
+            // 75 bytes are a state of before the masters
+            length: [STATE_BYTES, STATE_BYTES - 1, STATE_BYTES + 1, 75, chance.below(500)][chance.below(5)],
             id: [0x0100_0000, u32::MAX, 0x00FF_FFFF, word(chance)][chance.below(4)],
         },
         8 => wrong_batch(chance),
@@ -525,13 +514,12 @@ fn refused(chance: &mut Chance) -> Call {
     }
 }
 
-/// Any length but a state's, most often close to it, or that of a state before each port had a pair.
-fn no_state_length(chance: &mut Chance) -> usize {
-    match chance.below(5) {
-        0 => STATE_BYTES - 1,
-        1 => STATE_BYTES + 1,
-        2 => chance.below(STATE_BYTES),
-        3 => 411,
+/// Any length but this one, most often close to it.
+fn other_length(chance: &mut Chance, length: usize) -> usize {
+    match chance.below(4) {
+        0 => length - 1,
+        1 => length + 1,
+        2 => chance.below(length),
         _ => 0,
     }
 }
@@ -563,15 +551,6 @@ fn any_on_journal(chance: &mut Chance) -> Call {
     }
 }
 
-/// A damaged copy, every sixth time for a CONNECT or a RESET.
-fn damaged_or_link(chance: &mut Chance) -> Call {
-    if chance.once_in(6) {
-        damaged_link(chance)
-    } else {
-        damaged(chance)
-    }
-}
-
 /// A call on a damaged copy of the state or of the journal.
 pub fn damaged(chance: &mut Chance) -> Call {
     let call = any_on_journal(chance);
@@ -580,17 +559,14 @@ pub fn damaged(chance: &mut Chance) -> Call {
 
 /// This call on such a copy, or a step back.
 pub fn damaged_by(chance: &mut Chance, call: Call) -> Call {
-    if chance.once_in(8) {
-        return with_number(chance, call);
-    }
     let call = Box::new(call);
-    match chance.below(16) {
+    match chance.below(13) {
         0..=2 => Call::FlippedState {
             bit: some_bit(chance),
             call,
         },
         3 => Call::StateOfLength {
-            length: no_state_length(chance),
+            length: other_length(chance, STATE_BYTES),
             call,
         },
         4 | 5 => of_other_length(chance, call),
@@ -614,7 +590,7 @@ pub fn damaged_by(chance: &mut Chance, call: Call) -> Call {
             Call::AlteredJournal { at, byte, call }
         }
         10 | 11 => Call::AlteredRecord {
-            at: [0, chance.below(19), chance.below(RECORD_MOST + 8)][chance.below(3)],
+            at: [0, chance.below(17), chance.below(RECORD_MOST + 8)][chance.below(3)],
             byte: [chance.byte(), chance.below(8) as u8][chance.below(2)],
             call: Box::new(if chance.once_in(3) {
                 enlarged_back(chance)
@@ -622,8 +598,6 @@ pub fn damaged_by(chance: &mut Chance, call: Call) -> Call {
                 Call::StepBack
             }),
         },
-        12 => with_number_in_record(chance),
-        13 | 14 => of_other_version(chance, call),
         _ => Call::OtherState {
             state: other_state(chance),
             call: Box::new(Call::StepBack),
@@ -631,13 +605,12 @@ pub fn damaged_by(chance: &mut Chance, call: Call) -> Call {
     }
 }
 
-/// A bit of a state: any, one in front of the masters, of the ports, of CRB, CRC or CRD, or of a master.
+/// A bit of a state: any, one in front of the masters, of CRB, CRC or CRD, or of a master.
 fn some_bit(chance: &mut Chance) -> usize {
-    let byte = match chance.below(6) {
+    let byte = match chance.below(5) {
         0 => chance.below(STATE_BYTES),
         1 => chance.below(MASTERS_AT),
-        5 => chance.below(SWITCHES_AT),
-        2 => SWITCHES_AT + chance.below(3),
+        2 => chance.between(5, 7),
         _ => {
             let own = [chance.below(DATA_AT), chance.below(MASTER_BYTES)][chance.below(2)];
             MASTERS_AT + MASTER_BYTES * chance.below(16) + own
@@ -656,8 +629,8 @@ fn adopt(chance: &mut Chance) -> Call {
 /// The bytes of a state in range, as any other run may have left it.
 fn other_state(chance: &mut Chance) -> Vec<u8> {
     let mut state = State::power_on(word(chance) & 0xFF_FFFF);
-    state.send = [chance.below(8) as u8, chance.below(8) as u8];
-    state.receive = [chance.below(8) as u8, chance.below(8) as u8];
+    state.send = chance.below(8) as u8;
+    state.receive = chance.below(8) as u8;
     state.active = chance.below(2) as u8;
     state.loopback = [chance.once_in(4), chance.once_in(4)];
     state.seu = word(chance);

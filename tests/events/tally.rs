@@ -4,7 +4,6 @@ use crate::batches::{Batches, Seen};
 use crate::calls::Call;
 use crate::journals::{Found, Journals, Kind};
 use crate::masters::{End, Masters};
-use crate::ports::Ports;
 use crate::record::{CRB, CRD};
 use crate::run::refused;
 use reference::adapter::{Gpio, State};
@@ -89,7 +88,6 @@ pub struct Tally {
     pub masters: Masters,
     pub batches: Batches,
     pub journals: Journals,
-    pub ports: Ports,
 }
 
 impl Tally {
@@ -129,7 +127,6 @@ impl Tally {
             masters: Masters::new(),
             batches: Batches::new(),
             journals: Journals::new(),
-            ports: Ports::default(),
         }
     }
 
@@ -205,7 +202,6 @@ impl Tally {
             }
         }
         self.batches.seen(seen);
-        self.ports.batch(seen);
         self.journals.seen(Kind::Batch, &seen.journal, seen.answer.number);
     }
 

@@ -75,9 +75,6 @@ pub enum Fault {
     ChipTransaction,
     ChipState,
     ChipKept,
-    ChipConnectKeeps,
-    ChipConnectBoth,
-    ChipCountsOther,
     Cable,
     Received,
 }
@@ -89,7 +86,7 @@ const ENDS: &[Judge] = &[Judge::Reference, Judge::Ends];
 const ALL: &[Judge] = &[Judge::Reference, Judge::Promises, Judge::Ends];
 
 /// Every fault, with its name and those that must find it.
-pub const FAULTS: [(Fault, &str, &[Judge]); 57] = [
+pub const FAULTS: [(Fault, &str, &[Judge]); 54] = [
     (Fault::Number, "a number changed", CALLS),
     (Fault::Length, "a length changed", CALLS),
     (Fault::Interrupt, "an interrupt that is none", CALLS),
@@ -150,21 +147,6 @@ pub const FAULTS: [(Fault, &str, &[Judge]); 57] = [
     (Fault::ChipTransaction, "TRN of a reply of the chip changed", ENDS),
     (Fault::ChipState, "a bit of the chip's state changed", ALONE),
     (Fault::ChipKept, "the kept number changed", ALONE),
-    (
-        Fault::ChipConnectKeeps,
-        "a CONNECT that the chip's receive number outlasts",
-        ENDS,
-    ),
-    (
-        Fault::ChipConnectBoth,
-        "a CONNECT that zeroes the chip's other port",
-        ALONE,
-    ),
-    (
-        Fault::ChipCountsOther,
-        "a request counted on the chip's other port",
-        ENDS,
-    ),
     (Fault::Cable, "a bit of a framed body changed", ALL),
     (Fault::Received, "a byte of a body read from the cable changed", ALL),
 ];

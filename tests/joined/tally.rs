@@ -150,9 +150,8 @@ pub struct Tally {
     numbers: Vec<u64>,
     /// Starts answered with their completion, by channel.
     completed: Vec<u64>,
-    /// Requests in their order; and, by their port, those with the other port's numbers not 0.
+    /// Requests in their order.
     pub in_step: u64,
-    pub in_step_beside: [u64; 2],
     /// Bodies as the chip sent them, with the number that they gave.
     read: BTreeMap<(Kind, u8), u64>,
     /// Replies that closed a later request of their TRN and channel.
@@ -202,7 +201,6 @@ impl Tally {
             numbers: counts(),
             completed: counts(),
             in_step: 0,
-            in_step_beside: [0; 2],
             read: BTreeMap::new(),
             later: 0,
             odd_interrupts: 0,
@@ -415,11 +413,6 @@ impl Tally {
             every("frame number", &self.numbers, &first_eight),
             every("channel's start answered at its completion", &self.completed, &starting),
             some("requests in their order, with the number due", self.in_step),
-            every(
-                "port with such requests while the other's numbers are not 0",
-                &self.in_step_beside,
-                &[0, 1],
-            ),
             some("interrupts", read(Kind::Interrupt, FRAME)),
             some("interrupts with an ERR or another LEN", self.odd_interrupts),
             some("SREJs handed to the reader", read(Kind::Reject, REPLY_LENGTH)),

@@ -54,9 +54,9 @@ sample_shape a levels kind =
     (quiet a lines_disabled (λ z. not_0 16 (omega arith) z) refl) (interrupt _ _ _ _ _ _ _ refl) (quiet after no_frame (λ z. not_0 17 (omega arith) z) refl)
 
 -- in bytes
-pub port_in_lem : (s : List ℕ) → (state_in s).link.port ≡ (link_of s).port
+pub port_in : (s : List ℕ) → (state_in s).link.port ≡ (link_of s).port
 unfolding state_in
-port_in_lem s = refl
+port_in s = refl
 
 pub port_back : (b : Adapter) → (link_of (state_bytes b)).port ≡ b.link.port
 unfolding state_bytes
@@ -144,7 +144,7 @@ module _ (active : ℕ) (out s j o : List ℕ) (p : Pass) (bodies : List (List �
 
     stands_on : Stands active out (onward course x) (given before x)
     stands_on =
-        along _ (subst (λ (k : ℕ). Shape k (reaction (state_in s) (event_of x))) (port_in_lem s ∙ h.stays) (sample_shape (state_in s) x.levels x.kind)) refl
+        along _ (subst (λ (k : ℕ). Shape k (reaction (state_in s) (event_of x))) (port_in s ∙ h.stays) (sample_shape (state_in s) x.levels x.kind)) refl
 
 -- a sample sends one frame at most
 pub few : (port : ℕ) (r : Reaction) → Shape port r → length r.frames ≤ 1

@@ -88,9 +88,9 @@ module _ (many at kind : ℕ) (r : Pass) where
   kind_good h k e = rw (le-ltb _ _ h, ne_eqb _ _ k) e
 
 -- nothing is counted in it
-pub none_counted_lem : (many at kind : ℕ) → ((looked many at kind).frames ≡ 0) × ((looked many at kind).sum ≡ 0)
+pub none_counted : (many at kind : ℕ) → ((looked many at kind).frames ≡ 0) × ((looked many at kind).sum ≡ 0)
 unfolding looked
-none_counted_lem many at kind = by (ltb 2 kind) (eqb (at + 1) many)
+none_counted many at kind = by (ltb 2 kind) (eqb (at + 1) many)
   where
     by : (t u : Bool) → let q = cond t (nothing_done many false 3) (cond u (nothing_done 0 true 0) (nothing_done (at + 1) false 0)) in
         (q.frames ≡ 0) × (q.sum ≡ 0)
@@ -114,7 +114,7 @@ module _ (many : ℕ) (s j o : List ℕ) (p : Pass) (x : Sample) (r : Pass) wher
   pub looks_on : p.doing ≡ false → r ≡ looked many p.at x.kind → Moved many s j o p x s j o r
   unfolding moved
   looks_on d e =
-      let n = none_counted_lem many p.at x.kind in
+      let n = none_counted many p.at x.kind in
       record {
         is = ap (going s j o) e ∙ ap either (sym d);
         frame = omega (arith, ap (λ (q : Pass). q.frames) e, n.0);

@@ -6,7 +6,7 @@ use Rattle.parts.proofs.Laws.{AreBytes}
 use Rattle.numbers.specs.Numbers.{no_frame}
 use Rattle.chip.specs.Event.{Event}
 use Rattle.chip.specs.Answer.{Reaction, sends, gives}
-use Rattle.link.specs.Link.{port_at, acknowledge_control, reject_control, reply_control}
+use Rattle.link.specs.Link.{acknowledge_control, reject_control, reply_control}
 use Rattle.packets.specs.Packets.{reply_body}
 use Rattle.chip.specs.Request.{replies}
 use Rattle.chip.specs.Frame.{control_of}
@@ -109,6 +109,6 @@ frame_bytes a e f = by (reaction a e) (shapes a e)
     by r (dropped n l u) = tt
     by r (acknowledged port body h b c) = (short_bytes _ (acknowledge_byte (control_of body)), tt)
     by r (echoed port body h) = ((subst EventFits h f).bytes, tt)
-    by r (rejected port body h) = (short_bytes (reject_control (port_at a.link port)) (omega arith), tt)
+    by r (rejected port body h) = (short_bytes (reject_control a.link) (omega arith), tt)
     by r (replied b trn ch err len d m k) = (reply_bytes_lem b trn ch err len d (k f), tt)
     by r (quiet b m) = tt

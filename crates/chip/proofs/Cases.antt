@@ -14,8 +14,7 @@ use Rattle.channels.specs.declared.groups.Group.TheVariants.{Nothing}
 use Rattle.state.specs.State.{Adapter, adapter, blank, powered_on}
 use Rattle.chip.specs.Answer.{Reaction, gives}
 use Rattle.chip.specs.Inner.{sent, given, Said, said, says}
-use Rattle.link.specs.Link.{port_at, acknowledge_control, reject_control, receive_number, receive_up, number_in, fresh_link, connected_at, looped_at, in_loopback}
-use Rattle.link.specs.Link.{is_connect, is_reset, is_test}
+use Rattle.link.specs.Link.{acknowledge_control, reject_control, receive_number, receive_up, number_in, fresh_link, looped_at, in_loopback, is_connect, is_reset, is_test}
 use Rattle.chip.specs.Request.{requested}
 use Rattle.chip.specs.Frame.{is_reset_frame, reset, acknowledges, commanded, numbered, carried, addressed}
 use Rattle.chip.specs.Group.{group_of_frame}
@@ -88,12 +87,12 @@ module _ (l : Link) (rs : List ℕ) (port : ℕ) (s o : List ℕ) (r : Response)
 
 -- ---- checks 7 and 8
 
-module _ (l : Link) (rs : List ℕ) (port control : ℕ) (s o : List ℕ) (n m : ℕ) (f : n ≡ number_in control) (g : m ≡ receive_number (port_at l port)) where
-  pub next : (x : Said) (k : Link) → n ≡ m → k ≡ receive_up l port → x ≡ says (requested (adapter k rs) s) o → x ≡ says (numbered (adapter l rs) port control s) o
+module _ (l : Link) (rs : List ℕ) (port control : ℕ) (s o : List ℕ) (n m : ℕ) (f : n ≡ number_in control) (g : m ≡ receive_number l) where
+  pub next : (x : Said) (k : Link) → n ≡ m → k ≡ receive_up l → x ≡ says (requested (adapter k rs) s) o → x ≡ says (numbered (adapter l rs) port control s) o
   unfolding numbered
   next x k e h i = simp (eq-eqb _ _ (sym f ∙ e ∙ g), i, h)
 
-  pub rejected : (r : Response) (p : List ℕ) (k : ℕ) → (n ≡ m → ⊥) → k ≡ reject_control (port_at l port) → r ≡ sent l port 2 → p ≡ put 0 (0 ∷ k ∷ []) o
+  pub rejected : (r : Response) (p : List ℕ) (k : ℕ) → (n ≡ m → ⊥) → k ≡ reject_control l → r ≡ sent l port 2 → p ≡ put 0 (0 ∷ k ∷ []) o
       → said r rs p ≡ says (numbered (adapter l rs) port control s) o
   unfolding numbered
   rejected r p k e h i w = simp (ne_eqb _ _ (λ z. e (f ∙ z ∙ sym g)), i, w, h)
@@ -118,7 +117,7 @@ module _ (l : Link) (rs : List ℕ) (port : ℕ) (s o : List ℕ) (t : Bool) (q 
 -- ---- checks 2 to 8
 
 module _ (l : Link) (rs : List ℕ) (port : ℕ) (s o : List ℕ) (t : Bool) (f : t ≡ is_connect (get_or s 1 0)) where
-  pub connects : (r : Response) (p : List ℕ) (m : Link) → t ≡ true → m ≡ connected_at l port
+  pub connects : (r : Response) (p : List ℕ) (m : Link) → t ≡ true → m ≡ fresh_link port
       → ((ts : List ℕ) → said r ts p ≡ says (commanded (adapter l ts) (adapter m ts) port s) o) → said r rs p ≡ says (addressed (adapter l rs) port s) o
   unfolding addressed
   connects r p m e g h = simp (sym f ∙ e, h rs, g)

@@ -87,12 +87,12 @@ told r =
 
 abbrev pub asked : Adapter → List Ask → List (List ℕ)
 asked a [] = []
-asked a (q ∷ qs) = let r = reaction a (framed a.link.primary.receive.0 0x01 q) in told r ∷ asked r.adapter qs
+asked a (q ∷ qs) = let r = reaction a (framed a.link.receive.0 0x01 q) in told r ∷ asked r.adapter qs
 
 -- the state after them
 abbrev pub left : Adapter → List Ask → Adapter
 left a [] = a
-left a (q ∷ qs) = left (reaction a (framed a.link.primary.receive.0 0x01 q)).adapter qs
+left a (q ∷ qs) = left (reaction a (framed a.link.receive.0 0x01 q)).adapter qs
 
 -- ---- rows of document 01's table of commands
 

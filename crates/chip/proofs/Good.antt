@@ -1,5 +1,5 @@
 -- Every event keeps a state good: its fields hold what their machine types hold, and it is in the range of document 01's number 6.
-use Rattle.std.proofs.Common.{ℕ, ◌-◌, ◌≤◌, not, List, subst, arith}
+use Rattle.std.proofs.Common.{ℕ, ◌-◌, ◌≤◌, not, List, subst, arith, lit≤}
 use borrow.Author.Tests.{not-false}
 use Rattle.bits.proofs.Tests.{cond_cases, either}
 use Rattle.channels.proofs.Laws.{RequestBytes, performed_sound, sampled_sound, completed_sound, ended_sound, upset_sound}
@@ -10,7 +10,7 @@ use Rattle.registers.specs.Pins.{interrupts}
 use Rattle.parts.proofs.Laws.{bytes_drop}
 use Rattle.link.specs.Link.{send_up}
 use Rattle.state.specs.State.{Adapter, with_link}
-use Rattle.state.proofs.Good.{Good, powered_good, connected_good, looped_good, send_up_good, receive_up_good, relinked, stored}
+use Rattle.state.proofs.Good.{Good, powered_good, relinked, stored}
 use Rattle.chip.specs.Event.{Event, sample}
 use Rattle.chip.specs.Answer.{Reaction}
 use Rattle.chip.specs.Request.{replies}
@@ -19,17 +19,20 @@ use Rattle.chip.specs.Chip.{on_sample, reaction}
 use Rattle.chip.proofs.EventFits.{EventFits}
 use Rattle.chip.proofs.Steps.{Commanded, connects, resets, tests, Moved, requests, completes, ends, samples, counts, state_cases}
 
+counted_good : (a : Adapter) → Good a → Good (counted a)
+counted_good a g = relinked a _ g g.send (omega arith) g.port
+
 raised_good : (a : Adapter) → Good a → Good (with_link a (send_up a.link))
-raised_good a g = relinked a _ g (send_up_good a.link g.link)
+raised_good a g = relinked a _ g (omega arith) g.receive g.port
 
 commanded_good : (a : Adapter) (port : ℕ) (body : List ℕ) (b : Adapter) → Commanded a port body b → Good a → port ≤ 1 → Good b
-commanded_good a port body b (connects _) g p = relinked a _ g (connected_good a.link port g.link p)
+commanded_good a port body b (connects _) g p = relinked a _ g (lit≤ tt) (lit≤ tt) p
 commanded_good a port body b (resets _) g p = powered_good port _ p
-commanded_good a port body b (tests _) g p = relinked a _ g (looped_good a.link port g.link)
+commanded_good a port body b (tests _) g p = relinked a _ g g.send g.receive g.port
 
 moved_good : (a : Adapter) (e : Event) (b : Adapter) → Moved a e b → Good a → EventFits e → Good b
 moved_good a e b (requests port body _) g f =
-    stored (counted a port) _ (relinked a _ g (receive_up_good a.link port g.link))
+    stored (counted a) _ (counted_good a g)
     (performed_sound a.registers _ g.registers (record { trn = bytes_drop 2 body f.bytes 0; cmd = bytes_drop 2 body f.bytes 3 }))
 moved_good a e b (completes received h) g f = stored a _ g (completed_sound a.registers g.registers received h)
 moved_good a e b (ends channel acknowledge lineLow received t h) g f =

@@ -1,5 +1,5 @@
 -- The chip's laws, for what stands above it.
-use Rattle.std.proofs.Common.{◌≡◌, ℕ, ◌≤◌, Bool, true, false, ◌||◌, eqb, List, [], ◌∷◌, length, sym, refl, ap, subst, arith, eqb-true}
+use Rattle.std.proofs.Common.{◌≡◌, ℕ, ◌≤◌, Bool, true, false, ◌||◌, eqb, ◌⊎◌, List, [], ◌∷◌, length, sym, refl, ap, subst, inl, inr, arith, eqb-true}
 use Rattle.packets.specs.Packets.{address, request_of}
 use Rattle.chip.specs.Event.{Event, frame}
 use Rattle.state.specs.State.{Adapter, adapter, powered_on, with_registers}
@@ -17,7 +17,7 @@ use Rattle.chip.specs.Frame.{is_reset_frame, address_of, control_of, information
 use Rattle.chip.specs.Chip.{reaction, accepted_reset}
 use Rattle.chip.specs.declared.Response.{Response}
 use Rattle.bits.proofs.Tests.{and_left, and_right, or_second}
-use Rattle.chip.proofs.Steps.{Shape, dropped, acknowledged, echoed, rejected}
+use Rattle.chip.proofs.Steps.{Commanded, connects, resets, tests, moved_link, Shape, dropped, acknowledged, echoed, rejected}
 use Rattle.chip.proofs.Steps.{replied, quiet, shapes}
 pub use Rattle.chip.proofs.Bodies.{number_given, OneFrame, one_frame, silent, sendable, frame_bytes}
 pub use Rattle.chip.proofs.Good.{good_stays, sample_good}
@@ -47,6 +47,35 @@ dropped_keeps a e = by (reaction a e) (shapes a e)
     by r (rejected port body h) _ _ = refl
     by r (replied b trn ch err len d m f) l _ = absurd (omega arith)
     by r (quiet b m) _ u = absurd (omega arith)
+
+-- CONNECT and RESET
+abbrev pub ZeroesNumbers : List ℕ → Type 0
+ZeroesNumbers body = (is_connect (control_of body) ≡ true) ⊎ (is_reset_frame body ≡ true)
+
+-- how the send number moves: it stays; a CONNECT or a RESET zeroes it; or a reply or an interrupt goes out with it, and it goes up
+pub data SendMoves (a : Adapter) (e : Event) : Reaction → Type 0 where
+  stays : (r : Reaction) → r.adapter.link.send ≡ a.link.send → SendMoves a e r
+  zeroed : (port : ℕ) (body : List ℕ) → e ≡ frame port body → ZeroesNumbers body → (r : Reaction) → r.adapter.link.send.0 ≡ 0 → SendMoves a e r
+  raised : (b : Adapter) (trn ch err len d : ℕ) → b.link.send ≡ a.link.send → SendMoves a e (replies b trn ch err len d)
+
+command_moves : (a : Adapter) (e : Event) (port : ℕ) (body : List ℕ) → e ≡ frame port body → (b : Adapter) → Commanded a port body b
+    → (s : List ℕ) → SendMoves a e (sends b port s)
+unfolding powered_on
+command_moves a e port body h b (connects c) s = zeroed port body h (inl c) _ refl
+command_moves a e port body h b (resets c) s = zeroed port body h (inr c) _ refl
+command_moves a e port body h b (tests c) s = stays _ refl
+
+-- only replies and interrupts raise the send number, only CONNECT and RESET zero it
+pub send_number_lem : (a : Adapter) (e : Event) → SendMoves a e (reaction a e)
+send_number_lem a e = by (reaction a e) (shapes a e)
+  where
+    by : (r : Reaction) → Shape a e r → SendMoves a e r
+    by r (dropped n l u) = stays (gives a n) refl
+    by r (acknowledged port body h b c) = command_moves a e port body h b c _
+    by r (echoed port body h) = stays _ refl
+    by r (rejected port body h) = stays _ refl
+    by r (replied b trn ch err len d m f) = raised b trn ch err len d (moved_link a e b m).0
+    by r (quiet b m) = stays _ (moved_link a e b m).0
 
 -- ---- judging is performing without storing: a request's number, port and frames are those of its reply from the state as it was
 

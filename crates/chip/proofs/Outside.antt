@@ -21,14 +21,14 @@ use Rattle.chip.specs.Chip.{reaction, accepted_reset}
 use Rattle.chip.specs.Group.{group_of_frame, group_of}
 use Rattle.chip.proofs.Steps.{Commanded, connects, resets, tests, Moved, requests, completes, ends, samples, counts, state_cases}
 
-request_group : (body : List ℕ) → length (information_of body) ≡ 8 → group_for (request_of (information_of body)) ≡ group_of_frame body
+request_group : (body : List ℕ) → eqb (length (information_of body)) 8 ≡ true → group_for (request_of (information_of body)) ≡ group_of_frame body
 unfolding group_of_frame
 request_group body h = simp h
 
 module _ (a : Adapter) (n : length a.registers ≡ size) where
   moved_outside : (e : Event) (b : Adapter) → Moved a e b → SameOutside (group_of e) b.registers a.registers
-  moved_outside e b (requests port body i) =
-      subst (λ (g : Group). SameOutside g b.registers a.registers) (request_group body i.carries.eight) (performed_outside a.registers n (request_of (information_of body)))
+  moved_outside e b (requests port body h) =
+      subst (λ (g : Group). SameOutside g b.registers a.registers) (request_group body h) (performed_outside a.registers n (request_of (information_of body)))
   moved_outside e b (completes received h) = completed_outside a.registers n received
   moved_outside e b (ends channel acknowledge lineLow received t h) = ended_outside a.registers n (channel - first_master) t acknowledge lineLow received
   moved_outside e b (samples levels kind h) = sampled_outside a.registers n levels kind

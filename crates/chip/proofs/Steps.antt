@@ -1,6 +1,6 @@
 -- What an event comes to: the shape of its answer, and beside it what changed of the state. A law about answers goes through the shapes
 -- (`shapes`), a law about the state through what can move it (`state_cases`).
-use Rattle.std.proofs.Common.{◌≡◌, ℕ, ◌+◌, ◌-◌, ◌%◌, ◌^◌, ◌<◌, ◌≤◌, Bool, true, false, cond, not, ◌&&◌, eqb, List, [], ◌∷◌, length, drop, refl, ap₂, mod-lt, arith, lit<, lit≤, eqb-true}
+use Rattle.std.proofs.Common.{◌≡◌, ℕ, ◌+◌, ◌-◌, ◌%◌, ◌^◌, ◌<◌, ◌≤◌, Bool, true, false, cond, not, ◌&&◌, eqb, List, [], ◌∷◌, length, drop, refl, ap₂, mod-lt, arith, lit<, lit≤}
 use borrow.Author.Tests.{not-false}
 use Rattle.bits.proofs.Tests.{cond_cases}
 use Rattle.commands.specs.declared.channel.Channel.TheVariants.{Spi, Gpio, Master}
@@ -29,10 +29,9 @@ use Rattle.numbers.specs.Numbers.{no_frame}
 use Rattle.packets.specs.Packets.{address, request_of}
 use Rattle.state.specs.State.{Adapter, with_link, with_registers}
 use Rattle.chip.specs.Answer.{Reaction, sends, gives}
-use Rattle.link.specs.Link.{port_at, reject_control, acknowledge_control, receive_number, send_up, number_in, is_connect, is_reset, is_test, in_loopback}
-use Rattle.bits.specs.Bits.{bit_of}
+use Rattle.link.specs.Link.{reject_control, acknowledge_control, receive_number, send_up, number_in, is_connect, is_reset, is_test}
 use Rattle.chip.specs.Request.{replies, finished, requested}
-use Rattle.chip.specs.Frame.{Carries, InOrder, is_connect_frame, is_reset_frame, address_of, control_of, information_of, connected, reset, looped, counted, commanded, numbered}
+use Rattle.chip.specs.Frame.{is_reset_frame, address_of, control_of, information_of, connected, reset, looped, counted, commanded, numbered}
 use Rattle.chip.specs.Frame.{carried, addressed, on_frame}
 use Rattle.chip.specs.Chip.{transferred, on_spi, started_by, given_by, transacted, on_i2c, on_sample, on_upset, reaction}
 
@@ -40,7 +39,7 @@ use Rattle.chip.specs.Chip.{transferred, on_spi, started_by, given_by, transacte
 
 -- CONNECT, RESET and TEST
 pub data Commanded (a : Adapter) (port : ℕ) (body : List ℕ) : Adapter → Type 0 where
-  connects : is_connect_frame body ≡ true → Commanded a port body (connected a port)
+  connects : is_connect (control_of body) ≡ true → Commanded a port body (connected a port)
   resets : is_reset_frame body ≡ true → Commanded a port body (reset a port)
   tests : is_test (control_of body) ≡ true → Commanded a port body (looped a port)
 
@@ -50,7 +49,7 @@ left_by a body = perform.performed a.registers (request_of (information_of body)
 
 -- the registers anew, by a request, a completion, a pin sample or an upset
 pub data Moved (a : Adapter) : Event → Adapter → Type 0 where
-  requests : (port : ℕ) (body : List ℕ) → InOrder a port body → Moved a (frame port body) (with_registers (counted a port) (left_by a body))
+  requests : (port : ℕ) (body : List ℕ) → eqb (length (information_of body)) 8 ≡ true → Moved a (frame port body) (with_registers (counted a) (left_by a body))
   completes : (received : List ℕ) → is_busy a.registers Spi ≡ true
       → Moved a (completion (spi received)) (with_registers a (completed a.registers received))
   -- the state before it holds what the end of its start needs; its channel is looked at with the event
@@ -60,13 +59,16 @@ pub data Moved (a : Adapter) : Event → Adapter → Type 0 where
   samples : (levels kind : ℕ) → is_enabled a.registers Gpio ≡ true → Moved a (sample levels kind) (with_registers a (sampled a.registers levels kind))
   counts : Moved a upset (with_registers a (store a.registers Seu ((read a.registers Seu + 1) % 2 ^ 32)))
 
--- none of these moves the active port
+-- none of these moves the send number or the active port
+pub moved_link : (a : Adapter) (e : Event) (b : Adapter) → Moved a e b → (b.link.send ≡ a.link.send) × (b.link.port ≡ a.link.port)
+moved_link a e b (requests port body h) = (refl, refl)
+moved_link a e b (completes received h) = (refl, refl)
+moved_link a e b (ends channel acknowledge lineLow received t h) = (refl, refl)
+moved_link a e b (samples levels kind h) = (refl, refl)
+moved_link a e b counts = (refl, refl)
+
 pub moved_port : (a : Adapter) (e : Event) (b : Adapter) → Moved a e b → b.link.port ≡ a.link.port
-moved_port a e b (requests port body i) = refl
-moved_port a e b (completes received h) = refl
-moved_port a e b (ends channel acknowledge lineLow received t h) = refl
-moved_port a e b (samples levels kind h) = refl
-moved_port a e b counts = refl
+moved_port a e b m = (moved_link a e b m).1
 
 -- ---- the shapes of an answer
 
@@ -85,7 +87,7 @@ pub data Shape (a : Adapter) (e : Event) : Reaction → Type 0 where
       → Shape a e (sends b port (address ∷ acknowledge_control (control_of body) ∷ []))
   -- a loopback's, and SREJ
   echoed : (port : ℕ) (body : List ℕ) → e ≡ frame port body → Shape a e (sends a port body)
-  rejected : (port : ℕ) (body : List ℕ) → e ≡ frame port body → Shape a e (sends a port (address ∷ reject_control (port_at a.link port) ∷ []))
+  rejected : (port : ℕ) (body : List ℕ) → e ≡ frame port body → Shape a e (sends a port (address ∷ reject_control a.link ∷ []))
   -- a reply or an interrupt
   replied : (b : Adapter) (trn ch err len d : ℕ) → Moved a e b → (EventFits e → HeaderBytes trn ch err len)
       → Shape a e (replies b trn ch err len d)
@@ -104,40 +106,25 @@ module _ (a : Adapter) (port : ℕ) (body : List ℕ) where
   unfolding commanded
   of_command_lem b c = search (check, acknowledged)
 
-  of_reply : Moved a (frame port body) (with_registers (counted a port) (left_by a body)) → (r : Reply) → ReplyBytes r
+  of_reply : eqb (length (information_of body)) 8 ≡ true → (r : Reply) → ReplyBytes r
       → Shape a (frame port body)
-      (finished (with_registers (counted a port) (left_by a body)) (request_of (information_of body)).trn (request_of (information_of body)).ch r)
-  of_reply m (Sent err len d) t =
-      replied _ _ _ err len d m (λ f. record { trn = bytes_drop 2 body f.bytes 0; ch = bytes_drop 2 body f.bytes 1; err = t.0; len = t.1 })
-  of_reply m Later t = quiet _ m
+      (finished (with_registers (counted a) (left_by a body)) (request_of (information_of body)).trn (request_of (information_of body)).ch r)
+  of_reply h (Sent err len d) t =
+      replied _ _ _ err len d (requests port body h)
+      (λ f. record { trn = bytes_drop 2 body f.bytes 0; ch = bytes_drop 2 body f.bytes 1; err = t.0; len = t.1 })
+  of_reply h Later t = quiet _ (requests port body h)
 
-  of_request : Moved a (frame port body) (with_registers (counted a port) (left_by a body))
-      → Shape a (frame port body) (requested (counted a port) (drop 2 body))
+  of_request : eqb (length (information_of body)) 8 ≡ true → Shape a (frame port body) (requested (counted a) (drop 2 body))
   unfolding requested
-  of_request m = of_reply m (perform.replied a.registers (request_of (drop 2 body))) (replied_bytes a.registers (request_of (drop 2 body)))
+  of_request h = of_reply h (perform.replied a.registers (request_of (drop 2 body))) (replied_bytes a.registers (request_of (drop 2 body)))
 
-  of_order : Carries a port body → Shape a (frame port body) (numbered a port (control_of body) (drop 2 body))
+  of_order : eqb (length (information_of body)) 8 ≡ true → Shape a (frame port body) (numbered a port (control_of body) (drop 2 body))
   unfolding numbered
-  of_order c =
-      by_test (not (eqb (number_in (control_of body)) (receive_number (port_at a.link port)))) (λ _. rejected port body refl)
-      (λ n. of_request (requests port body (record { carries = c; number = eqb-true _ _ (not-false _ n) })))
+  of_order h = by_test (not (eqb (number_in (control_of body)) (receive_number a.link))) (λ _. rejected port body refl) (λ _. of_request h)
 
-  -- what passed checks 1 to 3 comes as far as check 7 where it passes those between
-  of_carried : address_of body ≡ address → is_connect (control_of body) ≡ false → is_reset (control_of body) ≡ false → is_test (control_of body) ≡ false
-      → bit_of (control_of body) 0 ≡ false → Shape a (frame port body) (carried a port body)
+  of_carried : Shape a (frame port body) (carried a port body)
   unfolding carried
-  of_carried here c r t e = search (check, echoed, order) depth 8
-    where
-      order : in_loopback a.link port ≡ false → eqb port a.link.port ≡ true → eqb (length (information_of body)) 8 ≡ true
-          → Shape a (frame port body) (numbered a port (control_of body) (drop 2 body))
-      order l p n =
-          of_order
-          (record { here = here; no_connect = c; no_reset = r; no_test = t; even = e; not_looped = l; active = eqb-true _ _ p; eight = eqb-true _ _ n })
-
-  of_connect : eqb (address_of body) address ≡ true → is_connect (control_of body) ≡ true → eqb (length (information_of body)) 0 ≡ true
-      → Commanded a port body (connected a port)
-  unfolding is_connect_frame
-  of_connect here h empty = connects (ap₂ ◌&&◌ (ap₂ ◌&&◌ here h) empty)
+  of_carried = search (check, echoed, of_order) depth 8
 
   of_reset : eqb (address_of body) address ≡ true → is_reset (control_of body) ≡ true → eqb (length (information_of body)) 0 ≡ true
       → Commanded a port body (reset a port)
@@ -146,7 +133,7 @@ module _ (a : Adapter) (port : ℕ) (body : List ℕ) where
 
   of_addressed : eqb (address_of body) address ≡ true → Shape a (frame port body) (addressed a port body)
   unfolding addressed
-  of_addressed here = search (check, of_command_lem, of_connect, of_reset, tests, of_carried, eqb-true) depth 8
+  of_addressed here = search (check, of_command_lem, connects, of_reset, tests, of_carried) depth 8
 
   of_frame : Shape a (frame port body) (on_frame a port body)
   unfolding on_frame

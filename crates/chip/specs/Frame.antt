@@ -1,5 +1,5 @@
 -- A frame body on a port: document 01's checks 1 to 8, in order.
-use Rattle.std.specs.Prelude.{◌≡◌, ℕ, Bool, false, cond, not, ◌&&◌, List, [], ◌∷◌, length, drop, ◌==◌, slice_index}
+use Rattle.std.specs.Prelude.{ℕ, Bool, cond, not, ◌&&◌, List, [], ◌∷◌, length, drop, ◌==◌, slice_index}
 use Rattle.numbers.specs.Numbers.{other_address, other_port, other_control, bad_information}
 use Rattle.packets.specs.Packets.{address}
 use Rattle.bits.specs.Bits.{bit_of}
@@ -7,8 +7,7 @@ use Rattle.commands.specs.declared.command.Register.TheVariants.{ChipId}
 use Rattle.registers.specs.Registers.{read}
 use Rattle.state.specs.State.{Adapter, with_link, powered_on}
 use Rattle.chip.specs.Answer.{Reaction, sends, gives}
-use Rattle.link.specs.Link.{port_at, receive_number, receive_up, number_in, reject_control, acknowledge_control, is_connect, is_reset, is_test, connected_at, looped_at}
-use Rattle.link.specs.Link.{in_loopback}
+use Rattle.link.specs.Link.{receive_number, receive_up, number_in, reject_control, acknowledge_control, is_connect, is_reset, is_test, fresh_link, looped_at, in_loopback}
 use Rattle.chip.specs.Request.{requested}
 
 -- The body is address, control and information.
@@ -21,18 +20,15 @@ control_of body = slice_index body 1
 abbrev pub information_of : List ℕ → List ℕ
 information_of body = drop 2 body
 
--- A CONNECT, and a RESET, that every state accepts: the chip's address, the command's control, no information.
-unfoldable pub is_connect_frame : List ℕ → Bool
-is_connect_frame body = address_of body == address && is_connect (control_of body) && length (information_of body) == 0
-
+-- A RESET that every state accepts: the chip's address, RESET's control, no information.
 unfoldable pub is_reset_frame : List ℕ → Bool
 is_reset_frame body = address_of body == address && is_reset (control_of body) && length (information_of body) == 0
 
--- CONNECT makes its port active, zeroes only its own port's pair and ends loopback on both ports.
+-- CONNECT makes its port active, zeroes both numbers and ends loopback on both ports.
 abbrev pub connected : Adapter → ℕ → Adapter
-connected a port = with_link a (connected_at a.link port)
+connected a port = with_link a (fresh_link port)
 
--- RESET makes its port active, zeroes both pairs, ends loopback on both ports and sets all registers and the SEU counter to power-on; the ID stays.
+-- RESET does the same and sets all registers and the SEU counter to power-on; the ID stays.
 abbrev pub reset : Adapter → ℕ → Adapter
 reset a port = powered_on port (read a.registers ChipId)
 
@@ -48,17 +44,16 @@ acknowledges b port control = sends b port (address ∷ acknowledge_control cont
 unfoldable pub commanded : Adapter → Adapter → ℕ → List ℕ → Reaction
 commanded a b port body = cond (not (length (information_of body) == 0)) (gives a bad_information) (acknowledges b port (control_of body))
 
--- the arriving port's receive number up by one
-abbrev pub counted : Adapter → ℕ → Adapter
-counted a port = with_link a (receive_up a.link port)
+-- the receive number up by one
+abbrev pub counted : Adapter → Adapter
+counted a = with_link a (receive_up a.link)
 
--- 7. Bits 3 to 1 of control unlike the arriving port's receive number: the frame is dropped and SREJ goes out.
--- 8. Else that receive number goes up by one modulo 8 and the request is answered.
+-- 7. Bits 3 to 1 of control unlike the receive number: the frame is dropped and SREJ goes out.
+-- 8. Else the receive number goes up by one modulo 8 and the request is answered.
 unfoldable pub numbered : Adapter → ℕ → ℕ → List ℕ → Reaction
 numbered a port control info =
-    let here = port_at a.link port in
-    cond (not (number_in control == receive_number here)) (sends a port (address ∷ reject_control here ∷ []))
-    (requested (counted a port) info)
+    cond (not (number_in control == receive_number a.link)) (sends a port (address ∷ reject_control a.link ∷ []))
+    (requested (counted a) info)
 
 -- 4. A port in loopback sends the body back unchanged; numbers stay.
 -- 5. Port not active: 12.
@@ -83,21 +78,3 @@ addressed a port body =
 -- 1. Address not 0x00: 11.
 unfoldable pub on_frame : Adapter → ℕ → List ℕ → Reaction
 on_frame a port body = cond (not (address_of body == address)) (gives a other_address) (addressed a port body)
-
--- ---- how far a frame comes
-
--- as far as check 7
-pub record Carries (a : Adapter) (port : ℕ) (body : List ℕ) : Type 0 where
-  pub here : address_of body ≡ address
-  pub no_connect : is_connect (control_of body) ≡ false
-  pub no_reset : is_reset (control_of body) ≡ false
-  pub no_test : is_test (control_of body) ≡ false
-  pub even : bit_of (control_of body) 0 ≡ false
-  pub not_looped : in_loopback a.link port ≡ false
-  pub active : port ≡ a.link.port
-  pub eight : length (information_of body) ≡ 8
-
--- and as far as check 8: with the number that its port expects
-pub record InOrder (a : Adapter) (port : ℕ) (body : List ℕ) : Type 0 where
-  pub carries : Carries a port body
-  pub number : number_in (control_of body) ≡ receive_number (port_at a.link port)

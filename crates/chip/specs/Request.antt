@@ -9,7 +9,7 @@ use Rattle.link.specs.Link.{reply_control, send_up}
 use Rattle.state.specs.State.{Adapter, with_link, with_registers}
 use Rattle.chip.specs.Answer.{Reaction, sends, gives}
 
--- A reply or an interrupt leaves on the active port, with that port's pair of numbers; its send number then goes up by one modulo 8.
+-- A reply or an interrupt leaves on the active port; the send number then goes up by one modulo 8.
 unfoldable pub replies : Adapter → ℕ → ℕ → ℕ → ℕ → ℕ → Reaction
 replies a trn ch err len d =
     sends (with_link a (send_up a.link)) a.link.port (reply_body (reply_control a.link) trn ch err len d)

@@ -86,10 +86,10 @@ fn in_order(
     requires output_least_in_bounds { output_least ≤ length output.old }
     ensures { said result registers.new output.new ≡ says (numbered (adapter link registers.old) port control info.now) output.old }
 {
-    if link::number_in(control) == link::receive_number(link, port) {
-        request::request(link::receive_up(link, port), registers, info, output)
+    if link::number_in(control) == link::receive_number(link) {
+        request::request(link::receive_up(link), registers, info, output)
     } else {
-        packets::put_control(output, link::reject_control(link, port));
+        packets::put_control(output, link::reject_control(link));
         answer::send(link, port, NO_INFORMATION)
     }
 }
@@ -129,7 +129,7 @@ fn check_control(
 {
     let control = body[1];
     if link::is_connect(control) {
-        return command(link, link::connect(link, port), port, body, output);
+        return command(link, link::fresh(port), port, body, output);
     }
     if link::is_reset(control) {
         return reset(link, registers, port, body, output);

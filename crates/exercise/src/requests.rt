@@ -66,11 +66,11 @@ pub(crate) fn upset(l: Link, registers: &mut [u8; SIZE]) -> Link
 
 // TRN 0x01, with the frame number that the chip expects.
 pub(crate) fn ask(l: Link, registers: &mut [u8; SIZE], ch: u8, len: u8, cmd: u8, value: u32) -> Link
-    ensures { adapter result registers.new ≡ (reaction (adapter l registers.old) (Event.frame 0 (0x00 ∷ l.primary.receive.0 % 8 * 2 ∷ 0x01 ∷ ch ∷ len ∷ cmd ∷ value / 0x10000 % 0x100 ∷ value / 0x1000000 ∷ value % 0x100 ∷ value / 0x100 % 0x100 ∷ []))).adapter }
+    ensures { adapter result registers.new ≡ (reaction (adapter l registers.old) (Event.frame 0 (0x00 ∷ l.receive.0 % 8 * 2 ∷ 0x01 ∷ ch ∷ len ∷ cmd ∷ value / 0x10000 % 0x100 ∷ value / 0x1000000 ∷ value % 0x100 ∷ value / 0x100 % 0x100 ∷ []))).adapter }
 {
     let body = [
         0x00,
-        l.primary.receive.0 % 8 * 2,
+        l.receive.0 % 8 * 2,
         0x01,
         ch,
         len,

@@ -14,7 +14,8 @@ use lib.ListN.{length, take, drop, length-append, length-take}
 use Rattle.bits.proofs.Tests.{and_left, and_right}
 use Rattle.parts.specs.Parts.{part, put}
 use Rattle.parts.proofs.Laws.{length_put, length_part, part_put_same, part_put_before, part_put_after, put_put}
-use Rattle.journal.specs.Layout.{header, headed, slots_in, slots_of, wrong_length, first_of, kept_of, well_formed, is_small, place_of, slot_at, past, oldest, enlarged}
+use Rattle.journal.specs.declared.Format.{Format}
+use Rattle.journal.specs.Layout.{header, headed, format_of, slots_of, wrong_length, first_of, kept_of, well_formed, is_small, place_of, slot_at, past, oldest, enlarged}
 use Rattle.journal.proofs.Formats.{its_size, only_lengths, of_small, of_large, same_length}
 use Rattle.journal.proofs.Ring.{Well, well_of, of_well, headed_size, headed_slots, headed_well, slot_in}
 
@@ -22,7 +23,7 @@ use Rattle.journal.proofs.Ring.{Well, well_of, of_well, headed_size, headed_slot
 
 module _ (j : List ℕ) (w : Well j) where
   slot_length : (k : ℕ) → length (slot_at j k) ≡ 256
-  slot_length k = length_part _ 256 j (slot_in j (slots_of j) (well_of w) refl (place_of (slots_of j) (first_of j) k) k refl)
+  slot_length k = length_part _ 256 j (slot_in j (format_of (length j)) (well_of w) refl (place_of (slots_of j) (first_of j) k) k refl)
 
   oldest_length : (k : ℕ) → length (oldest k j) ≡ 256 * k
   unfolding oldest
@@ -72,7 +73,7 @@ module _ (j second : List ℕ) (h : well_formed j ≡ true) (s : wrong_length se
       → 1024 + 256 * k + length (take (from + 256 - from) (drop from j)) ≤ length after
   store_room from k after l e = let r = slot_room k l in let n = as_long k after (omega arith) e in simp length-take (omega arith)
 
-  pub copied_one : (slots : ℕ) (from k : ℕ) (after next : List ℕ) → slots ≡ slots_of j → from ≡ place_of slots (first_of j) k → k < kept_of j
+  pub copied_one : (f : Format) (from k : ℕ) (after next : List ℕ) → f ≡ format_of (length j) → from ≡ place_of f.slots (first_of j) k → k < kept_of j
       → after ≡ put 1024 (oldest k j) second → next ≡ put (1024 + 256 * k) (take (from + 256 - from) (drop from j)) after
       → next ≡ put 1024 (oldest (k + 1) j) second
   unfolding part
@@ -111,7 +112,7 @@ module _ (j second : List ℕ) (w : Well j) (s : wrong_length second ≡ false) 
   copied_size = same_length copied second copied_length s
 
   copied_slots : slots_of copied ≡ slots_of second
-  copied_slots = ap slots_in copied_length
+  copied_slots = ap (λ (n : ℕ). (format_of n).slots) copied_length
 
   pub enlarged_length : length (enlarged j second) ≡ length second
   unfolding enlarged copied
@@ -143,7 +144,7 @@ module _ (j second : List ℕ) (w : Well j) (s : wrong_length second ≡ false) 
       let at : place_of (slots_of (enlarged j second)) (first_of (enlarged j second)) (kept_of (enlarged j second) - 1 - i) ≡ 1024 + 256 * k =
       rw (enlarged_slots, enlarged_first, enlarged_kept) (ap (λ (n : ℕ). 1024 + 256 * n) (mod-eq_of_lt few ∙ z)) in
       ap (λ (p : ℕ). part p 256 (enlarged j second)) at
-      ∙ part_put_after 0 (header 0 (kept_of j)) copied (1024 + 256 * k) 256
+      ∙ part_put_after 0 (header (format_of (length copied)) 0 (kept_of j)) copied (1024 + 256 * k) 256
       (omega (arith, copied_length, its_size second s)) (omega arith)
       ∙ in_its_slot j w second (kept_of j) k (omega arith) its_room
 

@@ -29,7 +29,8 @@ use Rattle.chip.specs.Chip.{reaction, accepted_reset}
 use Rattle.chip.specs.Group.{group_of}
 use Rattle.chip.proofs.EventFits.{EventFits}
 use Rattle.chip.proofs.Laws.{outside, good_stays}
-use Rattle.journal.specs.Layout.{slots_in, slots_of, first_of, kept_of, well_formed, place_of, past, first_after, kept_up, pushed}
+use Rattle.journal.specs.declared.Format.{Format}
+use Rattle.journal.specs.Layout.{format_of, slots_of, first_of, kept_of, well_formed, place_of, past, first_after, kept_up, pushed}
 use Rattle.journal.specs.Record.{core_bytes, start_of, many_of, tag_of, last_tag, tagged, group_in, record_of, kept_for, before, restored, sound}
 use Rattle.journal.specs.Inner.{record_most}
 use Rattle.journal.proofs.Pieces.{joined, front_written, over_pieces}
@@ -315,11 +316,11 @@ module _ (s r : List ℕ) (n : length s ≡ state_size) (l : record_most ≤ len
       part_put_apart (start_of its) _ cored p m group_room (subst (λ (w : ℕ). Apart p m (start_of its) w) (sym group_kept) a)
       ∙ part_put_after 0 (part 1 core_bytes r) s p m core_room (omega arith)
 
-  -- the four bytes behind the core, in front of every group
-  pub id_restored : part core_bytes 4 (restored s r) ≡ part core_bytes 4 s
-  id_restored = restored_elsewhere core_bytes 4 (lit≤ tt) (inl (by its))
+  -- bytes 16 to 19, in front of every group
+  pub id_restored : part 16 4 (restored s r) ≡ part 16 4 s
+  id_restored = restored_elsewhere 16 4 (lit≤ tt) (inl (by its))
     where
-      by : (g : Group) → core_bytes + 4 ≤ start_of g
+      by : (g : Group) → 16 + 4 ≤ start_of g
       by Nothing = lit≤ tt
       by (Switched B) = lit≤ tt
       by (Switched C) = lit≤ tt
@@ -407,9 +408,9 @@ module _ (s r : List ℕ) (n : length s ≡ state_size) (l : record_most ≤ len
 
 -- ---- what the journal keeps, and tries
 
-pub keeps_record : (tag first many : ℕ) (s j x : List ℕ) (slots : ℕ) (at next kept : ℕ) → well_formed j ≡ true → length s ≡ state_size
-    → (first + many ≤ state_size) × (1 + core_bytes + many ≤ record_most) → slots ≡ slots_of j → at ≡ place_of slots (first_of j) (kept_of j)
-    → next ≡ first_after slots (first_of j) (kept_of j) → kept ≡ kept_up slots (kept_of j)
+pub keeps_record : (tag first many : ℕ) (s j x : List ℕ) (f : Format) (at next kept : ℕ) → well_formed j ≡ true → length s ≡ state_size
+    → (first + many ≤ state_size) × (1 + core_bytes + many ≤ record_most) → f ≡ format_of (length j) → at ≡ place_of f.slots (first_of j) (kept_of j)
+    → next ≡ first_after f.slots (first_of j) (kept_of j) → kept ≡ kept_up f.slots (kept_of j)
     → x ≡ put 0 (record_of tag first many s) (take (at + record_most - at) (drop at j))
     → set (set (put_mid at (at + record_most - at) j x) 5 next) 6 kept ≡ pushed (record_of tag first many s) j
 keeps_record tag first many s j x f at next kept w n i e q g h p =

@@ -1,7 +1,7 @@
 -- The laws of the ring, for every format of the table: a record pushed is the newest, the others are each one older; one given up, each is one newer.
 -- Assumes nothing.
 use Prim.Native.Nat.{ℕ, suc, ◌+◌, ◌*◌, ◌-◌, ◌/◌, ◌%◌, ◌^◌, min, ◌≤◌, ◌<◌}
-use mathlib.Core.Path.{◌≡◌, refl, sym, ap, subst, ◌∙◌}
+use mathlib.Core.Path.{◌≡◌, refl, sym, ap, ◌∙◌}
 use mathlib.Core.List.{List, ◌++◌}
 use mathlib.Core.Bool.{Bool, true, false, cond, ◌&&◌}
 use mathlib.Core.Logic.{◌⊎◌, inl, inr, ⊎_elim}
@@ -15,7 +15,8 @@ use borrow.Author.Tests.{eq-eqb, ne_eqb, eqb-true, le-leb, leb-true, lt-ltb, ltb
 use Rattle.bits.proofs.Tests.{both, cond_cases}
 use Rattle.parts.specs.Parts.{part, put}
 use Rattle.parts.proofs.Laws.{length_put, length_part, part_put_front, part_put_before, part_put_after, get_d_put_before, part_set}
-use Rattle.journal.specs.Layout.{header, headed, slots_in, slots_of, wrong_length, first_of, kept_of, well_formed, place_of, past, emptied, first_after, kept_up, pushed, lowered}
+use Rattle.journal.specs.declared.Format.{Format}
+use Rattle.journal.specs.Layout.{header, headed, format_of, slots_of, wrong_length, first_of, kept_of, well_formed, place_of, past, emptied, first_after, kept_up, pushed, lowered}
 use Rattle.journal.proofs.Formats.{its_size, some_slots, slots_small, same_length}
 
 -- ---- a well-formed journal, as facts
@@ -25,8 +26,8 @@ pub record Well (j : List ℕ) : Type 0 where
   pub m0 : get_or j 0 0 ≡ 0x53
   pub m1 : get_or j 1 0 ≡ 0x43
   pub m2 : get_or j 2 0 ≡ 0x4A
-  pub v0 : get_or j 3 0 ≡ 3
-  pub v1 : get_or j 4 0 ≡ 0
+  pub v0 : get_or j 3 0 ≡ (format_of (length j)).version % 256
+  pub v1 : get_or j 4 0 ≡ (format_of (length j)).version / 256
   pub first : first_of j < slots_of j
   pub few : kept_of j ≤ slots_of j
 
@@ -65,14 +66,14 @@ of_well j h =
       few = leb-true _ _ q6.1;
     }
 
--- ---- a header
+-- ---- a header of its own format
 
 module _ (kept : ℕ) (j : List ℕ) (s : wrong_length j ≡ false) where
   pub headed_size : length (headed kept j) ≡ length j
-  headed_size = length_put 0 (header 0 kept) j (omega (arith, its_size j s))
+  headed_size = length_put 0 (header (format_of (length j)) 0 kept) j (omega (arith, its_size j s))
 
   pub headed_slots : slots_of (headed kept j) ≡ slots_of j
-  headed_slots = ap slots_in headed_size
+  headed_slots = ap (λ (n : ℕ). (format_of n).slots) headed_size
 
   pub headed_well : kept ≤ slots_of j → Well (headed kept j)
   unfolding put
@@ -83,11 +84,15 @@ module _ (kept : ℕ) (j : List ℕ) (s : wrong_length j ≡ false) where
         m0 = refl;
         m1 = refl;
         m2 = refl;
-        v0 = refl;
-        v1 = refl;
+        v0 = ap (λ (n : ℕ). (format_of n).version % 256) (sym l);
+        v1 = ap (λ (n : ℕ). (format_of n).version / 256) (sym l);
         first = rw headed_slots (some_slots j s);
         few = rw headed_slots few;
       }
+
+-- what the code writes of it
+pub headed_by : (kept : ℕ) (j k : List ℕ) (f : Format) → f ≡ format_of (length j) → k ≡ put 0 (header f 0 kept) j → k ≡ headed kept j
+headed_by kept j k f e p = p ∙ ap (λ (x : Format). put 0 (header x 0 kept) j) e
 
 -- an emptied journal
 pub emptied_slots : (j : List ℕ) → wrong_length j ≡ false → slots_of (emptied j) ≡ slots_of j
@@ -171,7 +176,7 @@ module _ (r j : List ℕ) (w : Well j) (small : length r ≤ 256) where
 
   room : place + 256 ≤ length j
   unfolding place
-  room = subst (λ (n : ℕ). place + 256 ≤ n) (sym (its_size j w.size)) (slot_small (slots_of j) (first_of j + kept_of j) some)
+  room = rw (its_size j w.size) (slot_small (slots_of j) (first_of j + kept_of j) some)
 
   first : ℕ
   first = first_after (slots_of j) (first_of j) (kept_of j)
@@ -193,7 +198,7 @@ module _ (r j : List ℕ) (w : Well j) (small : length r ≤ 256) where
 
   -- so the format stays
   pub pushed_slots : slots_of (pushed r j) ≡ slots_of j
-  pushed_slots = ap slots_in pushed_size
+  pushed_slots = ap (λ (n : ℕ). (format_of n).slots) pushed_size
 
   pushed_byte : (i : ℕ) → i < 5 → get_or (pushed r j) i 0 ≡ get_or j i 0
   unfolding pushed held place first kept
@@ -222,8 +227,8 @@ module _ (r j : List ℕ) (w : Well j) (small : length r ≤ 256) where
         m0 = pushed_byte 0 (omega arith) ∙ w.m0;
         m1 = pushed_byte 1 (omega arith) ∙ w.m1;
         m2 = pushed_byte 2 (omega arith) ∙ w.m2;
-        v0 = pushed_byte 3 (omega arith) ∙ w.v0;
-        v1 = pushed_byte 4 (omega arith) ∙ w.v1;
+        v0 = pushed_byte 3 (omega arith) ∙ rw pushed_size w.v0;
+        v1 = pushed_byte 4 (omega arith) ∙ rw pushed_size w.v1;
         first = rw (pushed_first, pushed_slots) first_small;
         few = rw (pushed_kept, pushed_slots) (omega arith);
       }
@@ -277,9 +282,9 @@ module _ (j : List ℕ) (w : Well j) where
   unfolding lowered
   lowered_size = length-set j 6 (kept_of j - 1)
 
-  -- the slots stay
+  -- the format stays
   pub lowered_slots : slots_of (lowered j) ≡ slots_of j
-  lowered_slots = ap slots_in lowered_size
+  lowered_slots = ap (λ (n : ℕ). (format_of n).slots) lowered_size
 
   pub lowered_kept : kept_of (lowered j) ≡ kept_of j - 1
   unfolding lowered
@@ -292,8 +297,8 @@ module _ (j : List ℕ) (w : Well j) where
         m0 = lowered_byte 0 (λ e. omega arith) ∙ w.m0;
         m1 = lowered_byte 1 (λ e. omega arith) ∙ w.m1;
         m2 = lowered_byte 2 (λ e. omega arith) ∙ w.m2;
-        v0 = lowered_byte 3 (λ e. omega arith) ∙ w.v0;
-        v1 = lowered_byte 4 (λ e. omega arith) ∙ w.v1;
+        v0 = lowered_byte 3 (λ e. omega arith) ∙ rw lowered_size w.v0;
+        v1 = lowered_byte 4 (λ e. omega arith) ∙ rw lowered_size w.v1;
         first = rw (lowered_byte 5 (λ e. omega arith), lowered_slots) w.first;
         few = rw (lowered_kept, lowered_slots) (let h = w.few in omega arith);
       }
@@ -328,70 +333,73 @@ module _ (j : List ℕ) (wrong : Bool) (e : wrong ≡ wrong_length j) where
   pub header_known : (i : ℕ) → wrong ≡ false → i < 1024 → i < length j
   header_known i h l = in_header j i (sym e ∙ h) l
 
-  pub by_header : (slots : ℕ) → wrong ≡ false → slots ≡ slots_of j
+  pub by_header : (f : Format) → wrong ≡ false → f ≡ format_of (length j)
       → (eqb (get_or j 0 0) 0x53
       && eqb (get_or j 1 0) 0x43
       && eqb (get_or j 2 0) 0x4A
-      && eqb (get_or j 3 0) 3
-      && eqb (get_or j 4 0) 0
-      && ltb (first_of j) slots
-      && leb (kept_of j) slots) ≡ well_formed j
+      && eqb (get_or j 3 0) (f.version % 256)
+      && eqb (get_or j 4 0) (f.version / 256)
+      && ltb (first_of j) f.slots
+      && leb (kept_of j) f.slots) ≡ well_formed j
   unfolding well_formed
-  by_header slots h g = simp (sym e ∙ h, g)
+  by_header f h g = simp (sym e ∙ h, g)
 
 pub ruleset forming = (of_wrong_length, header_known, by_header, lit<)
 
 -- what the code reads of a well-formed journal
-module _ (j : List ℕ) (slots : ℕ) (h : well_formed j ≡ true) (e : slots ≡ slots_of j) where
-  pub some_in : 0 < slots
-  some_in = rw e (some_slots j (size_in j h))
+module _ (j : List ℕ) (f : Format) (h : well_formed j ≡ true) (e : f ≡ format_of (length j)) where
+  its_slots : f.slots ≡ slots_of j
+  its_slots = ap (λ (x : Format). x.slots) e
 
-  pub first_in : first_of j < slots
-  first_in = rw e (of_well j h).first
+  pub some_in : 0 < f.slots
+  some_in = rw its_slots (some_slots j (size_in j h))
 
-  pub kept_in : kept_of j ≤ slots
-  kept_in = rw e (of_well j h).few
+  pub first_in : first_of j < f.slots
+  first_in = rw its_slots (of_well j h).first
+
+  pub kept_in : kept_of j ≤ f.slots
+  kept_in = rw its_slots (of_well j h).few
 
   pub kept_byte : kept_of j < 256
-  kept_byte = let h = kept_in in omega (arith, e, slots_small j)
+  kept_byte = let h = kept_in in omega (arith, its_slots, slots_small j)
 
   -- that of the newest, and that of any other
-  pub newest_few : kept_of j - 1 ≤ slots
+  pub newest_few : kept_of j - 1 ≤ f.slots
   newest_few = let h = kept_in in omega arith
 
-  pub any_few : (k : ℕ) → k < kept_of j → k ≤ slots
+  pub any_few : (k : ℕ) → k < kept_of j → k ≤ f.slots
   any_few k l = let h = kept_in in omega arith
 
-  pub slot_in : (at k : ℕ) → at ≡ place_of slots (first_of j) k → at + 256 ≤ length j
+  pub slot_in : (at k : ℕ) → at ≡ place_of f.slots (first_of j) k → at + 256 ≤ length j
   slot_in at k q =
       let l = slot_small (slots_of j) (first_of j + k) (some_slots j (size_in j h)) in
-      let p : at ≡ place_of (slots_of j) (first_of j) k = rw e at q in
+      let p : at ≡ place_of (slots_of j) (first_of j) k = rw its_slots at q in
       omega (arith, its_size j (size_in j h))
 
-  pub end_in : (at k : ℕ) → at ≡ place_of slots (first_of j) k → at + 256 < 2 ^ 64
+  pub end_in : (at k : ℕ) → at ≡ place_of f.slots (first_of j) k → at + 256 < 2 ^ 64
   end_in at k q =
       let l = slot_small (slots_of j) (first_of j + k) (some_slots j (size_in j h)) in
-      let p : at ≡ place_of (slots_of j) (first_of j) k = rw e at q in
+      let p : at ≡ place_of (slots_of j) (first_of j) k = rw its_slots at q in
       omega (arith, slots_small j)
 
-  pub room_in : (at k n : ℕ) → at ≡ place_of slots (first_of j) k → n ≤ 256 → at + n ≤ length j
+  pub room_in : (at k n : ℕ) → at ≡ place_of f.slots (first_of j) k → n ≤ 256 → at + n ≤ length j
   room_in at k n q l = let m = slot_in at k q in omega arith
 
 -- what the code writes of a record more
-pub pushed_by : (r j k : List ℕ) (slots : ℕ) (at first kept : ℕ) → slots ≡ slots_of j → at ≡ place_of slots (first_of j) (kept_of j)
-    → first ≡ first_after slots (first_of j) (kept_of j) → kept ≡ kept_up slots (kept_of j) → k ≡ put at r j
+pub pushed_by : (r j k : List ℕ) (f : Format) (at first kept : ℕ) → f ≡ format_of (length j) → at ≡ place_of f.slots (first_of j) (kept_of j)
+    → first ≡ first_after f.slots (first_of j) (kept_of j) → kept ≡ kept_up f.slots (kept_of j) → k ≡ put at r j
     → set (set k 5 first) 6 kept ≡ pushed r j
 unfolding pushed
 pushed_by r j k f at first kept q e g h p = rw (p, e, g, h, q) refl
 
 -- where the newest stands
-pub newest_at : (j : List ℕ) (at : ℕ) (slots : ℕ) → slots ≡ slots_of j → at ≡ place_of slots (first_of j) (kept_of j - 1)
+pub newest_at : (j : List ℕ) (at : ℕ) (f : Format) → f ≡ format_of (length j) → at ≡ place_of f.slots (first_of j) (kept_of j - 1)
     → at ≡ place_of (slots_of j) (first_of j) (kept_of j - 1)
 newest_at j at f q e = rw (e, q) refl
 
 module _ (j : List ℕ) (at : ℕ) (h : well_formed j ≡ true) (e : at ≡ place_of (slots_of j) (first_of j) (kept_of j - 1)) where
   pub newest_in : (n : ℕ) → n ≤ 256 → at + n ≤ length j
-  newest_in n l = let m = slot_in j (slots_of j) h refl at (kept_of j - 1) e in omega arith
+  newest_in n l = let m = slot_in j (format_of (length j)) h refl at (kept_of j - 1) e in omega arith
 
   pub newest_slot : take (at + 256 - at) (drop at j) ≡ past j 0
   unfolding past part
@@ -404,6 +412,6 @@ module _ (j : List ℕ) (at : ℕ) (h : well_formed j ≡ true) (e : at ≡ plac
 pub length_past : (j : List ℕ) → well_formed j ≡ true → length (past j 0) ≡ 256
 unfolding past
 length_past j h =
-    length_part _ 256 j (slot_in j (slots_of j) h refl (place_of (slots_of j) (first_of j) (kept_of j - 1 - 0)) (kept_of j - 1 - 0) refl)
+    length_part _ 256 j (slot_in j (format_of (length j)) h refl (place_of (slots_of j) (first_of j) (kept_of j - 1 - 0)) (kept_of j - 1 - 0) refl)
 
 pub ruleset journal-needs = (in_journal, some_in, first_in, kept_in, kept_byte, newest_few, any_few, slot_in, end_in, room_in, lit<)

@@ -2,6 +2,7 @@
 use Rattle.std.specs.Prelude.{ℕ, zero, suc, ◌+◌, ◌*◌, ◌-◌, ◌/◌, ◌%◌, min, Bool, not, cond, ◌&&◌, List, [], ◌∷◌, ◌++◌, length, get_or, set, eqb, leb, ltb}
 use Rattle.bits.specs.Table.{Row, row, look}
 use Rattle.parts.specs.Parts.{part, put}
+use Rattle.journal.specs.declared.Format.{Format}
 
 abbrev pub header_bytes : ℕ
 header_bytes = 1024
@@ -9,46 +10,45 @@ header_bytes = 1024
 abbrev pub slot_bytes : ℕ
 slot_bytes = 256
 
--- ---- the sizes: a journal's length decides how many slots it has
+-- ---- the formats: how many slots a journal has, and the version that its header says
 
--- the bytes of a journal with so many
-abbrev pub size_of : ℕ → ℕ
-size_of slots = header_bytes + slot_bytes * slots
+abbrev pub size_of : Format → ℕ
+size_of f = header_bytes + slot_bytes * f.slots
 
--- a row of the table: bytes of this size have so many slots
-abbrev pub sized : ℕ → Row ℕ
-sized slots = row (size_of slots) slots
+-- a row of the table: bytes of a format's size have this format
+abbrev pub sized : Format → Row Format
+sized f = row (size_of f) f
 
--- THE SIZES THAT ARE KNOWN. 17,408 bytes: 64 records. 52,224 bytes: 200 records.
-abbrev pub small : ℕ
-small = 64
+-- THE FORMATS THAT ARE KNOWN, found by a journal's length. 17,408 bytes: 64 records, version 1. 52,224 bytes: 200 records, version 2.
+abbrev pub small : Format
+small = record { slots = 64; version = 1 }
 
-abbrev pub large : ℕ
-large = 200
+abbrev pub large : Format
+large = record { slots = 200; version = 2 }
 
-abbrev pub formats : List (Row ℕ)
+abbrev pub formats : List (Row Format)
 formats = sized small ∷ sized large ∷ []
 
--- the slots of as many bytes; none where no journal has this length
-unfoldable pub slots_in : ℕ → ℕ
-slots_in n = look formats 0 n
+-- of bytes that no row is as long as: one without slots
+abbrev pub no_format : Format
+no_format = record { slots = 0; version = 0 }
+
+-- the format of as many bytes
+unfoldable pub format_of : ℕ → Format
+format_of n = look formats no_format n
 
 -- how many records a journal has room for
 abbrev pub slots_of : List ℕ → ℕ
-slots_of j = slots_in (length j)
+slots_of j = (format_of (length j)).slots
 
--- no journal has this length: the one thing that the emptying call refuses
+-- no format has this length: the one thing that the emptying call refuses
 unfoldable pub wrong_length : List ℕ → Bool
 wrong_length j = eqb (slots_of j) 0
 
 -- ---- the header: the mark SCJ, the version in 16 bits, low byte first, the slot of the oldest record, the kept number
 
--- version 3, in both sizes
-abbrev pub version : ℕ
-version = 3
-
-abbrev pub header : ℕ → ℕ → List ℕ
-header first kept = 0x53 ∷ 0x43 ∷ 0x4A ∷ version % 256 ∷ version / 256 ∷ first ∷ kept ∷ []
+abbrev pub header : Format → ℕ → ℕ → List ℕ
+header f first kept = 0x53 ∷ 0x43 ∷ 0x4A ∷ f.version % 256 ∷ f.version / 256 ∷ first ∷ kept ∷ []
 
 abbrev pub first_of : List ℕ → ℕ
 first_of j = get_or j 5 0
@@ -59,14 +59,15 @@ kept_of j = get_or j 6 0
 -- What 4 refuses is all else: a wrong length, mark, version, a first slot that is none, a kept number over the slots.
 unfoldable pub well_formed : List ℕ → Bool
 well_formed j =
+    let f = format_of (length j) in
     not (wrong_length j)
     && (eqb (get_or j 0 0) 0x53
     && eqb (get_or j 1 0) 0x43
     && eqb (get_or j 2 0) 0x4A
-    && eqb (get_or j 3 0) (version % 256)
-    && eqb (get_or j 4 0) (version / 256)
-    && ltb (first_of j) (slots_of j)
-    && leb (kept_of j) (slots_of j))
+    && eqb (get_or j 3 0) (f.version % 256)
+    && eqb (get_or j 4 0) (f.version / 256)
+    && ltb (first_of j) f.slots
+    && leb (kept_of j) f.slots)
 
 -- What the enlarging call takes: a journal of the small size.
 unfoldable pub is_small : List ℕ → Bool
@@ -93,9 +94,9 @@ oldest (suc k) j = oldest k j ++ slot_at j k
 
 -- ---- what is written
 
--- The header's seven bytes, no other: those of a ring that starts at its first slot.
+-- The header's seven bytes, no other: those of the length's own format, of a ring that starts at its first slot.
 abbrev pub headed : ℕ → List ℕ → List ℕ
-headed kept j = put 0 (header 0 kept) j
+headed kept j = put 0 (header (format_of (length j)) 0 kept) j
 
 -- An empty journal.
 unfoldable pub emptied : List ℕ → List ℕ

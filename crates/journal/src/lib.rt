@@ -5,7 +5,7 @@ mod records;
 ghost use Rattle.std.specs.Prelude.{◌≡◌, true, false, cond, ◌+◌, ◌-◌, ◌%◌, ◌<◌, ◌≤◌, length};
 ghost use Rattle.parts.specs.Parts.{put};
 ghost use Rattle.state.specs.Bytes.{state_size};
-ghost use Rattle.journal.specs.Layout.{header_bytes, slots_in, slots_of, wrong_length, first_of, kept_of, well_formed, is_small, place_of, past};
+ghost use Rattle.journal.specs.Layout.{header_bytes, format_of, slots_of, wrong_length, first_of, kept_of, well_formed, is_small, place_of, past};
 ghost use Rattle.journal.specs.Layout.{headed, emptied, first_after, kept_up, pushed, lowered, oldest, enlarged};
 ghost use Rattle.journal.specs.Inner.{record_most};
 ghost use Rattle.journal.specs.Record.{core_bytes, record_of, kept_for, restored, sound};
@@ -33,35 +33,47 @@ const FIRST: usize = 5;
 
 pub const KEPT: usize = 6;
 
-// The version, in both sizes: its low byte, and its high one.
-const VERSION0: u8 = 3;
+// How many slots a journal has, and the version that its header says.
+#[derive(Drop)]
+struct Format {
+    slots: u8,
+    version: u16,
+}
 
-const VERSION1: u8 = 0;
+const OF_SMALL: Format = Format {
+    slots: 64,
+    version: 1,
+};
 
-// How many slots they have.
-const SMALL_SLOTS: u8 = 64;
+const OF_LARGE: Format = Format {
+    slots: 200,
+    version: 2,
+};
 
-const LARGE_SLOTS: u8 = 200;
+const NONE: Format = Format {
+    slots: 0,
+    version: 0,
+};
 
-// The slots of as many bytes; none where no journal has this length.
-fn slots_in(size: usize) -> u8
-    ensures { result ≡ slots_in size }
+// The format of as many bytes; one without slots where there is none.
+fn format_of(size: usize) -> Format
+    ensures { result ≡ format_of size }
 {
     if size == SMALL {
-        return SMALL_SLOTS;
+        return OF_SMALL;
     }
     if size == LARGE {
-        return LARGE_SLOTS;
+        return OF_LARGE;
     }
-    0
+    NONE
 }
 
 // No journal has this length.
 pub fn is_wrong_length(j: &[u8]) -> bool
     ensures { result ≡ wrong_length j.now }
 {
-    let slots = slots_in(j.len());
-    slots == 0
+    let f = format_of(j.len());
+    f.slots == 0
 }
 
 // Length and header are those of a journal.
@@ -71,14 +83,14 @@ pub fn is_well_formed(j: &[u8]) -> bool
     if is_wrong_length(j) {
         return false;
     }
-    let slots = slots_in(j.len());
+    let f = format_of(j.len());
     let m0 = j[0] == MARK0;
     let m1 = j[1] == MARK1;
     let m2 = j[2] == MARK2;
-    let v0 = j[3] == VERSION0;
-    let v1 = j[4] == VERSION1;
-    let first = j[FIRST] < slots;
-    let kept = j[KEPT] <= slots;
+    let v0 = j[3] == (f.version % 256) as u8;
+    let v1 = j[4] == (f.version / 256) as u8;
+    let first = j[FIRST] < f.slots;
+    let kept = j[KEPT] <= f.slots;
     m0 & m1 & m2 & v0 & v1 & first & kept
 }
 
@@ -97,7 +109,10 @@ fn head(j: &mut [u8], kept: u8)
     requires { wrong_length j.old ≡ false }
     ensures { j.new ≡ headed kept j.old }
 {
-    let header = [MARK0, MARK1, MARK2, VERSION0, VERSION1, 0, kept];
+    let f = format_of(j.len());
+    let v0 = (f.version % 256) as u8;
+    let v1 = (f.version / 256) as u8;
+    let header = [MARK0, MARK1, MARK2, v0, v1, 0, kept];
     parts::store(j, 0, &header);
 }
 
@@ -153,13 +168,13 @@ fn keep_part(j: &mut [u8], s: &[u8], tag: u8, from: usize, many: usize)
     requires many_bound { (from + many ≤ state_size) × (1 + core_bytes + many ≤ record_most) }
     ensures { j.new ≡ pushed (record_of tag from many s.now) j.old }
 {
-    let slots = slots_in(j.len());
+    let f = format_of(j.len());
     let first = j[FIRST];
     let kept = j[KEPT];
-    let at = place(slots, first, kept);
+    let at = place(f.slots, first, kept);
     let end = at + records::MOST;
-    let next = first_after(slots, first, kept);
-    let k = kept_after(slots, kept);
+    let next = first_after(f.slots, first, kept);
+    let k = kept_after(f.slots, kept);
     records::make(s, tag, from, many, &mut j[at..end]);
     j[FIRST] = next;
     j[KEPT] = k;
@@ -182,10 +197,10 @@ fn newest(j: &[u8]) -> usize
     requires j_nonzero { 0 < kept_of j.now }
     ensures { result ≡ place_of (slots_of j.now) (first_of j.now) (kept_of j.now - 1) }
 {
-    let slots = slots_in(j.len());
+    let f = format_of(j.len());
     let first = j[FIRST];
     let kept = j[KEPT];
-    place(slots, first, kept - 1)
+    place(f.slots, first, kept - 1)
 }
 
 // Puts the newest record over the bytes of a state, unless it is damaged. Tells whether it is sound. The journal stays as it is.
@@ -217,12 +232,12 @@ fn copy_kept(j: &[u8], second: &mut [u8])
     requires j_bound { kept_of j.now ≤ slots_of second.old }
     ensures { second.new ≡ put header_bytes (oldest (kept_of j.now) j.now) second.old }
 {
-    let slots = slots_in(j.len());
+    let f = format_of(j.len());
     let first = j[FIRST];
     let kept = j[KEPT];
     let mut k: u8 = 0;
     while k < kept {
-        let from = place(slots, first, k);
+        let from = place(f.slots, first, k);
         let end = from + SLOT_BYTES;
         let to = HEADER_BYTES + SLOT_BYTES * (k as usize);
         parts::store(second, to, &j[from..end]);

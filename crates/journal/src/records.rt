@@ -22,7 +22,7 @@ pub(crate) const MOST: usize = GROUP + SPAN_MOST;
 // The tag of the last group.
 const LAST_TAG: u8 = 3;
 
-// The core that stands at a place. Its eighteen bytes are moved at once, where the compiler has them by value: it cannot tell two lent slices apart.
+// The core that stands at a place. Its sixteen bytes are moved at once, where the compiler has them by value: it cannot tell two lent slices apart.
 fn core_at(b: &[u8], at: usize) -> [u8; CORE]
     requires { at + core_bytes ≤ length b.now }
     ensures { result ≡ part at core_bytes b.now }

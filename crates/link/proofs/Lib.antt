@@ -1,4 +1,3 @@
--- What the code makes of a port, what belongs to which port after a change, and one outcome for each call.
+-- Laws of the link's control field, and one outcome for each call.
 pub mod Laws
-pub mod Ports
 pub mod OneOutcome

@@ -27,9 +27,6 @@ acknowledge_control_one κs a x y s t e f = e ∙ sym f
 pub fresh_one : OneOutcome 0 this.fresh.Kinds.ps this.fresh.Kinds.r this.fresh.Reads.Post
 fresh_one κs a x y s t e f = e ∙ sym f
 
-pub connect_one : OneOutcome 0 this.connect.Kinds.ps this.connect.Kinds.r this.connect.Reads.Post
-connect_one κs a x y s t e f = e ∙ sym f
-
 pub loop_back_one : OneOutcome 0 this.loop_back.Kinds.ps this.loop_back.Kinds.r this.loop_back.Reads.Post
 loop_back_one κs a x y s t e f = e ∙ sym f
 

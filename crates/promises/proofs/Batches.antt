@@ -33,7 +33,7 @@ use Rattle.adapter.proofs.Laws.{recorded_well}
 use Rattle.batch.specs.declared.Sample.{Sample}
 use Rattle.batch.specs.Batch.{event_of, Course, outset, onward, one_by_one, lines_in, bare, answered, some_wrong, verdict, called, done}
 use Rattle.batch.specs.Batch as batches
-use Rattle.batch.proofs.Course.{Shape, quiet, interrupt, sample_shape, port_in_lem}
+use Rattle.batch.proofs.Course.{Shape, quiet, interrupt, sample_shape, port_in}
 use Rattle.batch.proofs.Ran.{dark, wrong_one}
 use Rattle.promises.specs.Runs.{Call, event, batch, Given, Calls, Run, left, is_refusal, batch_refused}
 use Rattle.promises.specs.Runs.{Standing, keeps_sample, keeps, due_state, due_frames, due_batch, Demand3}
@@ -177,7 +177,7 @@ module _ (s j : List ℕ) (list : List Sample) (o : List ℕ) where
       by_shape q (quiet b n z e) zero = absurd (z zero)
       by_shape q (interrupt b control trn ch err len d e) zero =
           let sent = some_sent (link_of s).port (due_frames a before) (reply_body control trn ch err len d) (due_frames r.adapter after) in
-          (sent.0 ∙ sym (port_in_lem s), sent.1)
+          (sent.0 ∙ sym (port_in s), sent.1)
 
       pub of_single_calls : let y = (single-called (by_single_calls s j before).state (by_single_calls s j before).journal (event_of x) (replicate 16 0)).answer in
           y.number ≡ 0 → ((called s j list o).answer.port ≡ y.port) × ((called s j list o).answer.length ≡ y.length)

@@ -45,10 +45,8 @@ use Rattle.commands.specs.Channels.{channel_of, first_master, commands_of, comma
 use Rattle.registers.specs.Registers as registers
 use Rattle.registers.specs.Transfer.{completed}
 use Rattle.registers.specs.Transaction.{ended, end_data}
-use Rattle.link.specs.Link.{port_at, reply_control, send_up, receive_up, receive_number, number_in, is_test, in_loopback, fresh_port, fresh_link, connected_at}
+use Rattle.link.specs.Link.{reply_control, send_up, receive_number, number_in, is_test, in_loopback, fresh_link}
 use Rattle.link.specs.declared.Link.{Link}
-use Rattle.link.specs.declared.Port.{Port}
-use Rattle.link.proofs.Ports.{port_same, port_kept, fresh_at, connected_here}
 use Rattle.packets.specs.Packets.{request_of, request_body, reply_body, byte_of}
 use Rattle.packets.proofs.Laws.{data_round}
 use Rattle.channels.specs.Rows.{is_known, is_enabled, is_busy}
@@ -60,8 +58,8 @@ use Rattle.channels.proofs.Laws.{Own, SameOwn, own_read, others_stay, Sound, Req
 use Rattle.channels.proofs.Owners.{field_own}
 use Rattle.registers.proofs.Laws.{read_same}
 use Rattle.state.specs.State.{Adapter, with_link, with_registers, powered_on, power_on}
-use Rattle.state.specs.Bytes.{state_size, port_image, link_image, link_of, state_bytes, state_in, is_state}
-use Rattle.state.proofs.Good.{GoodPort, Good, ranges, power_on_good}
+use Rattle.state.specs.Bytes.{state_size, link_image, link_of, state_bytes, state_in, is_state}
+use Rattle.state.proofs.Good.{Good, ranges, power_on_good}
 use Rattle.state.proofs.Spelling.{its_range, its_good, state_back, state_bytes_lem}
 use Rattle.chip.proofs.Good.{good_stays}
 use Rattle.chip.specs.Answer.{Reaction, sends, gives as silent, response, laid}
@@ -87,8 +85,7 @@ use Rattle.promises.specs.Runs.{CompletionOfTypes}
 use Rattle.promises.specs.ControlRoom.{request, command}
 use Rattle.promises.specs.Conversation.{cable_of, over_the_wire, written_body, InStep, asked, HasOpen, answer, ReadBack, Waiting, Ends, Ended, AtOnce, Started, Answered}
 use Rattle.promises.proofs.RoundTrip.{round_trip}
-use Rattle.promises.specs.Ports.{InOrder}
-use Rattle.promises.proofs.Errors.{in_order_lem}
+use Rattle.promises.proofs.Errors.{InOrder, in_order_lem}
 use Rattle.promises.proofs.ControlRoom.{known_bytes, entry_channel, entry_command, entry_open, open_to, Taken, request_takes, stays_a_record, closed_is, no_interrupt, zeros, free_among, Six, command_in_order, Commands, command_done}
 use Rattle.promises.proofs.Runs.{fits}
 use Rattle.promises.proofs.Steps.{split}
@@ -222,7 +219,7 @@ numbered_in f l = omega arith
 module _ (r s journal : List ℕ) (port : ℕ) (i : InStep r s journal port) where
   port_range : port ≤ 1
   unfolding state_in
-  port_range = rw i.active (ranges (state_in s) (its_range s i.state)).0.port
+  port_range = rw i.active (ranges (state_in s) (its_range s i.state)).2
 
   order : (trn ch len cmd d : ℕ) → InOrder (state_in s) port (request_body (2 * frame_number r) trn ch len cmd d)
   unfolding state_in
@@ -243,19 +240,19 @@ module _ (r s journal : List ℕ) (port : ℕ) (i : InStep r s journal port) whe
   -- it is answered as the tables say
   request_due : (trn ch len cmd d : ℕ) → d < 2 ^ 32 → let q : Request = record { trn = trn; ch = ch; len = len; cmd = cmd; value = d } in
       reaction (state_in s) (frame port (request_body (2 * frame_number r) trn ch len cmd d))
-      ≡ finished (with_registers (counted (state_in s) port) (performed (state_in s).registers q)) trn ch (replied (state_in s).registers q)
+      ≡ finished (with_registers (counted (state_in s)) (performed (state_in s).registers q)) trn ch (replied (state_in s).registers q)
   unfolding requested
   request_due trn ch len cmd d h =
       in_order_lem (state_in s) port (request_body (2 * frame_number r) trn ch len cmd d) (order trn ch len cmd d)
       ∙ ap
-      (λ (q : Request). finished (with_registers (counted (state_in s) port) (performed (state_in s).registers q)) q.trn q.ch (replied (state_in s).registers q))
+      (λ (q : Request). finished (with_registers (counted (state_in s)) (performed (state_in s).registers q)) q.trn q.ch (replied (state_in s).registers q))
       (read_request (frame_number r) trn ch len cmd d h)
 
   request_passes : (body o : List ℕ) → length body ≡ 10 → 16 ≤ length o → verdict s journal (frame port body) o ≡ Passed
   unfolding verdict in_order
   request_passes body o n l = rw (i.state, i.formed, le-ltb (length o) 16 l, le-ltb 1 port port_range, n) refl
 
-  counted_port : (counted (state_in s) port).link.port ≡ (link_of s).port
+  counted_port : (counted (state_in s)).link.port ≡ (link_of s).port
   unfolding state_in
   counted_port = refl
 
@@ -343,48 +340,34 @@ link_read : (s : List ℕ) → link_of s ≡ (state_in s).link
 unfolding state_in
 link_read s = refl
 
-record OneUp (l m : Link) (port : ℕ) : Type 0 where
-  active : m.port ≡ l.port
-  loopback : in_loopback m port ≡ in_loopback l port
-  receive : receive_number (port_at m port) ≡ (receive_number (port_at l port) + 1) % 8
+record OneUp (l m : Link) : Type 0 where
+  port : m.port ≡ l.port
+  primary : m.primary ≡ l.primary
+  auxiliary : m.auxiliary ≡ l.auxiliary
+  receive : receive_number m ≡ (receive_number l + 1) % 8
 
-counted_up_lem : (l : Link) (port : ℕ) → OneUp l (receive_up l port) port
-counted_up_lem l port =
-    let here = port_same l port _ in
-    record { active = refl; loopback = ap (λ (p : Port). p.loopback) here; receive = ap receive_number here ∙ (omega arith) }
+loops_alike : (l m : Link) (port : ℕ) → m.primary ≡ l.primary → m.auxiliary ≡ l.auxiliary → in_loopback m port ≡ in_loopback l port
+loops_alike l m port e f = rw (e, f) refl
 
--- a reply raises a send number, and no more
-sent_up : (l m : Link) (port : ℕ) → OneUp l m port → OneUp l (send_up m) port
-sent_up l m port u =
-    record {
-      active = u.active;
-      loopback = port_kept (λ (p : Port). p.loopback) m m.port port _ refl ∙ u.loopback;
-      receive = port_kept receive_number m m.port port _ refl ∙ u.receive;
-    }
-
-one_up : (a : Adapter) (port : ℕ) (rs : List ℕ) (trn ch : ℕ) (p : Reply)
-    → OneUp a.link (finished (with_registers (counted a port) rs) trn ch p).adapter.link port
+one_up : (a : Adapter) (rs : List ℕ) (trn ch : ℕ) (p : Reply) → OneUp a.link (finished (with_registers (counted a) rs) trn ch p).adapter.link
 unfolding replies
-one_up a port rs trn ch (Sent err len v) = sent_up a.link (receive_up a.link port) port (counted_up_lem a.link port)
-one_up a port rs trn ch Later = counted_up_lem a.link port
-
-port_bytes : (p : Port) → GoodPort p → AreBytes (port_image p)
-port_bytes p g = let s = g.send in let r = g.receive in each_byte (port_image p) (omega arith, (omega arith, (a_digit p.loopback, tt)))
-  where
-    a_digit : (t : Bool) → digit t < 256
-    a_digit true = lit< tt
-    a_digit false = lit< tt
+one_up a rs trn ch (Sent err len v) = record { port = refl; primary = refl; auxiliary = refl; receive = omega arith }
+one_up a rs trn ch Later = record { port = refl; primary = refl; auxiliary = refl; receive = omega arith }
 
 good_bytes : (a : Adapter) → Good a → AreBytes (state_bytes a)
 unfolding state_bytes
 good_bytes a g =
-    let l = g.link in
+    let s = g.send in
+    let r = g.receive in
+    let p = g.port in
     bytes_append (link_image a.link) a.registers
-    (bytes_append (a.link.port ∷ port_image a.link.primary) (port_image a.link.auxiliary)
-    (bytes_append (a.link.port ∷ []) (port_image a.link.primary) (each_byte (a.link.port ∷ []) (omega (arith, l.port), tt))
-    (port_bytes a.link.primary l.primary))
-    (port_bytes a.link.auxiliary l.auxiliary))
+    (each_byte (link_image a.link)
+    (omega arith, (omega arith, (omega arith, (a_digit a.link.primary.loopback, (a_digit a.link.auxiliary.loopback, tt))))))
     g.registers.fits.bytes
+  where
+    a_digit : (t : Bool) → digit t < 256
+    a_digit true = lit< tt
+    a_digit false = lit< tt
 
 -- ---- THE PROMISE
 
@@ -481,7 +464,7 @@ module _ (way : List ℕ → List ℕ) (brings : (b : List ℕ) → Framable b �
 
     -- the chip after it, but for the send number of a reply
     abbrev after : Adapter
-    after = with_registers (counted (state_in s) port) (performed (state_in s).registers (asked r ch cmd d))
+    after = with_registers (counted (state_in s)) (performed (state_in s).registers (asked r ch cmd d))
 
     due : reaction (state_in s) (frame port body) ≡ finished after (free_trn r) ch (replied (state_in s).registers (asked r ch cmd d))
     due = request_due r s journal port i (free_trn r) ch (len_of (command_at ch cmd)) cmd d fits
@@ -559,9 +542,9 @@ module _ (way : List ℕ → List ℕ) (brings : (b : List ℕ) → Framable b �
         let c = called_done s journal (frame port body) o₂ passes in
         let g = good_after in
         let l : (state_in s).link ≡ link_of s = sym (link_read s) in
-        let m : OneUp (state_in s).link (reaction (state_in s) (frame port body)).adapter.link port =
-        subst (λ (x : Reaction). OneUp (state_in s).link x.adapter.link port) (sym due)
-        (one_up (state_in s) port (performed (state_in s).registers (asked r ch cmd d)) (free_trn r) ch (replied (state_in s).registers (asked r ch cmd d))) in
+        let m : OneUp (state_in s).link (reaction (state_in s) (frame port body)).adapter.link =
+        subst (λ (x : Reaction). OneUp (state_in s).link x.adapter.link) (sym due)
+        (one_up (state_in s) (performed (state_in s).registers (asked r ch cmd d)) (free_trn r) ch (replied (state_in s).registers (asked r ch cmd d))) in
         let w : link_of (called s journal (frame port body) o₂).state ≡ (reaction (state_in s) (frame port body)).adapter.link =
         link_read (called s journal (frame port body) o₂).state ∙ ap (λ (a : Adapter). a.link) left_state in
         record {
@@ -571,13 +554,14 @@ module _ (way : List ℕ → List ℕ) (brings : (b : List ℕ) → Framable b �
           formed =
               subst (λ (x : adapter.Outcome). well_formed x.journal ≡ true) (sym c)
               (well_of (recorded_well s (frame port body) journal (of_well journal i.formed)));
-          active = i.active ∙ sym (ap (λ (x : Link). x.port) w ∙ m.active ∙ ap (λ (x : Link). x.port) l);
+          active = i.active ∙ sym (ap (λ (x : Link). x.port) w ∙ m.port ∙ ap (λ (x : Link). x.port) l);
           unlooped =
               ap (λ (x : Link). in_loopback x port) w
-              ∙ m.loopback ∙ ap (λ (x : Link). in_loopback x port) l ∙ i.unlooped;
+              ∙ loops_alike (state_in s).link (reaction (state_in s) (frame port body)).adapter.link port m.primary m.auxiliary
+              ∙ ap (λ (x : Link). in_loopback x port) l ∙ i.unlooped;
           expected =
-              takes.counts ∙ ap (λ (n : ℕ). (n + 1) % 8) (i.expected ∙ sym (ap (λ (x : Link). receive_number (port_at x port)) l))
-              ∙ sym (ap (λ (x : Link). receive_number (port_at x port)) w ∙ m.receive);
+              takes.counts ∙ ap (λ (n : ℕ). (n + 1) % 8) (i.expected ∙ sym (ap receive_number l))
+              ∙ sym (ap receive_number w ∙ m.receive);
         }
 
     pub in_step_again : let e = frame port (way (written_body (request_written r ch cmd d o₁))) in
@@ -620,7 +604,7 @@ fresh_in_step id journal w =
       formed = w;
       active = sym (ap (λ (l : Link). l.port) (power_on_link id));
       unlooped = ap (λ (l : Link). in_loopback l 0) (power_on_link id);
-      expected = zero_record ∙ sym (ap (λ (l : Link). receive_number (port_at l 0)) (power_on_link id));
+      expected = zero_record ∙ sym (ap receive_number (power_on_link id));
     }
 
 -- A new record, a new adapter and a journal made empty are in step, on port 0.
@@ -650,17 +634,9 @@ anew_six n (inr (inl e)) = inr (inl e)
 anew_six n (inr (inr (inl e))) = inr (inr (inl e))
 anew_six n (inr (inr (inr e))) = inr (inr (inr (inl e)))
 
--- this port active, and anew
-record AnewAt (l : Link) (port : ℕ) : Type 0 where
-  active : l.port ≡ port
-  anew : port_at l port ≡ fresh_port
-
-anew_link : (a : Adapter) (port n : ℕ) → Anew n → AnewAt (reaction a (frame port (0x00 ∷ n ∷ []))).adapter.link port
+anew_link : (a : Adapter) (port n : ℕ) → Anew n → (reaction a (frame port (0x00 ∷ n ∷ []))).adapter.link ≡ fresh_link port
 unfolding reaction on_frame addressed commanded powered_on
-anew_link a port =
-    let connects : AnewAt (connected_at a.link port) port = record { active = refl; anew = connected_here a.link port } in
-    let resets : AnewAt (fresh_link port) port = record { active = refl; anew = fresh_at port port } in
-    anew_cases (λ n. AnewAt (reaction a (frame port (0x00 ∷ n ∷ []))).adapter.link port) connects connects resets resets
+anew_link a port = anew_cases (λ n. (reaction a (frame port (0x00 ∷ n ∷ []))).adapter.link ≡ fresh_link port) refl refl refl refl
 
 module _ (way : List ℕ → List ℕ) (brings : (b : List ℕ) → Framable b → AreBytes b → way b ≡ b) where
   module _ (r s journal : List ℕ) (port control : ℕ) (o₁ o₂ : List ℕ) (ours : is_record r ≡ true) (state : is_state s ≡ true) (bytes : AreBytes s)
@@ -692,20 +668,19 @@ module _ (way : List ℕ → List ℕ) (brings : (b : List ℕ) → Framable b �
         let c = called_done s journal e o₂ command_passes in
         let g : Good (reaction (state_in s) e).adapter =
         good_stays (state_in s) e (its_good s state bytes) (record { port = two; short = lit≤ tt; long = lit≤ tt; bytes = commanding_bytes }) in
-        let w : link_of (called s journal e o₂).state ≡ (reaction (state_in s) e).adapter.link =
+        let w : link_of (called s journal e o₂).state ≡ fresh_link port =
         link_read (called s journal e o₂).state
         ∙ ap (λ (a : Adapter). a.link)
-        (ap (λ (x : adapter.Outcome). state_in x.state) c ∙ state_back (reaction (state_in s) e).adapter g.registers.fits.long) in
-        let n : AnewAt (link_of (called s journal e o₂).state) port =
-        subst (λ (l : Link). AnewAt l port) (sym w) (anew_link (state_in s) port control anew) in
+        (ap (λ (x : adapter.Outcome). state_in x.state) c ∙ state_back (reaction (state_in s) e).adapter g.registers.fits.long)
+        ∙ anew_link (state_in s) port control anew in
         record {
           ours = stays_a_record r (command control o₁) ours;
           state = subst (λ (x : adapter.Outcome). is_state x.state ≡ true) (sym c) (state_bytes_lem (reaction (state_in s) e).adapter g);
           bytes = subst (λ (x : adapter.Outcome). AreBytes x.state) (sym c) (good_bytes (reaction (state_in s) e).adapter g);
           formed = subst (λ (x : adapter.Outcome). well_formed x.journal ≡ true) (sym c) (well_of (recorded_well s e journal (of_well journal formed)));
-          active = sym n.active;
-          unlooped = ap (λ (p : Port). p.loopback) n.anew;
-          expected = done_here.anew (anew_cases (λ n. is_test n ≡ false) refl refl refl refl control anew) ∙ sym (ap receive_number n.anew);
+          active = sym (ap (λ (x : Link). x.port) w);
+          unlooped = ap (λ (x : Link). in_loopback x port) w ∙ cond_cases (λ (t : Bool). t ≡ false) (eqb port 0) (λ _. refl) (λ _. refl);
+          expected = done_here.anew (anew_cases (λ n. is_test n ≡ false) refl refl refl refl control anew) ∙ sym (ap receive_number w);
         }
 
     pub connected_in_step : let e = frame port (way (written_body (command_written r control o₁))) in

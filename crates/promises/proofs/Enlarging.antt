@@ -14,7 +14,7 @@ use Rattle.state.specs.State.{Adapter}
 use Rattle.state.specs.Bytes.{is_state}
 use Rattle.chip.specs.Event.{Event}
 use Rattle.chip.specs.Chip.{accepted_reset}
-use Rattle.journal.specs.Layout.{slots_of, wrong_length, kept_of, well_formed, is_small, past, emptied, enlarged}
+use Rattle.journal.specs.Layout.{slots_of, wrong_length, kept_of, well_formed, is_small, past, format_of, emptied, enlarged}
 use Rattle.journal.specs.Record.{restored, sound}
 use Rattle.journal.proofs.Ring.{Well, well_of, of_well, emptied_well, emptied_kept, headed_size}
 use Rattle.journal.proofs.Enlarged.{small_well, small_length, large_size, large_room, enlarged_well, enlarged_kept, enlarged_past, enlarged_length}
@@ -29,7 +29,7 @@ use Rattle.batch.specs.Batch as batches
 use Rattle.promises.specs.Runs.{Call, event, batch, back, empty, enlarge, is_enlarging, Given, Calls, AllOfTheirTypes, Run, left}
 use Rattle.promises.specs.Runs.{refused, batch_refused, Standing, at_start, keeps_event, keeps_sample, keeps, standing}
 use Rattle.promises.specs.Runs.{state_after, due, due_batch, Demand3}
-use Rattle.promises.specs.Enlarging.{version_in, Agree, small_3, large_3, Damaged, EmptyByLength, Enlarging, Enlarged, Shown, shown}
+use Rattle.promises.specs.Enlarging.{version_in, Agree, version_1, version_2, Damaged, EmptyByLength, Enlarging, Enlarged, Shown, shown}
 use Rattle.promises.specs.Enlarging.{NoneEnlarges, BeforeFive}
 use Rattle.promises.proofs.Formats.{no_other_length}
 use Rattle.promises.proofs.Cases.{enlarge_cases}
@@ -41,15 +41,16 @@ use Rattle.promises.proofs.Steps.{split}
 
 -- ---- length and version
 
-version_of : (j : List ℕ) → Well j → version_in j ≡ 3
-version_of j w = let v0 = w.v0 in let v1 = w.v1 in omega arith
+version_of : (j : List ℕ) (n : ℕ) → Well j → (format_of (length j)).version ≡ n → n < 256 → version_in j ≡ n
+version_of j n w e l = let v0 = w.v0 in let v1 = w.v1 in omega (arith, e)
 
 -- THE LENGTH AND THE VERSION OF A WELL-FORMED JOURNAL AGREE,
 pub agrees : (j : List ℕ) → Well j → Agree j
+unfolding format_of
 agrees j w =
     ⊎_elim
-    (λ (e : length j ≡ 17408). small_3 e (version_of j w))
-    (λ (e : length j ≡ 52224). large_3 e (version_of j w))
+    (λ (e : length j ≡ 17408). version_1 e (version_of j 1 w (ap (λ (n : ℕ). (format_of n).version) e) (omega arith)))
+    (λ (e : length j ≡ 52224). version_2 e (version_of j 2 w (ap (λ (n : ℕ). (format_of n).version) e) (omega arith)))
     (no_other_length j w.size)
 
 -- so any other pair is 4.

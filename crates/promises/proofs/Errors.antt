@@ -6,6 +6,8 @@ use mathlib.Core.List.{List}
 use borrow.Author.Tests.{eq-eqb, eqb-true}
 use lib.Bits.{bit_or}
 use lib.Dec.{eqb}
+use lib.ListN.{length}
+use Rattle.bits.specs.Bits.{bit_of}
 use Rattle.commands.specs.declared.command.Does.{Does}
 use Rattle.commands.specs.declared.command.Does.TheVariants.{Write, Switch, Read, Clear, Start, Transact}
 use Rattle.commands.specs.Field.{Status, master}
@@ -24,13 +26,13 @@ use Rattle.channels.proofs.Laws.{Refused, decoded_cases}
 use Rattle.channels.proofs.Owners.{below_16}
 use Rattle.numbers.specs.Numbers.{no_frame}
 use Rattle.packets.specs.Packets.{request_of}
+use Rattle.link.specs.Link.{receive_number, number_in, in_loopback, is_connect, is_reset, is_test}
 use Rattle.state.specs.State.{Adapter, with_registers}
 use Rattle.chip.specs.Answer.{Reaction, gives}
 use Rattle.chip.specs.Event.{frame}
 use Rattle.chip.specs.Request.{replies, finished, requested}
-use Rattle.chip.specs.Frame.{information_of, counted, numbered, carried, addressed, on_frame}
+use Rattle.chip.specs.Frame.{address_of, control_of, information_of, counted, numbered, carried, addressed, on_frame}
 use Rattle.chip.specs.Chip.{reaction}
-use Rattle.promises.specs.Ports.{InOrder}
 
 -- ---- the answer
 
@@ -96,13 +98,25 @@ requested_ruled a info = ruled a (request_of info)
 
 -- ---- the frame
 
-pub in_order_lem : (a : Adapter) (port : ℕ) (body : List ℕ) → InOrder a port body → reaction a (frame port body) ≡ requested (counted a port) (information_of body)
+-- a frame that comes as far as check 8
+pub record InOrder (a : Adapter) (port : ℕ) (body : List ℕ) : Type 0 where
+  pub addressed : address_of body ≡ 0x00
+  pub no_connect : is_connect (control_of body) ≡ false
+  pub no_reset : is_reset (control_of body) ≡ false
+  pub no_test : is_test (control_of body) ≡ false
+  pub even : bit_of (control_of body) 0 ≡ false
+  pub not_looped : in_loopback a.link port ≡ false
+  pub active : port ≡ a.link.port
+  pub eight : length (information_of body) ≡ 8
+  pub number : number_in (control_of body) ≡ receive_number a.link
+
+pub in_order_lem : (a : Adapter) (port : ℕ) (body : List ℕ) → InOrder a port body → reaction a (frame port body) ≡ requested (counted a) (information_of body)
 unfolding reaction on_frame addressed carried numbered
 in_order_lem a port body i =
     simp (i.addressed, i.no_connect, i.no_reset, i.no_test, i.even, i.not_looped, eq-eqb _ _ i.active, i.eight, eq-eqb _ _ i.number)
 
 -- THE FIRST ERROR: in whatever state, every request is answered with the ERR that `first_error` says, no register changed but for the one, and with
--- no error where it is 0. `counted` is check 8's "the receive number goes up by one", that of the arriving port.
+-- no error where it is 0. `counted` is check 8's "the receive number goes up by one".
 pub first_error_lem : (a : Adapter) (port : ℕ) (body : List ℕ) → InOrder a port body
-    → Ruled (counted a port) (request_of (information_of body)) (first_error a.registers (request_of (information_of body))) (reaction a (frame port body))
-first_error_lem a port body i = rw (in_order_lem a port body i) (requested_ruled (counted a port) (information_of body))
+    → Ruled (counted a) (request_of (information_of body)) (first_error a.registers (request_of (information_of body))) (reaction a (frame port body))
+first_error_lem a port body i = rw (in_order_lem a port body i) (requested_ruled (counted a) (information_of body))

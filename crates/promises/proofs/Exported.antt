@@ -32,7 +32,7 @@ use Rattle.batch.specs.declared.Sample.{Sample}
 use Rattle.batch.specs.declared.Batch.{Batch}
 use Rattle.batch.specs.Batch.{Course, onward, one_by_one}
 use Rattle.batch.specs.Batch as batches
-use Rattle.batch.proofs.Course.{port_in_lem, one_more}
+use Rattle.batch.proofs.Course.{port_in, one_more}
 use Rattle.sca.specs.Adapter.{pack_answer, pack_kept, pack_batch}
 use Rattle.promises.specs.Runs.{Call, event, batch, back, empty, enlarge, Given, Run, left, bare, batch_given, is_refusal, refuses, Demand3}
 use Rattle.promises.specs.Ours.{Handed, given, gives_ours, ours, unpacked, unpacked_kept, gives_exported, exported}
@@ -174,7 +174,7 @@ called_small s j e o =
     event_cases s j e o (λ x. Small x.answer) (λ n r. record { number = refusal_small n r; length = lit< tt; port = lit< tt })
     (λ q.
     let p = passing s j e o Passed (sym q) refl in
-    let l = small_frame (state_in s) e (ranges (state_in s) (its_range s p.state)).0.port p.argument p.body in
+    let l = small_frame (state_in s) e (ranges (state_in s) (its_range s p.state)).2 p.argument p.body in
     record { number = small_given _ (number_given (state_in s) e); length = l.length; port = l.port })
 
 -- a batch sends no more frames than it has samples
@@ -188,10 +188,10 @@ batch_small s j list o =
     (λ q.
     let p = batch_passing s j list o q in
     let few = few_frames list (batches.outset s j) in
-    let port = (ranges (state_in s) (its_range s p.state)).0.port in
+    let port = (ranges (state_in s) (its_range s p.state)).2 in
     either SmallBatch (eqb (length (one_by_one s j list).bodies) 0) _ _
     (record { number = lit< tt; length = lit< tt; port = lit< tt; frames = lit< tt })
-    (record { number = lit< tt; length = lit< tt; port = omega (arith, port, port_in_lem s); frames = omega (arith, few, p.few) }))
+    (record { number = lit< tt; length = lit< tt; port = omega (arith, port, port_in s); frames = omega (arith, few, p.few) }))
 
 pub batch_number : (s j : List ℕ) (list : List Sample) (o : List ℕ) → (batches.called s j list o).answer.number < 256
 batch_number s j list o = (batch_small s j list o).number

@@ -165,7 +165,7 @@ module _ (s : List ℕ) (j : List ℕ) (e : Event) (output : List ℕ) where
       (λ n r h. absurd (false≢true (rw h at r)))
       (λ v h.
       let p = passes v in
-      let f = (sendable (state_in s) e (ranges (state_in s) (its_range s p.state)).0.port (of_types p types)).1 in
+      let f = (sendable (state_in s) e (ranges (state_in s) (its_range s p.state)).2 (of_types p types)).1 in
       laid_alone (reaction (state_in s) e) output (one_frame (state_in s) e) h f p.room)
 
   -- 11 TO 16: OUTPUT AND REGISTERS UNCHANGED, EVENT KEPT. The whole state stays, the event's record joins the journal, and the kept
@@ -239,10 +239,10 @@ back_leaves_a_state s j =
     back_cases s j (λ x. is_refusal x.number ≡ false → is_state x.state ≡ true) (λ n r h. absurd (true≢false (sym r ∙ h)))
     (λ _ _ t h. and_right (leb (get_or (past j 0) 0 0) 3) _ t)
 
--- WHATEVER PAIR A STEP BACK IS HANDED, it leaves the chip's ID: bytes 18 to 21.
-pub back_leaves_the_id : (s j : List ℕ) → part 18 4 (stepped_back s j).state ≡ part 18 4 s
+-- WHATEVER PAIR A STEP BACK IS HANDED, it leaves the chip's ID: bytes 16 to 19.
+pub back_leaves_the_id : (s j : List ℕ) → part 16 4 (stepped_back s j).state ≡ part 16 4 s
 back_leaves_the_id s j =
-    back_cases s j (λ x. part 18 4 x.state ≡ part 18 4 s) (λ _ _. refl)
+    back_cases s j (λ x. part 16 4 x.state ≡ part 16 4 s) (λ _ _. refl)
     (λ h w _. id_restored s (past j 0) (its_length s h) (let l = length_past j w in omega arith))
 
 pub create_leaves_a_state : (s : List ℕ) (id : ℕ) → length s ≡ state_size → id ≤ number.id_most → is_state (created s id).bytes ≡ true

@@ -23,8 +23,6 @@ pub mod Standing
 pub mod KeptNumber
 pub mod Enlarging
 pub mod EnlargingExamples
-pub mod Ports
-pub mod PortExamples
 pub mod Wire
 pub mod AllCases
 pub mod InParts

@@ -30,4 +30,4 @@ module _ (cable output : List ℕ) (least : 24 ≤ length cable) (most : length 
 
   pub answer_comes_back : (a : Adapter) (e : Event) → in_range a ≡ true → EventFits e → Every ComesBack (reaction a e).frames
   answer_comes_back a e ranged typed =
-      every_body (reaction a e).frames (sendable a e (ranges a ranged).0.port typed).1 (frame_bytes a e typed)
+      every_body (reaction a e).frames (sendable a e (ranges a ranged).2 typed).1 (frame_bytes a e typed)

@@ -17,7 +17,7 @@ use Rattle.commands.specs.declared.request.Reply.{Reply}
 use Rattle.commands.specs.declared.request.Reply.TheVariants.{Sent, Later}
 use Rattle.commands.specs.declared.request.Request.{Request}
 use Rattle.registers.specs.Registers.{read}
-use Rattle.link.specs.Link.{port_at, receive_number, in_loopback}
+use Rattle.link.specs.Link.{receive_number, in_loopback}
 use Rattle.packets.specs.Packets.{reply_body}
 use Rattle.state.specs.Bytes.{link_of, state_in, is_state}
 use Rattle.journal.specs.Layout.{well_formed}
@@ -53,7 +53,7 @@ sent_body x = take x.answer.length x.output
 -- ---- "with the number the active, unlooped port expects"
 
 -- A record, and an adapter with its journal, which no call refuses with 6 or 4; the port is the active one, not in loopback, and the record's frame number
--- is that port's receive number.
+-- is the receive number there.
 pub record InStep (r s journal : List ℕ) (port : ℕ) : Type 0 where
   pub ours : is_record r ≡ true
   pub state : is_state s ≡ true
@@ -61,7 +61,7 @@ pub record InStep (r s journal : List ℕ) (port : ℕ) : Type 0 where
   pub formed : well_formed journal ≡ true
   pub active : port ≡ (link_of s).port
   pub unlooped : in_loopback (link_of s) port ≡ false
-  pub expected : frame_number r ≡ receive_number (port_at (link_of s) port)
+  pub expected : frame_number r ≡ receive_number (link_of s)
 
 -- the request, as the chip reads it
 abbrev pub asked : List ℕ → ℕ → ℕ → ℕ → Request

@@ -1,5 +1,5 @@
--- DOCUMENT 02, "TWO HUNDRED STEPS", with the version of "EACH PORT WITH NUMBERS OF ITS OWN": of the two sizes and of the enlarging call, for every
--- input; and of a run that goes on with the enlarged journal, beside the same run with the small one. That 64 and 200 are kept is demand 3's (`Runs`, and `up_to_64`, `up_to_200` in `proofs/KeptNumber`).
+-- DOCUMENT 02, "TWO HUNDRED STEPS": of the two sizes and of the enlarging call, for every input; and of a run that goes on with the enlarged journal,
+-- beside the same run with the small one. That 64 and 200 are kept is demand 3's (`Runs`, and `up_to_64`, `up_to_200` in `proofs/KeptNumber`).
 use Rattle.std.specs.Prelude.{ℕ, ◌+◌, ◌*◌, ◌<◌, ◌≡◌, true, false, List, [], ◌∷◌, ◌↔◌, length, get_or}
 use Rattle.numbers.specs.Numbers as number
 use Rattle.state.specs.State.{Adapter}
@@ -11,18 +11,18 @@ use Rattle.batch.specs.declared.Sample.{Sample}
 use Rattle.batch.specs.Batch as batches
 use Rattle.promises.specs.Runs.{Call, is_enlarging, Given, Calls}
 
--- ---- "Journal records follow, as version 3, in both sizes, the length deciding"
+-- ---- "known by its length and version"
 
 -- the header's version, low byte first
 abbrev pub version_in : List ℕ → ℕ
 version_in j = get_or j 3 0 + 256 * get_or j 4 0
 
 pub data Agree (j : List ℕ) : Type 0 where
-  small_3 : length j ≡ 17408 → version_in j ≡ 3 → Agree j
-  large_3 : length j ≡ 52224 → version_in j ≡ 3 → Agree j
+  version_1 : length j ≡ 17408 → version_in j ≡ 1 → Agree j
+  version_2 : length j ≡ 52224 → version_in j ≡ 2 → Agree j
 
--- "length and version that don't agree are 4", so "versions 1 and 2 are 4": by every call that reads a journal, and nothing changes. Events, batches
--- and steps back first look at the state.
+-- "length and version that don't agree are 4": by every call that reads a journal, and nothing changes. Events, batches and steps back
+-- first look at the state.
 pub record Damaged (j : List ℕ) : Type 0 where
   pub an_event : (s : List ℕ) (e : Event) (output : List ℕ) → is_state s ≡ true → called s j e output ≡ outcome (plain number.bad_journal) s j output
   pub a_batch : (s : List ℕ) (list : List Sample) (output : List ℕ) → is_state s ≡ true
@@ -38,7 +38,7 @@ pub record EmptyByLength (j : List ℕ) : Type 0 where
   pub agree : Agree (made_empty j).bytes
   pub kept : kept_in (made_empty j).bytes ≡ record { number = number.no_frame; kept = 0 }
 
--- ---- "the enlarging call now turns the small size into the large one", "in a second buffer with the same steps kept"
+-- ---- "a call turns one into version 2 in a second buffer with the same steps kept"
 
 pub record Enlarging (j second : List ℕ) : Type 0 where
   -- granted for a small journal and a second buffer of 52,224 bytes, and for nothing else

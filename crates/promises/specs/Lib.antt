@@ -3,7 +3,6 @@ pub mod Calls
 pub mod Runs
 pub mod Ours
 pub mod Enlarging
-pub mod Ports
 pub mod Text
 pub mod Table
 pub mod Batches

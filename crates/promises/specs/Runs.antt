@@ -129,7 +129,7 @@ pub record Standing : Type 0 where
 abbrev pub at_start : ℕ → Standing
 at_start most = record { events = []; number = 0; most = most }
 
--- after the emptying call and after an accepted RESET, goes up by one with each other event not refused, to at most 64, [200 in the large size,]
+-- after the emptying call and after an accepted RESET, goes up by one with each other event not refused, to at most 64, [200 for version 2,]
 abbrev pub keeps_event : Standing → Event → Standing
 keeps_event s e = record { events = e ∷ s.events; number = cond (accepted_reset e) 0 (min s.most (s.number + 1)); most = s.most }
 
@@ -235,8 +235,7 @@ pub record Demand3 (c : Calls) : Type 0 where
   pub refused_at_zero : (r : Run) → (c.kept (left c r)).kept ≡ 0
       → (c.gives (left c r) back ≡ bare number.none_kept []) × (c.leaves (left c r) back ≡ left c r)
   -- that number is zero at the start, after the emptying call and after an accepted RESET, goes up by one with each other event not
-  -- refused, to at most 64, and down by one with each step granted." Document 02: "the length deciding whether 64 or 200 are kept, in demand 3 too."
-  -- (`up_to_64`, `up_to_200`)
+  -- refused, to at most 64, and down by one with each step granted." Document 02: "Demand 3 reads with 200 for version 2." (`up_to_64`, `up_to_200`)
   pub kept : (r : Run) → c.kept (left c r) ≡ record { number = number.no_frame; kept = (standing r).number }
   -- The emptying call is not refused.
   pub empties : (r : Run) → c.gives (left c r) empty ≡ bare number.no_frame []

@@ -1,6 +1,6 @@
 -- The version of the calls that C and Rust link.
 use Rattle.std.specs.Prelude.{ℕ, ◌+◌, ◌*◌}
 
--- 1.6.0, as major << 16 | minor << 8 | patch
+-- 1.5.0, as major << 16 | minor << 8 | patch
 abbrev pub version : ℕ
-version = 65536 * 1 + 256 * 6 + 0
+version = 65536 * 1 + 256 * 5 + 0

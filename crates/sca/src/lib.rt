@@ -19,7 +19,7 @@ use numbers::{BAD_STATE, NO_FRAME};
 use receiver::Received;
 use transmitter::Sent;
 
-const VERSION: u64 = 0x010600;
+const VERSION: u64 = 0x010500;
 
 // A number, in a result of 64 bits.
 fn wide(number: u8) -> u64

@@ -15,10 +15,8 @@ use Rattle.parts.proofs.Laws.{AreBytes, bytes_take, bytes_drop, length_part, put
 use Rattle.commands.specs.declared.command.Register.TheVariants.{ChipId}
 use Rattle.registers.specs.Registers.{size, store, zeroed}
 use Rattle.channels.specs.Starts.{sound_registers}
-use Rattle.link.specs.declared.Link.{Link}
-use Rattle.link.specs.declared.Port.{Port}
-use Rattle.state.specs.State.{Adapter, blank, numbers_in_range, in_range}
-use Rattle.state.specs.Bytes.{link_bytes, state_size, link_image, state_bytes, port_in, link_of, state_in, spelled, is_state}
+use Rattle.state.specs.State.{Adapter, blank, in_range}
+use Rattle.state.specs.Bytes.{link_bytes, state_size, link_image, state_bytes, state_in, spelled, is_state}
 use Rattle.state.proofs.Good.{Good, good, good_ranged}
 
 -- ---- bytes that are a state
@@ -82,16 +80,13 @@ loop_again n h = by (eqb n 1) refl
     by true e = sym (eqb-true n 1 e)
     by false e = let f = eqb-false n 1 e in omega arith
 
-front_seven : (s : List ℕ) → 7 ≤ length s
-    → take 7 s ≡ get_or s 0 0 ∷ get_or s 1 0 ∷ get_or s 2 0 ∷ get_or s 3 0 ∷ get_or s 4 0 ∷ get_or s 5 0 ∷ get_or s 6 0 ∷ []
-front_seven [] h = absurd (omega arith)
-front_seven (x ∷ []) h = absurd (omega arith)
-front_seven (x ∷ y ∷ []) h = absurd (omega arith)
-front_seven (x ∷ y ∷ z ∷ []) h = absurd (omega arith)
-front_seven (x ∷ y ∷ z ∷ t ∷ []) h = absurd (omega arith)
-front_seven (x ∷ y ∷ z ∷ t ∷ u ∷ []) h = absurd (omega arith)
-front_seven (x ∷ y ∷ z ∷ t ∷ u ∷ v ∷ []) h = absurd (omega arith)
-front_seven (x ∷ y ∷ z ∷ t ∷ u ∷ v ∷ w ∷ s) h = refl
+front_five : (s : List ℕ) → 5 ≤ length s → take 5 s ≡ get_or s 0 0 ∷ get_or s 1 0 ∷ get_or s 2 0 ∷ get_or s 3 0 ∷ get_or s 4 0 ∷ []
+front_five [] h = absurd (omega arith)
+front_five (x ∷ []) h = absurd (omega arith)
+front_five (x ∷ y ∷ []) h = absurd (omega arith)
+front_five (x ∷ y ∷ z ∷ []) h = absurd (omega arith)
+front_five (x ∷ y ∷ z ∷ t ∷ []) h = absurd (omega arith)
+front_five (x ∷ y ∷ z ∷ t ∷ u ∷ s) h = refl
 
 pub state_again : (s : List ℕ) → is_state s ≡ true → state_bytes (state_in s) ≡ s
 unfolding state_bytes state_in part
@@ -100,11 +95,11 @@ state_again s h =
     let f = its_spelling s h in
     let l : length (drop link_bytes s) ≡ size = length-drop link_bytes s ∙ (omega arith) in
     rw (
-      loop_again (get_or s 3 0) (leb-true _ 1 (and_left (leb (get_or s 3 0) 1) (leb (get_or s 6 0) 1) f)),
-      loop_again (get_or s 6 0) (leb-true _ 1 (and_right (leb (get_or s 3 0) 1) (leb (get_or s 6 0) 1) f)),
+      loop_again (get_or s 3 0) (leb-true _ 1 (and_left (leb (get_or s 3 0) 1) (leb (get_or s 4 0) 1) f)),
+      loop_again (get_or s 4 0) (leb-true _ 1 (and_right (leb (get_or s 3 0) 1) (leb (get_or s 4 0) 1) f)),
       take_all size (drop link_bytes s) (omega arith),
     )
-    (ap (λ (l : List ℕ). l ++ drop link_bytes s) (sym (front_seven s (omega arith))) ∙ take-append-drop link_bytes s)
+    (ap (λ (l : List ℕ). l ++ drop link_bytes s) (sym (front_five s (omega arith))) ∙ take-append-drop link_bytes s)
 
 -- ---- what the code writes and reads
 
@@ -115,14 +110,10 @@ zeros_over rs n = put_all (replicate size 0) rs (length-replicate {A = ℕ} size
 pub powers_on : (rs ss ts : List ℕ) (id : ℕ) → length rs ≡ size → ss ≡ zeroed 0 size rs → ts ≡ store ss ChipId id → ts ≡ blank id
 powers_on rs ss ts id n e f = simp (f, e, zeros_over rs n)
 
-pub link_in : (s : List ℕ) (p q : Port) → p ≡ port_in s 1 → q ≡ port_in s 4 → record { port = get_or s 0 0; primary = p; auxiliary = q } ≡ link_of s
-link_in s p q e f = rw (e, f) refl
-
-pub is_a_state : (s : List ℕ) (l : Link) (x y z : Bool) → length s ≡ state_size → l ≡ link_of s → x ≡ numbers_in_range l.primary
-    → y ≡ numbers_in_range l.auxiliary → z ≡ sound_registers (take (state_size - link_bytes) (drop link_bytes s))
-    → (leb (get_or s 3 0) 1 && leb (get_or s 6 0) 1 && (x && y && leb l.port 1 && z)) ≡ is_state s
+pub is_a_state : (s : List ℕ) (x : Bool) → length s ≡ state_size → x ≡ sound_registers (take (state_size - link_bytes) (drop link_bytes s))
+    → (leb (get_or s 3 0) 1 && leb (get_or s 4 0) 1 && (leb (get_or s 0 0) 7 && leb (get_or s 1 0) 7 && leb (get_or s 2 0) 1 && x)) ≡ is_state s
 unfolding is_state in_range state_in part
-is_a_state s l x y z n e f g h = simp (eq-eqb (length s) state_size n, f, g, h, e)
+is_a_state s x n e = simp (eq-eqb (length s) state_size n, e)
 
 pub is_no_state : (s : List ℕ) → (length s ≡ state_size → ⊥) → false ≡ is_state s
 unfolding is_state

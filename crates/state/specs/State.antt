@@ -5,7 +5,6 @@ use Rattle.registers.specs.Registers.{size, store}
 use Rattle.channels.specs.Starts.{sound_registers}
 use Rattle.link.specs.Link.{fresh_link}
 use Rattle.link.specs.declared.Link.{Link}
-use Rattle.link.specs.declared.Port.{Port}
 
 pub record Adapter : Type 0 where
   pub link : Link
@@ -19,7 +18,7 @@ adapter l rs = record { link = l; registers = rs }
 abbrev pub blank : ℕ → List ℕ
 blank id = store (replicate size 0) ChipId id
 
--- Power-on with a port active: the numbers of both ports 0, no loopback.
+-- Power-on with a port active: the numbers 0, no loopback.
 unfoldable pub powered_on : ℕ → ℕ → Adapter
 powered_on port id = adapter (fresh_link port) (blank id)
 
@@ -27,16 +26,12 @@ powered_on port id = adapter (fresh_link port) (blank id)
 abbrev pub power_on : ℕ → Adapter
 power_on id = powered_on 0 id
 
--- a link number is at most 7
-abbrev pub numbers_in_range : Port → Bool
-numbers_in_range p = leb p.send.0 7 && leb p.receive.0 7
-
 -- Not one of these, which are what 6 means exactly:
 unfoldable pub in_range : Adapter → Bool
 in_range a =
-    -- a link number over 7, of either port
-    numbers_in_range a.link.primary
-    && numbers_in_range a.link.auxiliary
+    -- a link number over 7
+    leb a.link.send.0 7
+    && leb a.link.receive.0 7
     -- port over 1
     && leb a.link.port 1
     -- ID over 24 bits, or another set bit that reads 0; a disabled SPI, GPIO or I2C register not 0, a GO or a start open with its channel disabled;

@@ -1,12 +1,10 @@
 //! A batch of pin samples on both sides. All that it comes to, and what it leaves in the journal, follows from its samples one by
 //! one.
 
-use super::masks::{masked, Mask};
 use super::{refused, same, same_bytes, Both, Checked, Pair};
 use crate::batches::{Seen, Taken};
 use crate::fault::{BatchFault, Fault};
 use crate::harness::output::Output;
-use crate::journals::Kind;
 use crate::record::CRB;
 use reference::adapter::{self, Journal, Sample, State};
 use reference::numbers::{BAD_ARGUMENT, DONE, FRAME, GPIO_DISABLED, OUT_OF_RANGE};
@@ -130,7 +128,7 @@ impl Both<'_> {
             (FRAME | DONE | BAD_ARGUMENT, Some(state)) => Course::of(state, sound_front(list)),
             _ => Course::of(State::default(), &[]),
         };
-        let seen = Seen {
+        self.tally.batch(&Seen {
             list,
             room,
             journal: found,
@@ -138,17 +136,13 @@ impl Both<'_> {
             taken: &course.taken,
             answer: &expected,
             after: pair.expected.unwrap_or_default(),
-            asked: pair.asked,
-        };
-        self.tally.batch(&seen);
-        self.out_of_range(Kind::Batch, &before, expected.number);
+        });
         let mut answer = self.batch_by_library(pair, list, &expected, &course, ours.lent());
         if refused(expected.number) {
             self.break_refused_batch(pair, &mut answer, &mut ours);
         } else {
             course.same_as(expected, pair.expected, expected_output.lent())?;
             pair.push_samples(&course.taken);
-            pair.returned &= course.taken.is_empty();
             self.break_batch(pair, &mut answer, &mut ours, &course);
         }
         same("the answer", answer, expected)?;
@@ -172,17 +166,11 @@ impl Both<'_> {
         if refused(expected.number) {
             let begins = self.lay_batch(BatchFault::FirstsDone, !course.taken.is_empty());
             let handed = if begins { sound_front(list) } else { list };
-            let mask = self.mask_batch(pair, expected.number, Fault::Batch(BatchFault::ActiveAlone));
-            let answer = masked(mask, pair, |state, journal| {
-                boundary::sca_samples(state, journal, handed, output)
-            });
+            let answer = boundary::sca_samples(&mut pair.state, &mut pair.journal, handed, output);
             return if begins { *expected } else { answer };
         }
         let handed = self.handed(list, course);
-        let other_pair = self.lay_batch(BatchFault::OtherPair, course.answer.frames > 0);
-        let answer = masked(other_pair.then(|| Mask::Swapped), pair, |state, journal| {
-            boundary::sca_samples(state, journal, handed, output)
-        });
+        let answer = boundary::sca_samples(&mut pair.state, &mut pair.journal, handed, output);
         if let Some(records) = self.records_left(course) {
             let mut ring = pair.ring.clone();
             records.iter().for_each(|taken| ring.push(CRB, &taken.before));
@@ -240,7 +228,7 @@ impl Both<'_> {
             *output.bytes.last_mut().unwrap() ^= 1;
         }
         if self.lay_batch(BatchFault::State, true) {
-            pair.state[48] ^= 1;
+            pair.state[46] ^= 1;
         }
         let records = course.taken.len().min(pair.ring.most());
         if self.lay_batch(BatchFault::Record, records > 1) {

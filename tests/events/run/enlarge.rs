@@ -1,11 +1,10 @@
 //! An enlarging on both sides. The independent implementation says its number and what it keeps, docs/JOURNAL.md the
 //! bytes.
 
-use super::masks::masked;
 use super::{same, same_bytes, Both, Checked, Pair};
-use crate::fault::{By, EnlargeFault, Fault};
+use crate::fault::{EnlargeFault, Fault};
 use crate::harness::output::Output;
-use crate::ring::{front, Ring, CURRENT, EARLIER, FIRST, KEPT, LARGE, SLOT, SMALL, VERSION};
+use crate::ring::{front, Ring, FIRST, KEPT, LARGE, SLOT, SMALL, VERSION};
 use reference::adapter;
 use reference::numbers::{BAD_JOURNAL, DONE, SHORT_OUTPUT};
 use sca::{boundary, LARGE_JOURNAL_BYTES};
@@ -19,9 +18,7 @@ fn second(length: usize, held: u32) -> Vec<u8> {
         1 => vec![0xFF; length],
         _ => (0..length).map(any).collect(),
     };
-    // of any version there was
-    let version = [CURRENT, EARLIER[0], EARLIER[1]][held as usize / 4 % 3];
-    let front = front(version, held as u8 % LARGE as u8, LARGE as u8);
+    let front = front(2, held as u8 % LARGE as u8, LARGE as u8);
     if held % 4 == 2 && length > front.len() {
         bytes[..front.len()].copy_from_slice(&front);
     }
@@ -52,13 +49,7 @@ impl Both<'_> {
             before,
             number: 0,
         };
-        let mask = match number {
-            BAD_JOURNAL if pair.ring.most() == SMALL => self.mask_version(By::Enlarging, pair),
-            _ => None,
-        };
-        ours.number = masked(mask, pair, |_, journal| {
-            boundary::sca_enlarge(journal, ours.second.lent())
-        });
+        ours.number = boundary::sca_enlarge(&pair.journal, ours.second.lent());
         let expected = match number {
             DONE => pair.ring.enlarged(&ours.before),
             _ => Ring(ours.before.clone()),
@@ -105,10 +96,8 @@ impl Both<'_> {
         if self.lay_in(EnlargeFault::KeptTooLow, kept > 0) {
             second[KEPT] -= 1;
         }
-        for version in EARLIER {
-            if self.lay_in(EnlargeFault::Version(version), true) {
-                second[VERSION] = version as u8;
-            }
+        if self.lay_in(EnlargeFault::Version, true) {
+            second[VERSION] = 1;
         }
         if self.lay_in(EnlargeFault::FirstKept, first > 0) {
             second[FIRST] = first as u8;

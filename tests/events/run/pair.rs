@@ -4,14 +4,12 @@ use crate::batches::Taken;
 use crate::calls::Call;
 use crate::image::{bytes_of, state_in};
 use crate::journals::{Copied, Found};
-use crate::ports::{Asked, Mark};
 use crate::record::{tag_of_channel, CRB};
 use crate::ring::{Ring, Wrong};
 use crate::tally::Back;
 use reference::adapter::{self, Condition, Journal, Size, State};
 use reference::numbers::{BAD_JOURNAL, DONE};
 use sca::{I2C_FIRST, JOURNAL_BYTES};
-use std::collections::VecDeque;
 
 /// The chip that a run starts with.
 const FIRST_ID: u32 = 0x00_000A;
@@ -35,15 +33,8 @@ pub struct Pair {
     pub in_a_row: usize,
     /// What an enlarging put into the journal, where one made it.
     pub copied: Option<Copied>,
-    /// The journal's bytes were altered, so that `earlier` does not stand for them; and to the other size's length.
+    /// The journal's bytes were altered, so that `earlier` does not stand for them.
     pub altered: bool,
-    pub fitted: bool,
-    /// On which ports what is open was asked for.
-    pub asked: Asked,
-    /// What the newest records are of, the oldest first.
-    pub marks: VecDeque<Mark>,
-    /// The newest call was a step back that made another port active.
-    pub returned: bool,
 }
 
 impl Pair {
@@ -64,10 +55,6 @@ impl Pair {
             in_a_row: 0,
             copied: None,
             altered: false,
-            fitted: false,
-            asked: Asked::default(),
-            marks: VecDeque::new(),
-            returned: false,
         }
     }
 
@@ -82,16 +69,11 @@ impl Pair {
         self.state = bytes;
         self.together = 0;
         self.sampled = 0;
-        self.asked = Asked::default();
-        self.returned = false;
     }
 
     /// Bytes as somebody may have altered them.
     pub fn set_journal(&mut self, bytes: Vec<u8>) {
-        let most = self.ring.most();
         self.ring = Ring(bytes.clone());
-        self.fitted = most > 0 && self.ring.most() > 0 && self.ring.most() != most;
-        self.marks.clear();
         self.journal = bytes;
         self.sampled = 0;
         self.in_a_row = 0;
@@ -114,8 +96,6 @@ impl Pair {
     pub fn empty_ring(&mut self) {
         self.ring.empty();
         self.altered = false;
-        self.fitted = false;
-        self.marks.clear();
         self.together = 0;
         self.sampled = 0;
         self.in_a_row = 0;
@@ -125,17 +105,12 @@ impl Pair {
     /// A second buffer is the journal from now on.
     pub fn enlarge(&mut self, second: Vec<u8>, ring: Ring, earlier: Journal) {
         self.copied = Some(Copied::of(ring.kept()));
-        self.fitted = false;
         self.journal = second;
         self.ring = ring;
         self.earlier = earlier;
     }
 
-    pub fn push(&mut self, tag: u8, before: &State, mark: Mark) {
-        if self.marks.len() == self.ring.most() {
-            self.marks.pop_front();
-        }
-        self.marks.push_back(mark);
+    pub fn push(&mut self, tag: u8, before: &State) {
         if let (true, Some(copied)) = (self.ring.kept() == self.ring.most(), &mut self.copied) {
             copied.give_up_oldest();
         }
@@ -148,16 +123,11 @@ impl Pair {
     /// A record for each sample of a batch.
     pub fn push_samples(&mut self, taken: &[Taken]) {
         let sampled = self.sampled + taken.len();
-        for taken in taken {
-            let mark = self.asked.mark_of_sample(taken);
-            self.push(CRB, &taken.before, mark);
-        }
+        taken.iter().for_each(|taken| self.push(CRB, &taken.before));
         self.sampled = self.ring.kept().min(sampled);
     }
 
     pub fn lower(&mut self) {
-        let mark = self.marks.pop_back().filter(|_| self.together > 0);
-        self.asked = mark.map_or(Asked::default(), |mark| mark.asked);
         if let Some(copied) = &mut self.copied {
             copied.take_back(self.ring.kept());
         }
@@ -188,7 +158,6 @@ impl Pair {
             in_a_row: self.in_a_row,
             copied: self.copied,
             altered: self.altered,
-            fitted: self.fitted,
         }
     }
 

@@ -3,14 +3,19 @@
 use super::{same, same_bytes, Checked, Run};
 use crate::calls::{Call, Lent, Way};
 use crate::fault::Fault;
-use crate::image::{bytes_of, loopback_at, receive_at, send_at, state_in, ACTIVE_AT};
+use crate::image::{bytes_of, state_in};
 use crate::made::refused;
 use crate::queue::Kind;
-use crate::tables::{CONNECT, POLL, RESET, SPI};
+use crate::tables::SPI;
 use reference::adapter::{self, Journal, State};
 use reference::numbers::{DONE, FRAME};
 use sca::boundary::{self, RawAnswer};
 use sca::{JOURNAL_BYTES, STATE_BYTES};
+
+/// Where a state has its receive number, its active port, and its ports' loopback.
+const RECEIVE_AT: usize = 1;
+const ACTIVE_AT: usize = 2;
+const LOOPBACK_AT: usize = 3;
 
 pub enum Event<'a> {
     Frame {
@@ -60,27 +65,16 @@ impl Chip {
     }
 
     pub fn looped(&self, port: u32) -> bool {
-        self.state[loopback_at(port as usize)] != 0
+        self.state[LOOPBACK_AT + port as usize] != 0
     }
 
-    fn active(&self) -> usize {
-        usize::from(self.state[ACTIVE_AT])
-    }
-
-    /// The active port, where the other one has counted too.
-    pub fn beside_other(&self) -> Option<usize> {
-        let (active, other) = (self.active(), 1 - self.active());
-        let counted = self.state[send_at(other)] != 0 || self.state[receive_at(other)] != 0;
-        counted.then(|| active)
-    }
-
-    /// Whether a body has the number that is due on the active port.
+    /// Whether a body has the number that is due.
     pub fn expects(&self, body: &[u8]) -> bool {
         self.expects_number(body[1] >> 1 & 0x07)
     }
 
     pub fn expects_number(&self, number: u8) -> bool {
-        number == self.state[receive_at(self.active())]
+        number == self.state[RECEIVE_AT]
     }
 
     fn by_library(&mut self, event: &Event, output: &mut [u8]) -> RawAnswer {
@@ -154,7 +148,6 @@ impl Run<'_> {
     /// An event on both sides: its number and the body that it sends; nothing where it was refused.
     pub(super) fn event(&mut self, event: &Event, lent: Lent) -> Result<Option<(u8, Vec<u8>)>, String> {
         let (mut ours, mut expected_output) = (lent.output(), lent.output());
-        let before = self.chip.state.clone();
         let mut answer = self.chip.by_library(event, ours.lent());
         let expected = self.chip.by_reference(event, expected_output.lent());
         self.tally.events[usize::from(expected.number)] += 1;
@@ -167,13 +160,10 @@ impl Run<'_> {
             body[2] ^= 1;
         }
         if self.laying.lay(Fault::ChipState, true) {
-            self.chip.state[14] ^= 1;
+            self.chip.state[12] ^= 1;
         }
         if self.laying.lay(Fault::ChipKept, true) {
             self.chip.journal[6] ^= 1;
-        }
-        if let Event::Frame { port, body } = event {
-            self.break_numbers(&before, *port as usize, body);
         }
         self.compared(|| {
             same("the answer", answer, expected)?;
@@ -181,30 +171,6 @@ impl Run<'_> {
             self.chip.left()
         })?;
         Ok(Some((answer.number, body)).filter(|_| !refused(answer.number)))
-    }
-
-    /// The numbers of the port that a frame came on, and of the other one.
-    fn break_numbers(&mut self, before: &[u8], port: usize, body: &[u8]) {
-        let state = &mut self.chip.state;
-        if body.len() < 2 || port > 1 {
-            return;
-        }
-        let (own, others) = (receive_at(port), receive_at(1 - port));
-        let (moved, zeroed) = (before[own] != state[own], [CONNECT, RESET].contains(&(body[1] & !POLL)));
-        let connected = moved && body[1] & !POLL == CONNECT;
-        if self.laying.lay(Fault::ChipConnectKeeps, connected) {
-            state[own] = before[own];
-        }
-        if self
-            .laying
-            .lay(Fault::ChipConnectBoth, connected && before[others] != 0)
-        {
-            state[others] = 0;
-        }
-        if self.laying.lay(Fault::ChipCountsOther, moved && !zeroed) {
-            state[own] = before[own];
-            state[others] = (state[others] + 1) % 8;
-        }
     }
 
     /// What happens to the chip besides frames.

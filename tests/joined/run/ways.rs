@@ -104,9 +104,6 @@ impl Run<'_> {
             self.to_chip.lose_step();
         }
         self.tally.in_step += u64::from(in_step);
-        if let (true, Some(port)) = (in_step, self.chip.beside_other()) {
-            self.tally.in_step_beside[port] += 1;
-        }
         promised("a request in its order has the number that is due", due || !in_step)
     }
 

@@ -1,7 +1,7 @@
 //! The adapter's calls: creation, the five events, pin samples by the batch,
 //! and stepping back through a journal of earlier states, small or large.
 //! An independent implementation, written from document 01 and change
-//! requests 2026-01 to 2026-03 and 2026-05 to 2026-07.
+//! requests 2026-01 to 2026-03, 2026-05 and 2026-06.
 
 use std::collections::VecDeque;
 
@@ -22,12 +22,12 @@ const MOST_SAMPLES: usize = 256;
 /// for as many bodies of ten bytes as a batch can send.
 const BATCH_OUTPUT: usize = 2_560;
 
-/// The sizes that a journal has, both of version 3; its length says which.
+/// The sizes that a journal has; its length says which.
 #[derive(Clone, Copy, PartialEq, Eq, Debug)]
 pub enum Size {
-    /// Keeps 64 steps.
+    /// Version 1.
     Small,
-    /// Keeps 200 steps.
+    /// Version 2.
     Large,
 }
 
@@ -62,7 +62,7 @@ pub enum Condition {
     Whole,
     /// Of neither size's length: even emptying is refused.
     WrongLength,
-    /// Mark or layout is wrong, or the version is not 3, be it 1 or 2: only
+    /// Mark or layout is wrong, or the version is not that of the length: only
     /// emptying mends it.
     WrongLayout,
 }
@@ -448,7 +448,7 @@ fn frame_outcome(state: &mut State, port: u8, body: &[u8]) -> Outcome {
         return Outcome::Nothing(INACTIVE_PORT);
     }
     match <&[u8; 8]>::try_from(information) {
-        Ok(information) => numbered_outcome(state, port, control, information),
+        Ok(information) => numbered_outcome(state, control, information),
         Err(_) => Outcome::Nothing(WRONG_INFORMATION),
     }
 }
@@ -471,7 +471,7 @@ fn command_outcome(state: &mut State, port: u8, control: u8, information: &[u8])
         }
         0x8F | 0x9F => {
             *state = State::power_on(state.id);
-            state.active = port;
+            connect(state, port);
             Outcome::Reset { port, body }
         }
         _ => {
@@ -481,41 +481,38 @@ fn command_outcome(state: &mut State, port: u8, control: u8, information: &[u8])
     }
 }
 
-/// Zeroes the port's own numbers and leaves the other's; loopback ends on both.
 fn connect(state: &mut State, port: u8) {
     state.active = port;
-    state.send[usize::from(port)] = 0;
-    state.receive[usize::from(port)] = 0;
+    state.send = 0;
+    state.receive = 0;
     state.loopback = [false, false];
 }
 
-/// Checks 7 and 8: a numbered frame with a request, by the number that is due
-/// on the port where it arrives.
-fn numbered_outcome(state: &mut State, port: u8, control: u8, information: &[u8; 8]) -> Outcome {
-    let due = &mut state.receive[usize::from(port)];
-    if control >> 1 & 0x07 != *due {
+/// Checks 7 and 8: a numbered frame with a request.
+fn numbered_outcome(state: &mut State, control: u8, information: &[u8; 8]) -> Outcome {
+    if control >> 1 & 0x07 != state.receive {
         return Outcome::Sent {
-            port,
-            body: vec![0x00, 0x0D + 32 * *due],
+            port: state.active,
+            body: vec![0x00, 0x0D + 32 * state.receive],
         };
     }
-    *due = (*due + 1) % 8;
+    state.receive = (state.receive + 1) % 8;
     match request::answer(state, information) {
         Some(reply) => send_reply(state, &reply),
         None => Outcome::Nothing(DONE),
     }
 }
 
-/// A reply or an interrupt leaves on the active port, with its numbers,
-/// whichever port the request came from.
+/// A reply or an interrupt leaves on the active port.
 fn send_reply(state: &mut State, reply: &Reply) -> Outcome {
-    let port = state.active;
-    let send = &mut state.send[usize::from(port)];
-    let control = 2 * *send + 32 * state.receive[usize::from(port)];
-    *send = (*send + 1) % 8;
+    let control = 2 * state.send + 32 * state.receive;
+    state.send = (state.send + 1) % 8;
     let mut body = vec![0x00, control];
     body.extend_from_slice(&reply.information());
-    Outcome::Sent { port, body }
+    Outcome::Sent {
+        port: state.active,
+        body,
+    }
 }
 
 fn completion_outcome(state: &mut State, received: &[u8]) -> Outcome {

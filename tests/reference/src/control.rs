@@ -2,7 +2,7 @@
 //! written, replies and interrupts are read, and a record keeps the
 //! transactions that are open.
 //! An independent implementation, written from document 01 and change
-//! requests 2026-01 to 2026-03 and 2026-05 to 2026-07.
+//! requests 2026-01 to 2026-03, 2026-05 and 2026-06.
 
 use crate::adapter::is_command;
 use crate::numbers::*;

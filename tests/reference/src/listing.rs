@@ -1,6 +1,6 @@
 //! The bench listing: a text of events is played, one line of answer each.
 //! An independent implementation, written from document 01 and change
-//! requests 2026-01 to 2026-03 and 2026-05 to 2026-07.
+//! requests 2026-01 to 2026-03, 2026-05 and 2026-06.
 
 use crate::adapter::{self, Answer, Journal, Size, State};
 use crate::numbers::{FRAME, UNREADABLE};

@@ -1,7 +1,7 @@
 //! The numbers that calls give back, as document 01's table and the change
 //! requests list them.
 //! An independent implementation, written from document 01 and change
-//! requests 2026-01 to 2026-03 and 2026-05 to 2026-07.
+//! requests 2026-01 to 2026-03, 2026-05 and 2026-06.
 
 /// A frame was read or sent.
 pub const FRAME: u8 = 0;

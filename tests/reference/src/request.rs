@@ -1,7 +1,7 @@
 //! Requests and replies: their fields, the error bits and the commands of
 //! every channel.
 //! An independent implementation, written from document 01 and change
-//! requests 2026-01 to 2026-03 and 2026-05 to 2026-07.
+//! requests 2026-01 to 2026-03, 2026-05 and 2026-06.
 
 use crate::state::{is_start, master_place, Gpio, Master, Spi, State};
 use crate::state::{CRB_BITS, CRD_BITS, FIRST_MASTER, INVCOM, LAST_MASTER};

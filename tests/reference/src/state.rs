@@ -1,7 +1,7 @@
 //! The adapter's state: its link numbers, ports and registers, and the exact
 //! list of what is out of range.
 //! An independent implementation, written from document 01 and change
-//! requests 2026-01 to 2026-03 and 2026-05 to 2026-07.
+//! requests 2026-01 to 2026-03, 2026-05 and 2026-06.
 
 /// The SPI channel.
 #[derive(Clone, Copy, PartialEq, Eq, Debug, Default)]
@@ -50,10 +50,10 @@ pub struct Master {
 pub struct State {
     /// The chip ID, 24 bits.
     pub id: u32,
-    /// The send number of each port, 0 to 7; port 0 first.
-    pub send: [u8; 2],
-    /// The receive number of each port, 0 to 7; port 0 first.
-    pub receive: [u8; 2],
+    /// The send number, 0 to 7.
+    pub send: u8,
+    /// The receive number, 0 to 7.
+    pub receive: u8,
     /// The active port: 0 primary, 1 auxiliary.
     pub active: u8,
     /// Which port is in loopback.
@@ -187,13 +187,7 @@ pub fn in_range(state: &State) -> bool {
 }
 
 fn numbers_in_range(state: &State) -> bool {
-    link_numbers_in_range(state) && state.active <= 1 && state.id <= MOST_ID
-}
-
-/// Those of both ports, whichever is active.
-fn link_numbers_in_range(state: &State) -> bool {
-    let mut numbers = state.send.iter().chain(&state.receive);
-    numbers.all(|number| *number <= 7)
+    state.send <= 7 && state.receive <= 7 && state.active <= 1 && state.id <= MOST_ID
 }
 
 fn no_dead_bit_set(state: &State) -> bool {

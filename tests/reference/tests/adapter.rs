@@ -1,7 +1,7 @@
 //! Tests of the adapter's events, refusals and steps back, with journals of
-//! both sizes and link numbers of both ports.
+//! both sizes.
 //! An independent implementation, written from document 01 and change
-//! requests 2026-01 to 2026-03 and 2026-05 to 2026-07.
+//! requests 2026-01 to 2026-03, 2026-05 and 2026-06.
 
 use reference::adapter::*;
 
@@ -14,9 +14,6 @@ struct Bench {
 
 /// Number, port and body of an answer.
 type Given = (u8, u32, Vec<u8>);
-
-/// Send and receive number of each port, port 0 first.
-type Pairs = [(u8, u8); 2];
 
 impl Bench {
     fn new() -> Bench {
@@ -88,16 +85,6 @@ impl Bench {
         kept(&self.journal).1
     }
 
-    fn pairs(&self) -> Pairs {
-        let (send, receive) = (self.state.send, self.state.receive);
-        [(send[0], receive[0]), (send[1], receive[1])]
-    }
-
-    /// Send and receive number of the active port.
-    fn active_pair(&self) -> (u8, u8) {
-        self.pairs()[usize::from(self.state.active)]
-    }
-
     /// Sends a request in sequence on the active port; gives the answer.
     fn request(
         &mut self,
@@ -108,7 +95,7 @@ impl Bench {
         data: u32,
     ) -> Given {
         let [d0, d1, d2, d3] = data.to_le_bytes();
-        let control = 2 * self.active_pair().1;
+        let control = 2 * self.state.receive;
         let port = u32::from(self.state.active);
         let fields = [
             0,
@@ -127,12 +114,14 @@ impl Bench {
 
     /// Sends a request and gives ERR, LEN and data of its reply.
     fn ask(&mut self, channel: u8, length: u8, command: u8, data: u32) -> (u8, u8, u32) {
-        let (send, receive) = self.active_pair();
+        let send = self.state.send;
         let (number, port, body) = self.request(0x5A, channel, length, command, data);
         assert_eq!((number, port), (0, u32::from(self.state.active)));
-        let after = ((send + 1) % 8, (receive + 1) % 8);
-        assert_eq!(body[..4], [0, 2 * send + 32 * after.1, 0x5A, channel]);
-        assert_eq!(self.active_pair(), after);
+        assert_eq!(
+            body[..4],
+            [0, 2 * send + 32 * self.state.receive, 0x5A, channel]
+        );
+        assert_eq!(self.state.send, (send + 1) % 8);
         (
             body[4],
             body[5],
@@ -285,7 +274,7 @@ fn frame_checks_in_order() {
     assert_eq!(bench.kept(), 7);
     assert_eq!(bench.state, Bench::new().state);
     assert_eq!(bench.frame(0, &request).0, 0);
-    assert_eq!(bench.pairs(), [(1, 1), (0, 0)]);
+    assert_eq!((bench.state.send, bench.state.receive), (1, 1));
     // Bits 7 to 4 of control are not read.
     assert_eq!(bench.frame(0, &[0, 0xF2, 1, 0, 2, 3, 0, 0, 0, 0]).0, 0);
 }
@@ -318,7 +307,10 @@ fn loopback_sends_bodies_back() {
     assert_eq!(bench.state.loopback, [true, true]);
     bench.frame(1, &CONNECT);
     assert_eq!(bench.state.loopback, [false, false]);
-    assert_eq!((bench.state.active, bench.pairs()), (1, [(1, 1), (0, 0)]));
+    assert_eq!(
+        (bench.state.active, bench.state.send, bench.state.receive),
+        (1, 0, 0)
+    );
 }
 
 #[test]
@@ -748,7 +740,7 @@ fn refusals_in_order_change_nothing() {
 
 fn refusals_of_a_damaged_journal(size: Size) {
     let bad = State {
-        send: [8, 0],
+        send: 8,
         ..State::default()
     };
     for condition in [Condition::WrongLength, Condition::WrongLayout] {
@@ -827,8 +819,8 @@ fn ranges() {
     };
     let good = [
         State {
-            send: [7, 7],
-            receive: [7, 7],
+            send: 7,
+            receive: 7,
             active: 1,
             loopback: [true; 2],
             ..State::default()
@@ -861,19 +853,11 @@ fn ranges() {
     good.iter().for_each(|state| assert!(in_range(state)));
     let bad = [
         State {
-            send: [8, 0],
+            send: 8,
             ..State::default()
         },
         State {
-            send: [0, 8],
-            ..State::default()
-        },
-        State {
-            receive: [8, 0],
-            ..State::default()
-        },
-        State {
-            receive: [0, 8],
+            receive: 8,
             ..State::default()
         },
         State {
@@ -990,7 +974,8 @@ fn a_masters_registers_in_their_places() {
 #[test]
 fn the_bytes_of_a_word_go_out_in_the_order_of_figure_4_4() {
     let mut bench = Bench::ready();
-    assert_eq!(bench.pairs(), [(3, 3), (0, 0)]);
+    let numbers = (bench.state.receive, bench.state.send);
+    assert_eq!(numbers, (3, 3));
     // BYTE0 11, BYTE1 22, BYTE2 33, BYTE3 44.
     let write = [0, 6, 0x31, 0x10, 4, 0x40, 0x22, 0x11, 0x44, 0x33];
     let wrote = vec![0, 0x86, 0x31, 0x10, 0, 0, 0, 0, 0, 0];
@@ -1056,7 +1041,7 @@ fn every_start_with_every_acknowledge_and_line() {
                 *bench.master(channel) = full_master(invcom);
                 bench.start(0xC3, channel, wanted, command);
                 // Three requests were answered, the start had no reply.
-                assert_eq!(bench.pairs(), [(3, 4), (0, 0)]);
+                assert_eq!((bench.state.send, bench.state.receive), (3, 4));
                 let answer = bench.i2c(channel, acknowledge, line_low, &received[..count]);
                 let success = status == 0x04;
                 let byte = match takes {
@@ -1067,8 +1052,8 @@ fn every_start_with_every_acknowledge_and_line() {
                 let body = vec![0, 0x86, 0xC3, channel, 0, given, byte, status, 0, 0];
                 assert_eq!(answer, (0, 0, body));
                 let mut after = Bench::ready().state;
-                after.send = [4, 0];
-                after.receive = [4, 0];
+                after.send = 4;
+                after.receive = 4;
                 let data = match (takes, success, count) {
                     (Takes::Bytes, true, 0) => *b"\0\0\0\0\0FGHIJKLMNOP",
                     (Takes::Bytes, true, 1) => *b"a\0\0\0\0FGHIJKLMNOP",
@@ -1312,10 +1297,10 @@ fn connect_keeps_a_start_and_reset_drops_it() {
         assert_eq!(bench.state.masters, open);
         let mut reset = bench.clone();
         // The reply leaves on the active port, in loopback too, with the
-        // numbers that CONNECT zeroed there.
+        // numbers that CONNECT zeroed.
         let body = vec![0, 0, 0x42, 0x0D, 0, given, 0, 0x40, 0, 0];
         assert_eq!(bench.i2c(0x0D, 0, 0, &[5]), (0, 1, body));
-        assert_eq!(bench.pairs(), [(3, 4), (1, 0)]);
+        assert_eq!((bench.state.send, bench.state.receive), (1, 0));
         assert_eq!(reset.frame(0, &RESET), (0, 0, vec![0, 0x63]));
         assert_eq!(reset.state, Bench::new().state);
         assert_eq!((reset.kept(), reset.back()), (0, 5));
@@ -1572,8 +1557,11 @@ fn random_frame(chance: &mut Chance, state: &State) -> Event {
             table.retain(|row| (0x03..=0x12).contains(&row.0) == i2c);
             let row = table[chance.below(table.len() as u64) as usize];
             let wrong = u8::from(chance.below(20) == 0);
-            let due = state.receive[usize::from(state.active)];
-            let mut body = vec![0, 2 * ((due + wrong) % 8), 1 + chance.below(254) as u8];
+            let mut body = vec![
+                0,
+                2 * ((state.receive + wrong) % 8),
+                1 + chance.below(254) as u8,
+            ];
             body.extend([row.0, row.2 + u8::from(chance.below(20) == 0), row.1]);
             body.extend((0..4).map(|_| chance.next() as u8));
             if row.0 == 0 {
@@ -1705,7 +1693,7 @@ impl Bench {
         bench.ask(2, 4, 0x40, 0x1);
         bench.ask(2, 4, 0x70, 0xDEAD_BEEF);
         bench.ask(2, 4, 0x60, 1);
-        assert_eq!(bench.pairs(), [(6, 6), (0, 0)]);
+        assert_eq!((bench.state.send, bench.state.receive), (6, 6));
         assert_eq!(bench.kept(), 6);
         bench
     }
@@ -1718,7 +1706,7 @@ impl Bench {
         bench.ask(2, 4, 0x40, inttrig);
         bench.ask(2, 4, 0x70, 0xDEAD_BEEF);
         bench.ask(2, 4, 0x60, intenable);
-        assert_eq!(bench.pairs(), [(6, 6), (0, 0)]);
+        assert_eq!((bench.state.send, bench.state.receive), (6, 6));
         bench
     }
 }
@@ -1835,7 +1823,7 @@ impl Bench {
         bench.ask(2, 4, 0x40, 0x00F0_0FF0);
         bench.ask(2, 4, 0x70, 0xDEAD_BEEF);
         bench.ask(2, 4, 0x60, 1);
-        assert_eq!(bench.pairs(), [(0, 0), (1, 2)]);
+        assert_eq!((bench.state.send, bench.state.receive), (1, 2));
         assert_eq!(bench.kept(), 11);
         bench
     }
@@ -1856,7 +1844,7 @@ fn a_batch_byte_by_byte() {
     };
     // Nine frames on, the send number went from 1 over 0 to 2.
     let after = State {
-        send: [0, 2],
+        send: 2,
         gpio,
         ..before
     };
@@ -1886,7 +1874,7 @@ fn every_front_part_of_a_batch() {
         assert_eq!(bodies, MIXED_BODIES[..usize::from(frames)]);
         let gpio = (bench.state.gpio.datain, bench.state.gpio.ints);
         assert_eq!(gpio, (datain, ints));
-        assert_eq!(bench.state.send, [0, (1 + frames) % 8]);
+        assert_eq!(bench.state.send, (1 + frames) % 8);
         assert_eq!(bench.kept(), 11 + count);
     }
 }
@@ -1899,15 +1887,11 @@ fn a_batch_leaves_on_the_active_port_in_loopback() {
         bench.frame(port, &TEST);
         let (answer, bodies) = bench.batch(&list(&[(0x0000_0001, 0), (0x8000_0001, 0)]));
         assert_eq!(answer, batch_sent(port, 2, 2));
-        // CONNECT zeroed the port's numbers.
+        // CONNECT zeroed the numbers.
         let first = [0, 0, 0xFF, 2, 0, 4, 0, 0, 1, 0];
         let second = [0, 2, 0xFF, 2, 0, 4, 0, 0x80, 0, 0];
         assert_eq!(bodies, [first, second]);
-        let pairs = match port {
-            0 => [(2, 0), (0, 0)],
-            _ => [(6, 6), (2, 0)],
-        };
-        assert_eq!(bench.pairs(), pairs);
+        assert_eq!((bench.state.send, bench.state.receive), (2, 0));
     }
 }
 
@@ -2050,7 +2034,7 @@ fn lists_of_many_lengths() {
             _ => (0, 2),
         };
         let mut after = before;
-        after.send = [((6 + count) % 8) as u8, 0];
+        after.send = ((6 + count) % 8) as u8;
         after.gpio.datain = datain;
         after.gpio.ints = ints;
         assert_eq!(bench.state, after);
@@ -2104,7 +2088,7 @@ fn steps_back_through_a_batch() {
     let mut bench = Bench::mixed();
     let before = bench.state;
     bench.batch(&mixed_samples());
-    assert_eq!((bench.state.send, bench.kept()), ([0, 2], 25));
+    assert_eq!((bench.state.send, bench.kept()), (2, 25));
     for count in (0..14).rev() {
         assert_eq!(bench.back(), 17);
         let (datain, ints, frames) = match count {
@@ -2112,7 +2096,7 @@ fn steps_back_through_a_batch() {
             _ => (MIXED[count - 1].2, MIXED[count - 1].3, MIXED[count - 1].4),
         };
         let mut after = before;
-        after.send = [0, (1 + frames) % 8];
+        after.send = (1 + frames) % 8;
         after.gpio.datain = datain;
         after.gpio.ints = ints;
         assert_eq!((bench.state, bench.kept()), (after, 11 + count));
@@ -2121,7 +2105,7 @@ fn steps_back_through_a_batch() {
         let (answer, bodies) = branch.batch(&mixed_samples()[count..]);
         assert_eq!(answer.number, 0);
         assert_eq!(bodies, MIXED_BODIES[usize::from(frames)..]);
-        assert_eq!((branch.state.send, branch.kept()), ([0, 2], 25));
+        assert_eq!((branch.state.send, branch.kept()), (2, 25));
     }
     assert_eq!(bench.state, before);
     // The request before the batch is taken back next.
@@ -2143,7 +2127,7 @@ fn take_back_toggling(bench: &mut Bench, count: usize, most: usize) {
         };
         let gpio = (bench.state.gpio.datain, bench.state.gpio.ints);
         assert_eq!(gpio, (datain, ints));
-        assert_eq!(bench.state.send, [((6 + standing) % 8) as u8, 0]);
+        assert_eq!(usize::from(bench.state.send), (6 + standing) % 8);
     }
     let stood = bench.state;
     assert_eq!((bench.back(), bench.kept()), (5, 0));
@@ -2170,7 +2154,7 @@ fn no_more_than_64_steps_back_through_a_batch() {
     assert_eq!((bench.state, bench.kept()), (before, 4));
     (0..4).for_each(|_| assert_eq!(bench.back(), 17));
     assert_eq!((bench.state.gpio, bench.kept()), (Gpio::default(), 0));
-    assert_eq!((bench.state.receive, bench.back()), ([2, 0], 5));
+    assert_eq!((bench.state.receive, bench.back()), (2, 5));
 }
 
 #[test]
@@ -2179,7 +2163,7 @@ fn refusals_of_a_batch_in_order_change_nothing() {
     let mut wrong_gpio = good.clone();
     wrong_gpio.state.crb = 0;
     let mut wrong_send = good.clone();
-    wrong_send.state.send = [0, 8];
+    wrong_send.state.send = 8;
     let benches = [(good, true), (wrong_gpio, false), (wrong_send, false)];
     let conditions = [
         Condition::Whole,
@@ -2345,20 +2329,14 @@ fn random_gpio(chance: &mut Chance) -> Gpio {
     }
 }
 
-/// A link number for each port.
-fn random_numbers(chance: &mut Chance) -> [u8; 2] {
-    let both = chance.below(64) as u8;
-    [both % 8, both / 8]
-}
-
 #[test]
 fn a_batch_equals_its_samples_one_by_one() {
     let mut chance = Chance(2_026);
     let (mut frames, mut silent, mut disabled, mut unanswered) = (0, 0, 0, 0);
     for round in 0..1_500 {
         let mut batched = Bench::ready();
-        batched.state.send = random_numbers(&mut chance);
-        batched.state.receive = random_numbers(&mut chance);
+        batched.state.send = chance.below(8) as u8;
+        batched.state.receive = chance.below(8) as u8;
         batched.state.active = chance.below(2) as u8;
         batched.state.gpio = random_gpio(&mut chance);
         if round % 10 == 0 {
@@ -2560,7 +2538,7 @@ impl Bench {
 
     /// A frame whose number is one ahead: SREJ asks for the one due.
     fn drop_frame(&mut self) {
-        let receive = self.state.receive[0];
+        let receive = self.state.receive;
         let ahead = 2 * ((receive + 1) % 8);
         let given = self.frame(0, &[0, ahead, 1, 0x15, 4, 0x10, 9, 9, 9, 9]);
         assert_eq!(given, (0, 0, vec![0, 0x0D + 32 * receive]));
@@ -2594,8 +2572,8 @@ fn due_after(count: usize) -> State {
     };
     State {
         id: 0x12_3456,
-        send: [answered, 0],
-        receive: [answered, 0],
+        send: answered,
+        receive: answered,
         crb: 0xFE,
         crc: 0xFF,
         crd: 0x1F,
@@ -2608,8 +2586,7 @@ fn due_after(count: usize) -> State {
 
 #[test]
 fn the_work_of_eleven_places() {
-    // DAC A, SEU counter, DATAIN, DATAOUT and both numbers of port 0 after
-    // each.
+    // DAC A, SEU counter, DATAIN, DATAOUT and both link numbers after each.
     let wanted = [
         (0, 0, 0, 0, 3),
         (1, 0, 0, 0, 4),
@@ -2628,7 +2605,7 @@ fn the_work_of_eleven_places() {
         let state = due_after(count);
         assert_eq!((state.dac, state.seu), ([*dac, 0, 0, 0], *seu));
         assert_eq!((state.gpio.datain, state.gpio.dataout), (*datain, *dataout));
-        assert_eq!((state.send, state.receive), ([*number, 0], [*number, 0]));
+        assert_eq!((state.send, state.receive), (*number, *number));
         assert_eq!(Bench::at_work(Size::Small, count).state, state);
     }
 }
@@ -3009,7 +2986,7 @@ fn no_more_than_200_steps_back_through_a_batch() {
     assert_eq!((bench.state, bench.kept()), (before, 4));
     (0..4).for_each(|_| assert_eq!(bench.back(), 17));
     assert_eq!((bench.state.gpio, bench.kept()), (Gpio::default(), 0));
-    assert_eq!((bench.state.receive, bench.back()), ([2, 0], 5));
+    assert_eq!((bench.state.receive, bench.back()), (2, 5));
 }
 
 #[test]
@@ -3229,762 +3206,4 @@ fn runs_with_enlarging_equal_runs_of_the_standing_events() {
     assert!(beyond > 1_000, "only {} of them beyond the 64th", beyond);
     assert!(refused > 500, "only {} events refused", refused);
     assert!(full > 500, "only {} turns with 200 kept", full);
-}
-
-impl Bench {
-    /// An adapter whose ports have counted apart, with an empty journal: the
-    /// numbers of port 0 are 5 and 6, those of port 1 are 2 and 3. Every
-    /// channel is enabled, line 0 fires on rising, a GO with TRN 0x21 and a
-    /// single read on channel 0x03 with TRN 0x22 are open.
-    fn apart(active: u8) -> Bench {
-        let mut bench = Bench {
-            state: Bench::ready().state,
-            journal: Journal::new(),
-        };
-        bench.state.gpio = Gpio {
-            intsel: 1,
-            inttrig: 1,
-            intenable: 1,
-            ..Gpio::default()
-        };
-        bench.state.spi.open_go = Some(0x21);
-        *bench.master(0x03) = Master {
-            transaction: 0x22,
-            command: 0x86,
-            ..Master::default()
-        };
-        bench.state.active = active;
-        bench.state.send = [5, 2];
-        bench.state.receive = [6, 3];
-        assert_eq!(bench.pairs(), [(5, 6), (2, 3)]);
-        assert!(in_range(&bench.state));
-        bench
-    }
-
-    /// The same with either port active and every loopback.
-    fn all_apart() -> Vec<Bench> {
-        let mut benches = Vec::new();
-        for (active, first, second) in (0..8).map(|n| (n & 1, n & 2 != 0, n & 4 != 0)) {
-            let mut bench = Bench::apart(active);
-            bench.state.loopback = [first, second];
-            benches.push(bench);
-        }
-        benches
-    }
-}
-
-/// A reading of DAC A with TRN 0x31.
-fn read_dac(control: u8) -> [u8; 10] {
-    [0, control, 0x31, 0x15, 1, 0x11, 0, 0, 0, 0]
-}
-
-/// A run over both ports, each event with its answer and the pairs after it.
-fn run_over_both_ports() -> Vec<(Event, Given, Pairs)> {
-    let frame = |port: u32, body: &[u8]| Event::Frame(port, body.to_vec());
-    vec![
-        // Port 0: SPI and GPIO are enabled, DAC A is set to 0x77.
-        (
-            frame(0, &[0, 0x00, 1, 0, 4, 0x02, 0, 6, 0, 0]),
-            (0, 0, vec![0, 0x20, 1, 0, 0, 2, 0, 0, 0, 0]),
-            [(1, 1), (0, 0)],
-        ),
-        (
-            frame(0, &[0, 0x02, 2, 0x15, 4, 0x10, 0, 0, 0x77, 0]),
-            (0, 0, vec![0, 0x42, 2, 0x15, 0, 1, 0, 0, 0, 0]),
-            [(2, 2), (0, 0)],
-        ),
-        // Port 1 counts from 0, and port 0 stays where it was.
-        (
-            frame(1, &[0, 0x2F]),
-            (0, 1, vec![0, 0x63]),
-            [(2, 2), (0, 0)],
-        ),
-        (
-            frame(1, &[0, 0x00, 3, 0x15, 1, 0x11, 0, 0, 0, 0]),
-            (0, 1, vec![0, 0x20, 3, 0x15, 0, 4, 0, 0, 0x77, 0]),
-            [(2, 2), (1, 1)],
-        ),
-        // A GO has no reply yet; the next one has 2 * 1 + 32 * 3.
-        (
-            frame(1, &[0, 0x02, 4, 1, 2, 0x72, 0, 0, 0, 0]),
-            (17, 0, vec![]),
-            [(2, 2), (1, 2)],
-        ),
-        (
-            frame(1, &[0, 0x04, 5, 0, 2, 0x03, 0, 0, 0, 0]),
-            (0, 1, vec![0, 0x62, 5, 0, 0, 4, 0, 6, 0, 0]),
-            [(2, 2), (2, 3)],
-        ),
-        // Back to port 0, which counts from 0 again; port 1 stays.
-        (
-            frame(0, &[0, 0x3F]),
-            (0, 0, vec![0, 0x73]),
-            [(0, 0), (2, 3)],
-        ),
-        (
-            frame(0, &[0, 0x00, 6, 0x15, 1, 0x11, 0, 0, 0, 0]),
-            (0, 0, vec![0, 0x20, 6, 0x15, 0, 4, 0, 0, 0x77, 0]),
-            [(1, 1), (2, 3)],
-        ),
-        // The GO of port 1 is answered on port 0: 2 * 1 + 32 * 1.
-        (
-            Event::Completion(vec![0x99; 16]),
-            (0, 0, vec![0, 0x22, 4, 1, 0, 6, 0x99, 0x99, 0x99, 0x99]),
-            [(2, 1), (2, 3)],
-        ),
-        // Port 1 is not active, though the number is the one due there.
-        (
-            frame(1, &[0, 0x06, 7, 0x15, 1, 0x11, 0, 0, 0, 0]),
-            (12, 0, vec![]),
-            [(2, 1), (2, 3)],
-        ),
-        // Nor is that number due on port 0.
-        (
-            frame(0, &[0, 0x06, 7, 0x15, 1, 0x11, 0, 0, 0, 0]),
-            (0, 0, vec![0, 0x2D]),
-            [(2, 1), (2, 3)],
-        ),
-        // Port 1 in loopback.
-        (
-            frame(1, &[0, 0xE3]),
-            (0, 1, vec![0, 0x63]),
-            [(2, 1), (2, 3)],
-        ),
-        (
-            frame(1, &[0, 0x06, 7]),
-            (0, 1, vec![0, 0x06, 7]),
-            [(2, 1), (2, 3)],
-        ),
-        // CONNECT again where port 0 is active already.
-        (
-            frame(0, &[0, 0x2F]),
-            (0, 0, vec![0, 0x63]),
-            [(0, 0), (2, 3)],
-        ),
-        (frame(1, &[0, 0x06, 7]), (12, 0, vec![]), [(0, 0), (2, 3)]),
-        (
-            frame(0, &[0, 0x00, 8, 0x01, 2, 0x01, 0, 0, 0, 0]),
-            (0, 0, vec![0, 0x20, 8, 1, 0, 6, 0x99, 0x99, 0x99, 0x99]),
-            [(1, 1), (2, 3)],
-        ),
-        // Port 1 lost what it had counted.
-        (
-            frame(1, &[0, 0x3F]),
-            (0, 1, vec![0, 0x73]),
-            [(1, 1), (0, 0)],
-        ),
-        (
-            frame(1, &[0, 0x06, 9, 0x15, 1, 0x11, 0, 0, 0, 0]),
-            (0, 1, vec![0, 0x0D]),
-            [(1, 1), (0, 0)],
-        ),
-        (
-            frame(1, &[0, 0x00, 9, 0x15, 1, 0x11, 0, 0, 0, 0]),
-            (0, 1, vec![0, 0x20, 9, 0x15, 0, 4, 0, 0, 0x77, 0]),
-            [(1, 1), (1, 1)],
-        ),
-    ]
-}
-
-#[test]
-fn both_ports_count_apart() {
-    let mut bench = Bench::new();
-    for (event, given, pairs) in run_over_both_ports() {
-        assert_eq!(bench.play(&event), given);
-        assert_eq!(bench.pairs(), pairs);
-    }
-    assert_eq!((bench.state.active, bench.kept()), (1, 19));
-    assert_eq!(bench.frame(0, &RESET), (0, 0, vec![0, 0x63]));
-    assert_eq!(bench.pairs(), [(0, 0), (0, 0)]);
-    assert_eq!(bench.state, Bench::new().state);
-}
-
-#[test]
-fn nine_requests_on_a_port_leave_the_other() {
-    for (port, after) in [(0, [(1, 1), (2, 3)]), (1, [(5, 6), (1, 1)])] {
-        let mut bench = Bench::apart(1 - port as u8);
-        bench.frame(port, &CONNECT);
-        let other = bench.pairs()[1 - port as usize];
-        for (control, reply, number) in [
-            (0x00, 0x20, 1),
-            (0x02, 0x42, 2),
-            (0x04, 0x64, 3),
-            (0x06, 0x86, 4),
-            (0x08, 0xA8, 5),
-            (0x0A, 0xCA, 6),
-            (0x0C, 0xEC, 7),
-            (0x0E, 0x0E, 0),
-            (0x00, 0x20, 1),
-        ] {
-            let body = vec![0, reply, 0x31, 0x15, 0, 4, 0, 0, 0, 0];
-            assert_eq!(bench.frame(port, &read_dac(control)), (0, port, body));
-            assert_eq!(bench.active_pair(), (number, number));
-            assert_eq!(bench.pairs()[1 - port as usize], other);
-        }
-        assert_eq!(bench.pairs(), after);
-    }
-}
-
-#[test]
-fn connect_zeroes_its_own_pair_alone() {
-    for (port, send, receive) in [(0, [0, 2], [0, 3]), (1, [5, 0], [6, 0])] {
-        for (control, reply) in [(0x2F, 0x63), (0x3F, 0x73)] {
-            for mut bench in Bench::all_apart() {
-                let before = bench.state;
-                let given = bench.frame(port, &[0, control]);
-                assert_eq!(given, (0, port, vec![0, reply]));
-                let after = State {
-                    active: port as u8,
-                    loopback: [false, false],
-                    send,
-                    receive,
-                    ..before
-                };
-                assert_eq!((bench.state, bench.kept()), (after, 1));
-                // Once more changes nothing.
-                bench.frame(port, &[0, control]);
-                assert_eq!((bench.state, bench.kept()), (after, 2));
-                assert_eq!((bench.back(), bench.back()), (17, 17));
-                assert_eq!((bench.state, bench.back()), (before, 5));
-            }
-        }
-    }
-}
-
-#[test]
-fn connect_on_one_port_and_then_the_other_zeroes_both() {
-    for (first, then) in [(0, 1), (1, 0)] {
-        for active in [0, 1] {
-            let mut bench = Bench::apart(active);
-            bench.frame(first, &CONNECT);
-            bench.frame(then, &CONNECT);
-            assert_eq!(u32::from(bench.state.active), then);
-            assert_eq!(bench.pairs(), [(0, 0), (0, 0)]);
-        }
-    }
-}
-
-#[test]
-fn reset_zeroes_both_pairs() {
-    for port in [0, 1] {
-        for (control, reply) in [(0x8F, 0x63), (0x9F, 0x73)] {
-            for mut bench in Bench::all_apart() {
-                let before = bench.state;
-                // With information it is dropped and zeroes nothing.
-                assert_eq!(bench.frame(port, &[0, control, 0]), (14, 0, vec![]));
-                assert_eq!((bench.state, bench.kept()), (before, 1));
-                let given = bench.frame(port, &[0, control]);
-                assert_eq!(given, (0, port, vec![0, reply]));
-                assert_eq!(bench.pairs(), [(0, 0), (0, 0)]);
-                let after = State {
-                    id: 0x12_3456,
-                    active: port as u8,
-                    ..State::default()
-                };
-                assert_eq!((bench.state, bench.kept()), (after, 0));
-            }
-        }
-    }
-}
-
-#[test]
-fn replies_and_interrupts_use_the_active_ports_pair() {
-    for ready in Bench::all_apart() {
-        // 2 * 5 + 32 * 6 or 2 * 2 + 32 * 3, and the pairs after it.
-        let (port, control, pairs) = match ready.state.active {
-            0 => (0, 0xCA, [(6, 6), (2, 3)]),
-            _ => (1, 0x64, [(5, 6), (3, 3)]),
-        };
-        let mut bench = ready.clone();
-        let interrupt = vec![0, control, 0xFF, 2, 0, 4, 0, 0, 1, 0];
-        assert_eq!(bench.sample(1, 0), (0, port, interrupt));
-        assert_eq!(bench.pairs(), pairs);
-        let mut bench = ready.clone();
-        let reply = vec![0, control, 0x21, 1, 0, 6, 0x44, 0x44, 0x44, 0x44];
-        assert_eq!(bench.completion(&[0x44; 16]), (0, port, reply));
-        assert_eq!(bench.pairs(), pairs);
-        let mut bench = ready.clone();
-        let reply = vec![0, control, 0x22, 3, 0, 4, 0x5C, 0x04, 0, 0];
-        assert_eq!(bench.i2c(0x03, 1, 0, &[0x5C]), (0, port, reply));
-        assert_eq!(bench.pairs(), pairs);
-        // Nothing goes out, nothing is counted.
-        let mut bench = ready.clone();
-        assert_eq!(bench.sample(2, 0), (17, 0, vec![]));
-        assert_eq!(bench.i2c(0x04, 1, 0, &[]), (15, 0, vec![]));
-        assert_eq!(bench.upset(), (17, 0, vec![]));
-        assert_eq!(bench.pairs(), [(5, 6), (2, 3)]);
-    }
-}
-
-#[test]
-fn requests_are_counted_where_they_arrive() {
-    // The port; the control due there, that of the reply: 2 * 5 + 32 * 7 or
-    // 2 * 2 + 32 * 4; the pairs after a reply, and without one.
-    for (active, due, control, replied, silent) in [
-        (0, 0x0C, 0xEA, [(6, 7), (2, 3)], [(5, 7), (2, 3)]),
-        (1, 0x06, 0x84, [(5, 6), (3, 4)], [(5, 6), (2, 4)]),
-    ] {
-        let port = u32::from(active);
-        let mut bench = Bench::apart(active);
-        let reply = vec![0, control, 0x31, 0x15, 0, 4, 0, 0, 0, 0];
-        assert_eq!(bench.frame(port, &read_dac(due)), (0, port, reply));
-        assert_eq!(bench.pairs(), replied);
-        // An error reply: SPI is busy.
-        let mut bench = Bench::apart(active);
-        let request = [0, due, 0x32, 1, 2, 0x41, 0, 0, 0, 0];
-        let reply = vec![0, control, 0x32, 1, 0x40, 2, 0, 0, 0, 0];
-        assert_eq!(bench.frame(port, &request), (0, port, reply));
-        assert_eq!(bench.pairs(), replied);
-        // A start has no reply yet.
-        let mut bench = Bench::apart(active);
-        let request = [0, due, 0x33, 4, 4, 0x86, 0, 0, 0, 0];
-        assert_eq!(bench.frame(port, &request), (17, 0, vec![]));
-        assert_eq!(bench.pairs(), silent);
-    }
-}
-
-#[test]
-fn a_batch_counts_on_the_active_port() {
-    // The active port, the controls of two interrupts, the pairs after them.
-    for (active, controls, pairs) in [
-        (0, [0xCA, 0xCC], [(7, 6), (2, 3)]),
-        (1, [0x64, 0x66], [(5, 6), (4, 3)]),
-    ] {
-        let mut bench = Bench::apart(active);
-        let (answer, bodies) = bench.batch(&list(&[(1, 0), (0, 0), (1, 0)]));
-        assert_eq!(answer, batch_sent(u32::from(active), 2, 2));
-        let wanted = controls.map(|control| [0, control, 0xFF, 2, 0, 4, 0, 0, 1, 0]);
-        assert_eq!((bodies, bench.pairs()), (wanted.to_vec(), pairs));
-        (0..3).for_each(|_| assert_eq!(bench.back(), 17));
-        assert_eq!(bench.state, Bench::apart(active).state);
-    }
-}
-
-#[test]
-fn every_pair_of_both_ports() {
-    let next = [1, 2, 3, 4, 5, 6, 7, 0];
-    for active in [0, 1] {
-        let ready = Bench::apart(active);
-        for numbers in 0..4_096 {
-            let [s0, s1, r0, r1] = [0, 3, 6, 9].map(|place| (numbers >> place & 7) as u8);
-            let mut bench = ready.clone();
-            bench.state.send = [s0, s1];
-            bench.state.receive = [r0, r1];
-            assert!(in_range(&bench.state));
-            let other = bench.pairs()[1 - usize::from(active)];
-            // An interrupt, then a request with its reply.
-            let (send, receive) = bench.active_pair();
-            let (_, _, body) = bench.sample(1, 0);
-            assert_eq!(body[1], 2 * send + 32 * receive);
-            let send = next[usize::from(send)];
-            assert_eq!(bench.active_pair(), (send, receive));
-            let (_, _, body) = bench.frame(u32::from(active), &read_dac(2 * receive));
-            let receive = next[usize::from(receive)];
-            assert_eq!(body[1], 2 * send + 32 * receive);
-            let send = next[usize::from(send)];
-            assert_eq!(bench.active_pair(), (send, receive));
-            assert_eq!(bench.pairs()[1 - usize::from(active)], other);
-        }
-    }
-}
-
-#[test]
-fn late_completions_are_counted_on_the_port_connected_since() {
-    // Where a GO and a start are accepted, where CONNECT comes, and the pairs
-    // before the completions and after them. Three requests were answered.
-    for (first, then, before, after) in [
-        (0, 1, [(3, 5), (0, 0)], [(3, 5), (2, 0)]),
-        (1, 0, [(0, 0), (3, 5)], [(2, 0), (3, 5)]),
-        (0, 0, [(0, 0), (0, 0)], [(2, 0), (0, 0)]),
-        (1, 1, [(0, 0), (0, 0)], [(0, 0), (2, 0)]),
-    ] {
-        let mut bench = Bench::new();
-        bench.frame(first, &CONNECT);
-        bench.enable(0xFE, 0x1F);
-        bench.ask(0x00, 4, 0x04, 0xFF00_0000);
-        let go = [0, 0x06, 0x21, 1, 2, 0x72, 0, 0, 0, 0];
-        assert_eq!(bench.frame(first, &go), (17, 0, vec![]));
-        let start = [0, 0x08, 0x22, 0x0B, 4, 0x86, 0, 0, 0, 0];
-        assert_eq!(bench.frame(first, &start), (17, 0, vec![]));
-        bench.frame(then, &CONNECT);
-        assert_eq!(bench.pairs(), before);
-        // Either of the two comes first.
-        let spi = |control: u8| vec![0, control, 0x21, 1, 0, 6, 8, 8, 8, 8];
-        let i2c = |control: u8| vec![0, control, 0x22, 0x0B, 0, 4, 0, 0x40, 0, 0];
-        let mut branch = bench.clone();
-        assert_eq!(branch.completion(&[8; 16]), (0, then, spi(0)));
-        assert_eq!(branch.i2c(0x0B, 0, 0, &[]), (0, then, i2c(2)));
-        assert_eq!(branch.pairs(), after);
-        let mut branch = bench.clone();
-        assert_eq!(branch.i2c(0x0B, 0, 0, &[]), (0, then, i2c(0)));
-        assert_eq!(branch.completion(&[8; 16]), (0, then, spi(2)));
-        assert_eq!(branch.pairs(), after);
-        // After two requests: 2 * 2 + 32 * 2 and 2 * 3 + 32 * 2.
-        bench.frame(then, &read_dac(0x00));
-        bench.frame(then, &read_dac(0x02));
-        assert_eq!(bench.completion(&[8; 16]), (0, then, spi(0x44)));
-        assert_eq!(bench.i2c(0x0B, 0, 0, &[]), (0, then, i2c(0x46)));
-        assert_eq!(bench.active_pair(), (4, 2));
-        if first != then {
-            assert_eq!(bench.pairs()[first as usize], (3, 5));
-        }
-    }
-}
-
-#[test]
-fn srej_names_the_number_due_on_the_arriving_port() {
-    let srejs = [0x0D, 0x2D, 0x4D, 0x6D, 0x8D, 0xAD, 0xCD, 0xED];
-    for (numbers, active) in (0..64).flat_map(|numbers| [(numbers, 0), (numbers, 1)]) {
-        let mut bench = Bench::apart(active);
-        bench.state.receive = [numbers % 8, numbers / 8];
-        let (before, port) = (bench.state, u32::from(active));
-        let due = usize::from(bench.active_pair().1);
-        for number in (0..8).filter(|number| *number != due) {
-            // Bits 7 to 4 of control are not read.
-            for high in [0x00, 0x50, 0xF0] {
-                let request = read_dac(high + 2 * number as u8);
-                let given = (0, port, vec![0, srejs[due]]);
-                assert_eq!(bench.frame(port, &request), given);
-                // The other port is not active, whatever is due there.
-                assert_eq!(bench.frame(1 - port, &request), (12, 0, vec![]));
-            }
-        }
-        assert_eq!((bench.state, bench.kept()), (before, 42));
-        let (number, _, body) = bench.frame(port, &read_dac(2 * due as u8));
-        assert_eq!((number, body.len()), (0, 10));
-    }
-}
-
-#[test]
-fn srej_on_either_port_byte_by_byte() {
-    // The active port, the control due on the other one, and the SREJ.
-    for (active, control, srej) in [(0, 0x06, 0xCD), (1, 0x0C, 0x6D)] {
-        let mut bench = Bench::apart(active);
-        let port = u32::from(active);
-        let given = bench.frame(port, &read_dac(control));
-        assert_eq!(given, (0, port, vec![0, srej]));
-        assert_eq!(bench.state, Bench::apart(active).state);
-        assert_eq!(bench.kept(), 1);
-    }
-}
-
-#[test]
-fn dropped_frames_leave_both_pairs() {
-    for (active, due) in [(0, 0x0C), (1, 0x06)] {
-        let (port, other) = (u32::from(active), 1 - u32::from(active));
-        let mut bench = Bench::apart(active);
-        let before = bench.state;
-        // On either port: address, information of a command, control.
-        for either in [0, 1] {
-            assert_eq!(bench.frame(either, &[1, 0x2F]), (11, 0, vec![]));
-            assert_eq!(bench.frame(either, &[0xFF, due]), (11, 0, vec![]));
-            for control in [0x2F, 0x3F, 0x8F, 0x9F, 0xE3, 0xF3] {
-                assert_eq!(bench.frame(either, &[0, control, 0]), (14, 0, vec![]));
-            }
-            assert_eq!(bench.frame(either, &[0, 0x01]), (13, 0, vec![]));
-        }
-        // On the other port: the number due here, the one due there, neither.
-        for control in [0x0C, 0x06, 0x00] {
-            assert_eq!(bench.frame(other, &read_dac(control)), (12, 0, vec![]));
-        }
-        assert_eq!(bench.frame(other, &[0, 0]), (12, 0, vec![]));
-        // On this one: too little information, too much.
-        assert_eq!(bench.frame(port, &[0, due]), (14, 0, vec![]));
-        assert_eq!(bench.frame(port, &[0, due, 1]), (14, 0, vec![]));
-        let mut long = [0; 16];
-        long[..10].copy_from_slice(&read_dac(due));
-        assert_eq!(bench.frame(port, &long), (14, 0, vec![]));
-        assert_eq!((bench.state, bench.kept()), (before, 25));
-        // Port 2 is refused.
-        assert_eq!(bench.frame(2, &read_dac(due)), (3, 0, vec![]));
-        assert_eq!((bench.state, bench.kept()), (before, 25));
-    }
-}
-
-#[test]
-fn test_and_loopback_leave_both_pairs() {
-    for (active, looped) in [(0, 0), (0, 1), (1, 0), (1, 1)] {
-        for (control, reply) in [(0xE3, 0x63), (0xF3, 0x73)] {
-            let mut bench = Bench::apart(active);
-            let given = bench.frame(looped, &[0, control]);
-            assert_eq!(given, (0, looped, vec![0, reply]));
-            let mut after = Bench::apart(active).state;
-            after.loopback[looped as usize] = true;
-            assert_eq!(bench.state, after);
-            // Requests with the numbers due on both ports, and other bodies.
-            let (first, second) = (read_dac(0x0C), read_dac(0x06));
-            for body in [&first[..], &second, &[0, 0], &[0, 0x0C, 9], &[0, 2, 3, 4]] {
-                assert_eq!(bench.frame(looped, body), (0, looped, body.to_vec()));
-            }
-            assert_eq!(bench.state, after);
-            assert_eq!(bench.pairs(), [(5, 6), (2, 3)]);
-            // The port that is not looped goes by its own number.
-            let free = 1 - looped;
-            let (number, _, body) = bench.frame(free, &read_dac([0x0C, 0x06][free as usize]));
-            if free == u32::from(active) {
-                assert_eq!((number, body[1]), (0, [0xEA, 0x84][free as usize]));
-            } else {
-                assert_eq!((number, bench.state), (12, after));
-            }
-        }
-    }
-}
-
-#[test]
-fn steps_back_give_the_pairs_back() {
-    for size in [Size::Small, Size::Large] {
-        let run = run_over_both_ports();
-        let mut bench = Bench::sized(size);
-        let mut states = vec![bench.state];
-        for (event, _, _) in &run {
-            bench.play(event);
-            states.push(bench.state);
-        }
-        for count in (0..run.len()).rev() {
-            assert_eq!((bench.back(), bench.kept()), (17, count));
-            assert_eq!(bench.state, states[count]);
-            let pairs = match count {
-                0 => [(0, 0), (0, 0)],
-                _ => run[count - 1].2,
-            };
-            assert_eq!(bench.pairs(), pairs);
-            // The rest of the run once more, from a journal of either size.
-            let mut branches = vec![bench.clone()];
-            if size == Size::Small {
-                branches.push(bench.enlarged());
-            }
-            for mut branch in branches {
-                for (event, given, pairs) in &run[count..] {
-                    assert_eq!(branch.play(event), *given);
-                    assert_eq!(branch.pairs(), *pairs);
-                }
-                (count..run.len()).for_each(|_| assert_eq!(branch.back(), 17));
-                assert_eq!((branch.state, branch.kept()), (states[count], count));
-            }
-        }
-        assert_eq!((bench.back(), bench.pairs()), (5, [(0, 0), (0, 0)]));
-    }
-}
-
-#[test]
-fn a_port_goes_on_where_it_was_after_connect_is_taken_back() {
-    for (active, due, control) in [(0, 0x0C, 0xEA), (1, 0x06, 0x84)] {
-        let port = u32::from(active);
-        for connected in [0, 1] {
-            let mut bench = Bench::apart(active);
-            bench.frame(connected, &CONNECT);
-            bench.frame(connected, &read_dac(0x00));
-            bench.completion(&[0; 16]);
-            assert_eq!(bench.active_pair(), (2, 1));
-            (0..3).for_each(|_| assert_eq!(bench.back(), 17));
-            assert_eq!(bench.state, Bench::apart(active).state);
-            let reply = vec![0, control, 0x31, 0x15, 0, 4, 0, 0, 0, 0];
-            assert_eq!(bench.frame(port, &read_dac(due)), (0, port, reply));
-        }
-    }
-}
-
-#[test]
-fn each_of_the_four_numbers_over_7_is_6() {
-    for active in [0, 1] {
-        let mut ready = Bench::apart(active);
-        ready.upset();
-        for number in 8..=255 {
-            for (send, receive) in [
-                ([number, 2], [6, 3]),
-                ([5, number], [6, 3]),
-                ([5, 2], [number, 3]),
-                ([5, 2], [6, number]),
-            ] {
-                let mut bench = ready.clone();
-                bench.state.send = send;
-                bench.state.receive = receive;
-                refused_with_6(&bench);
-            }
-        }
-    }
-}
-
-/// Every call gives 6, before 4 and 1 too, and changes nothing.
-fn refused_with_6(before: &Bench) {
-    assert!(!in_range(&before.state));
-    let mut bench = before.clone();
-    let requests = [read_dac(0x0C), read_dac(0x06)];
-    for body in [&CONNECT[..], &RESET, &TEST, &requests[0], &requests[1]] {
-        assert_eq!(bench.frame(0, body), (6, 0, vec![]));
-        assert_eq!(bench.frame(1, body), (6, 0, vec![]));
-    }
-    assert_eq!(bench.completion(&[0; 16]), (6, 0, vec![]));
-    assert_eq!(bench.i2c(0x03, 1, 0, &[]), (6, 0, vec![]));
-    assert_eq!(bench.sample(1, 0), (6, 0, vec![]));
-    assert_eq!(bench.batch(&list(&[(1, 0)])), (batch_silent(6), vec![]));
-    assert_eq!(bench.upset(), (6, 0, vec![]));
-    assert_eq!(bench.back(), 6);
-    bench.journal.condition = Condition::WrongLayout;
-    let (s, j) = (&mut bench.state, &mut bench.journal);
-    assert_eq!(frame(s, j, 2, &[0], &mut []).number, 6);
-    assert_eq!(sample_batch(s, j, &[], &mut []), batch_silent(6));
-    assert_eq!(step_back(s, j), 6);
-    bench.journal.condition = Condition::Whole;
-    assert_eq!(
-        (bench.state, &bench.journal),
-        (before.state, &before.journal)
-    );
-}
-
-#[test]
-fn numbers_of_7_are_good_and_go_on_with_0() {
-    // The active port; an interrupt has 2 * 7 + 32 * 7, and the reply after it
-    // 2 * 0 + 32 * 0.
-    for (active, interrupted, replied) in [
-        (0, [(0, 7), (7, 7)], [(1, 0), (7, 7)]),
-        (1, [(7, 7), (0, 7)], [(7, 7), (1, 0)]),
-    ] {
-        let mut bench = Bench::apart(active);
-        bench.state.send = [7, 7];
-        bench.state.receive = [7, 7];
-        let port = u32::from(active);
-        let interrupt = vec![0, 0xEE, 0xFF, 2, 0, 4, 0, 0, 1, 0];
-        assert_eq!(bench.sample(1, 0), (0, port, interrupt));
-        assert_eq!(bench.pairs(), interrupted);
-        let reply = vec![0, 0x00, 0x31, 0x15, 0, 4, 0, 0, 0, 0];
-        assert_eq!(bench.frame(port, &read_dac(0x0E)), (0, port, reply));
-        assert_eq!(bench.pairs(), replied);
-    }
-}
-
-/// What the rules say of the ports, told from events and answers alone.
-#[derive(Clone, Copy, PartialEq, Eq, Debug)]
-struct Ports {
-    active: usize,
-    loopback: [bool; 2],
-    pairs: Pairs,
-}
-
-impl Ports {
-    /// As RESET on a port leaves them.
-    fn reset(port: usize) -> Ports {
-        Ports {
-            active: port,
-            loopback: [false, false],
-            pairs: [(0, 0), (0, 0)],
-        }
-    }
-
-    fn of(state: &State) -> Ports {
-        let (send, receive) = (state.send, state.receive);
-        Ports {
-            active: usize::from(state.active),
-            loopback: state.loopback,
-            pairs: [(send[0], receive[0]), (send[1], receive[1])],
-        }
-    }
-
-    /// The ports after an event that was not refused; what was sent must show
-    /// the numbers that are due.
-    fn after(mut self, event: &Event, given: &Given) -> Ports {
-        if let Event::Frame(port, body) = event {
-            let port = *port as usize;
-            match body[..] {
-                [0, 0x2F | 0x3F] => {
-                    self.active = port;
-                    self.loopback = [false, false];
-                    self.pairs[port] = (0, 0);
-                    return self;
-                }
-                [0, 0x8F | 0x9F] => return Ports::reset(port),
-                [0, 0xE3 | 0xF3] => {
-                    self.loopback[port] = true;
-                    return self;
-                }
-                _ if self.loopback[port] || (11..=16).contains(&given.0) => return self,
-                _ if given.2.len() == 2 => {
-                    self.rejects(port, given);
-                    return self;
-                }
-                _ => self.accept(port),
-            }
-        }
-        if given.0 == 0 {
-            self.send(given);
-        }
-        self
-    }
-
-    /// SREJ names the number due on the port where the frame arrived.
-    fn rejects(&self, port: usize, given: &Given) {
-        let srej = vec![0, 0x0D + 32 * self.pairs[port].1];
-        assert_eq!(*given, (0, port as u32, srej));
-    }
-
-    fn accept(&mut self, port: usize) {
-        assert_eq!(port, self.active);
-        self.pairs[port].1 = (self.pairs[port].1 + 1) % 8;
-    }
-
-    /// A reply or an interrupt.
-    fn send(&mut self, given: &Given) {
-        let (send, receive) = self.pairs[self.active];
-        assert_eq!(given.1, self.active as u32);
-        assert_eq!(given.2[1], 2 * send + 32 * receive);
-        self.pairs[self.active].0 = (send + 1) % 8;
-    }
-}
-
-/// Ports change often here, and frames come on the one that is not active.
-fn random_event_of_ports(chance: &mut Chance, state: &State) -> Event {
-    let port = chance.below(2) as u32;
-    let number = 2 * chance.below(8) as u8;
-    match chance.below(20) {
-        0 => Event::Frame(port, CONNECT.to_vec()),
-        1 => Event::Frame(1 - u32::from(state.active), CONNECT.to_vec()),
-        2 => Event::Frame(port, TEST.to_vec()),
-        3 => Event::Frame(port, read_dac(number).to_vec()),
-        4 => Event::Frame(port, vec![0, number]),
-        5 if chance.below(10) == 0 => Event::Frame(port, RESET.to_vec()),
-        _ => random_event_with_few_resets(chance, state),
-    }
-}
-
-#[test]
-fn the_pairs_along_runs_over_both_ports() {
-    let mut chance = Chance(707);
-    let (mut both, mut taken_back, mut changes, mut resets) = (0, 0, 0, 0);
-    for run in 0..150 {
-        let size = [Size::Small, Size::Large][run % 2];
-        let mut bench = Bench::at_work(size, 0);
-        let mut standing = vec![Ports::of(&bench.state)];
-        let mut number = 0;
-        for _ in 0..150 {
-            let before = *standing.last().unwrap();
-            if chance.below(4) == 0 {
-                assert_eq!(bench.back(), if number == 0 { 5 } else { 17 });
-                if number > 0 {
-                    number -= 1;
-                    taken_back += 1;
-                    standing.pop();
-                }
-            } else {
-                let event = random_event_of_ports(&mut chance, &bench.state);
-                let given = bench.play(&event);
-                if is_reset(&event) && given.0 == 0 {
-                    number = 0;
-                    resets += 1;
-                    standing = vec![before.after(&event, &given)];
-                } else if given.0 == 0 || given.0 >= 11 {
-                    number = (number + 1).min(size.kept_most());
-                    standing.push(before.after(&event, &given));
-                }
-            }
-            let ports = *standing.last().unwrap();
-            assert_eq!((ports, number), (Ports::of(&bench.state), bench.kept()));
-            changes += i32::from(ports.active != before.active);
-            let [first, second] = ports.pairs;
-            both += i32::from(first != (0, 0) && second != (0, 0));
-        }
-    }
-    assert!(both > 5_000, "only {} turns with both ports counting", both);
-    assert!(taken_back > 2_000, "only {} steps back", taken_back);
-    assert!(changes > 500, "only {} changes of port", changes);
-    assert!(resets > 20, "only {} resets", resets);
 }

@@ -1,6 +1,6 @@
 //! Tests of the control room's end, alone and joined with the adapter.
 //! An independent implementation, written from document 01 and change
-//! requests 2026-01 to 2026-03 and 2026-05 to 2026-07.
+//! requests 2026-01 to 2026-03, 2026-05 and 2026-06.
 
 use reference::adapter::{self, Answer, Journal, State};
 use reference::control::{command, in_range, reply, request};
@@ -1438,7 +1438,7 @@ fn both_ends_count_alike() {
         let (channel, command, _) = table[chance.below(table.len() as u64) as usize];
         let (error, _, _) = joined.ask(channel, command, turn);
         assert_eq!(error, 0);
-        assert_eq!(joined.room.record.frame_number, joined.state.receive[0]);
+        assert_eq!(joined.room.record.frame_number, joined.state.receive);
     }
     // Interrupts move the adapter's send number alone.
     for (command, data) in [(0x20, 0), (0x80, 0), (0x60, 1), (0x40, 1)] {
@@ -1456,49 +1456,6 @@ fn both_ends_count_alike() {
         let read = joined.room.reply(&body);
         assert_eq!(read, interrupt(&[0xFF, 2, 0, 0, 4, 1, 0, 0, 0]));
         assert_eq!(joined.sample(0), (17, vec![]));
-        assert_eq!(joined.room.record.frame_number, joined.state.receive[0]);
+        assert_eq!(joined.room.record.frame_number, joined.state.receive);
     }
-}
-
-#[test]
-fn two_rooms_count_each_with_its_own_port() {
-    let mut joined = Joined::new();
-    let mut waiting = Room::new();
-    // The requests of each turn, by the rooms of port 0 and port 1 in turns,
-    // and the receive numbers after them.
-    for (requests, receive) in [
-        (3, [3, 0]),
-        (5, [3, 5]),
-        (9, [1, 5]),
-        (0, [1, 0]),
-        (2, [2, 0]),
-        (8, [2, 0]),
-        (7, [7, 0]),
-    ] {
-        (0..requests).for_each(|_| assert_eq!(joined.ask(0x15, 0x11, 0), (0, 4, 0)));
-        assert_eq!(joined.state.receive, receive);
-        let port = joined.port as usize;
-        assert_eq!(joined.room.record.frame_number, receive[port]);
-        assert_eq!(waiting.record.frame_number, receive[1 - port]);
-        std::mem::swap(&mut joined.room, &mut waiting);
-        joined.link(1 - joined.port, 0x2F);
-    }
-}
-
-#[test]
-fn a_late_reply_is_told_to_the_room_that_took_over() {
-    let mut joined = Joined::new();
-    let mut other = Room::new();
-    assert_eq!(joined.ask(0x00, 0x02, 0x0200_0000), (0, 2, 0));
-    assert_eq!(joined.start(0x01, 0x72, 0), 1);
-    std::mem::swap(&mut joined.room, &mut other);
-    joined.link(1, 0x2F);
-    // It has the numbers of port 1; port 0 had one reply and two requests.
-    let sent = joined.completion(&[0; 16]);
-    assert_eq!(sent, (0, vec![0, 0x00, 1, 1, 0, 6, 0, 0, 0, 0]));
-    let numbers = (joined.state.send, joined.state.receive);
-    assert_eq!(numbers, ([1, 1], [2, 0]));
-    assert_eq!(joined.room.reply(&sent.1), refused(32));
-    let read = other.reply(&sent.1);
-    assert_eq!(read, done(&[1, 1, 0x72, 0, 6, 0, 0, 0, 0]));
 }

@@ -1,7 +1,7 @@
 //! Tests of the bench listing, by document 01's eight lines and its edges,
 //! with the large journal that the program uses.
 //! An independent implementation, written from document 01 and change
-//! requests 2026-01 to 2026-03 and 2026-05 to 2026-07.
+//! requests 2026-01 to 2026-03, 2026-05 and 2026-06.
 
 use reference::listing::played;
 
@@ -368,45 +368,6 @@ fn two_hundred_are_kept_after_a_reset_too() {
     let lines: Vec<&str> = text.lines().collect();
     assert_eq!(lines[200..204], ["17 200", "0 0 0 0063", "5 0", "17 1"]);
     assert_eq!(lines[401..], ["17 199", "17 200", "17 200"]);
-}
-
-#[test]
-fn both_ports_and_back() {
-    let received = "99".repeat(16);
-    // Each line with what is printed for it.
-    let lines = [
-        // Port 0 enables SPI and GPIO and sets DAC A; then port 1 reads it.
-        ("F 0 00000100040200060000", "0 1 0 00200100000200000000"),
-        ("F 0 00020215041000007700", "0 2 0 00420215000100000000"),
-        ("F 1 002f", "0 3 1 0063"),
-        ("F 1 00000315011100000000", "0 4 1 00200315000400007700"),
-        ("F 1 00020401027200000000", "17 5"),
-        ("F 1 00040500020300000000", "0 6 1 00620500000400060000"),
-        // The GO of port 1 is answered on port 0.
-        ("F 0 003f", "0 7 0 0073"),
-        ("F 0 00000615011100000000", "0 8 0 00200615000400007700"),
-        (&format!("S {}", received), "0 9 0 00220401000699999999"),
-        ("F 1 00060715011100000000", "12 10"),
-        ("F 0 00060715011100000000", "0 11 0 002d"),
-        // Back to port 1, which goes on with its 2 and 3.
-        ("B", "17 10"),
-        ("B", "17 9"),
-        ("B", "17 8"),
-        ("B", "17 7"),
-        ("B", "17 6"),
-        ("F 1 00060815011100000000", "0 7 1 00840815000400007700"),
-        (&format!("S {}", received), "0 8 1 00860401000699999999"),
-        // Back to port 0, which goes on with its 2 and 2.
-        ("B", "17 7"),
-        ("B", "17 6"),
-        ("B", "17 5"),
-        ("B", "17 4"),
-        ("B", "17 3"),
-        ("B", "17 2"),
-        ("F 0 00040915011100000000", "0 3 0 00640915000400007700"),
-    ];
-    let (input, output): (Vec<_>, Vec<_>) = lines.into_iter().unzip();
-    assert_eq!(shown(&input.join("\n")), output.join("\n") + "\n");
 }
 
 /// A small generator of repeatable numbers (xorshift).
