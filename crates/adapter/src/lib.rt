@@ -1,5 +1,6 @@
 // The adapter as its users call it, on the bytes that they lend: every refusal in document 01's order, every event kept in the journal, steps
 // back.
+#![tactic(auto)]
 pub mod events;
 
 ghost use Rattle.std.specs.Prelude.{◌≡◌, true, not, cond, ◌<◌, ltb, length};
@@ -18,7 +19,7 @@ use numbers::{
 use state::{BYTES, LINK};
 
 // An event's answer: document 01's number, and with number 0 the port and the length of the frame in the output.
-#[derive(Drop)]
+#[derive(Clone, Copy)]
 pub struct Answer {
     pub number: u8,
     pub port: u8,
@@ -26,14 +27,14 @@ pub struct Answer {
 }
 
 // How many events can be taken back.
-#[derive(Drop)]
+#[derive(Clone, Copy)]
 pub struct KeptNumber {
     pub number: u8,
     pub kept: u8,
 }
 
 // Whether a call is refused, and by which number.
-#[derive(Drop)]
+#[derive(Clone, Copy)]
 pub enum Verdict {
     Refused(u8),
     Passed,

@@ -1,5 +1,6 @@
 // A batch of pin samples, in two passes over its list: the first looks at every kind, the second gives the samples to the chip one by one. What
 // walks the list hands each sample to `step`; between them, all that a batch is stands in a `Pass`.
+#![tactic(auto)]
 ghost use Rattle.std.specs.Prelude.{◌≡◌, true, ◌+◌, ◌≤◌, ◌<◌, length};
 ghost use Rattle.std.specs.Int.Count.{ones};
 ghost use Rattle.numbers.specs.Numbers.{reply_bytes, samples_most};
@@ -16,7 +17,7 @@ use numbers::{BAD_ARGUMENT, BATCH_LEAST, HAS_FRAME, NO_FRAME, REPLY_BYTES, SAMPL
 
 // What a logic probe saw: the levels of the 32 lines, and the edge kind.
 #[repr(C)]
-#[derive(Drop)]
+#[derive(Clone, Copy)]
 pub struct Sample {
     pub levels: u32,
     pub kind: u32,
@@ -24,7 +25,7 @@ pub struct Sample {
 
 // Where a batch stands: its next sample; whether samples are given to the chip, or their kinds still looked at; the number that refuses it, or 0;
 // the port of its frames, how many they are, and the sum of the lines that they name.
-#[derive(Drop)]
+#[derive(Clone, Copy)]
 pub struct Pass {
     pub at: usize,
     pub doing: bool,
@@ -35,7 +36,7 @@ pub struct Pass {
 }
 
 // A batch's answer: document 01's number, and with number 0 the port and the length of each frame, their number, and the sum.
-#[derive(Drop)]
+#[derive(Clone, Copy)]
 pub struct Batch {
     pub number: u8,
     pub port: u8,

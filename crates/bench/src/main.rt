@@ -1,5 +1,6 @@
 // The bench program: a listing on standard input, its answers on standard output. What matters is in `player`; here it is only read,
 // fed and written. The answers to what was read are written before the next read.
+#![tactic(auto)]
 ghost use Rattle.std.specs.Prelude.{◌≤◌, length};
 
 use libc::{STDERR_FILENO, STDIN_FILENO, STDOUT_FILENO};
@@ -12,7 +13,7 @@ const BLOCK_ROOM: usize = 16384;
 const OUTPUT_ROOM: usize = BLOCK_ROOM * ANSWER_ROOM;
 
 // Between two reads, besides lent bytes: the characters of the line so far, and whether there is more to read.
-#[derive(Drop)]
+#[derive(Clone, Copy)]
 struct Bench {
     count: usize,
     more: bool,

@@ -13,7 +13,7 @@ use commands::request::{
 use registers::{i2c, read};
 
 // An error, or the LEN that a reply gives and what is to be done.
-#[derive(Drop)]
+#[derive(Clone, Copy)]
 pub enum Decoded {
     Wrong(u8),
     Right(u8, Does),

@@ -9,14 +9,14 @@ use commands::channel::Channel;
 use commands::command::{Command, Control, Does};
 use commands::request::Request;
 
-#[derive(Drop)]
+#[derive(Clone, Copy)]
 pub enum Group {
     Nothing,
     Switched(Control),
 }
 
 // So many bytes among the registers, from a place on.
-#[derive(Drop)]
+#[derive(Clone, Copy)]
 pub struct Span {
     pub first: usize,
     pub many: usize,

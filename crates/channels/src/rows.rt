@@ -10,7 +10,7 @@ use commands::command::{Control, Register};
 use registers::{MASTER_BYTES, read};
 
 // What enables a channel: a bit of a register of the controller.
-#[derive(Drop)]
+#[derive(Clone, Copy)]
 pub enum Switch {
     Always,
     Never,
@@ -18,14 +18,14 @@ pub enum Switch {
 }
 
 // What makes a channel busy: a register that keeps the TRN of an open start.
-#[derive(Drop)]
+#[derive(Clone, Copy)]
 pub enum Busy {
     Never,
     While(Register),
 }
 
 // The channel's own bytes are so many, from a place on.
-#[derive(Drop)]
+#[derive(Clone, Copy)]
 pub struct Row {
     pub known: bool,
     pub switch: Switch,

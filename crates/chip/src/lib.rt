@@ -1,4 +1,5 @@
 // The chip as a machine: what each event makes of its link and of the registers that it is lent, and its frame laid into the output.
+#![tactic(auto)]
 mod answer;
 pub mod events;
 mod frame;
@@ -7,7 +8,7 @@ mod request;
 use link::Link;
 
 // What a call gives: the link after it, document 01's number, and with number 0 the port and the length of the frame in the output.
-#[derive(Drop)]
+#[derive(Clone, Copy)]
 pub struct Response {
     pub link: Link,
     pub number: u8,

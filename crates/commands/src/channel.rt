@@ -5,7 +5,7 @@ ghost use Rattle.commands.specs.Channels.{channel_of, command_of};
 use crate::command::Command;
 use crate::{chip_id, controller, dac, gpio, i2c, seu, spi};
 
-#[derive(Drop)]
+#[derive(Clone, Copy)]
 pub enum Channel {
     Controller,
     Spi,

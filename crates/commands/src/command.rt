@@ -2,7 +2,7 @@
 
 // The registers of all channels, by their names; those of an I2C master with its number, 0 to 15. SpiGo and I2cOpen are no registers of the manual:
 // SpiGo has the TRN of an open GO, I2cOpen that of an open start and, above it, the start's code.
-#[derive(Drop)]
+#[derive(Clone, Copy)]
 pub enum Register {
     Crb,
     Crc,
@@ -41,14 +41,14 @@ pub enum Register {
 }
 
 // The controller's registers: each switches channels on and off.
-#[derive(Drop)]
+#[derive(Clone, Copy)]
 pub enum Control {
     B,
     C,
     D,
 }
 
-#[derive(Drop)]
+#[derive(Clone, Copy)]
 pub enum Does {
     // D goes into a register.
     Write(Register),
@@ -65,7 +65,7 @@ pub enum Does {
 }
 
 // What a master does on its bus: it moves one byte, or as many as CTRL says, or reads a byte and writes it back changed.
-#[derive(Drop)]
+#[derive(Clone, Copy)]
 pub enum Transaction {
     WriteOne,
     ReadOne,
@@ -75,13 +75,13 @@ pub enum Transaction {
 }
 
 // LEN as a command asks it and as its reply gives it.
-#[derive(Drop)]
+#[derive(Clone, Copy)]
 pub struct Lengths {
     pub asked: u8,
     pub given: u8,
 }
 
-#[derive(Drop)]
+#[derive(Clone, Copy)]
 pub enum Command {
     Known(Lengths, Does),
     Unknown,

@@ -1,4 +1,6 @@
 // The commands of each channel, as document 01's table has them: code, LEN asked, LEN given, what it does. Of registers only the names.
+#![tactic(auto)]
+
 pub mod channel;
 mod chip_id;
 pub mod command;

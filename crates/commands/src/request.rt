@@ -3,7 +3,7 @@ ghost use Rattle.std.specs.Prelude.{◌≡◌};
 ghost use Rattle.commands.specs.Request.{granted, refusal};
 
 // TRN, CH, LEN, CMD and D[31:0].
-#[derive(Drop)]
+#[derive(Clone, Copy)]
 pub struct Request {
     pub trn: u8,
     pub ch: u8,
@@ -13,7 +13,7 @@ pub struct Request {
 }
 
 // A reply's ERR, LEN and D[31:0]; or no reply yet.
-#[derive(Drop)]
+#[derive(Clone, Copy)]
 pub enum Reply {
     Sent { error: u8, length: u8, value: u32 },
     Later,

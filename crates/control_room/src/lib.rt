@@ -1,4 +1,5 @@
 // The control room's end of the link: requests written from the chip's own tables of commands, replies read, and the record of what is open between.
+#![tactic(auto)]
 mod record;
 
 ghost use Rattle.std.specs.Prelude.{◌≡◌, cond, true, false, ◌≤◌, eqb, length};
@@ -28,7 +29,7 @@ const COMMAND_BYTES: u8 = 2;
 const INTERRUPT_CHANNEL: u8 = 0x02;
 
 // A number; with number 0 the bytes written, and whether what was read is an interrupt.
-#[derive(Drop)]
+#[derive(Clone, Copy)]
 pub struct Given {
     pub number: u8,
     pub length: u8,

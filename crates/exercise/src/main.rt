@@ -3,6 +3,7 @@
 // interrupt from request 2026-02. The comment above a call is how its line comes about: s and r are the send and the receive number in
 // its control, 2 s + 32 r; then LEN as asked and as given, and the data. A reply is 00, control, TRN 01, CH, ERR, LEN, D[23:16],
 // D[31:24], D[7:0], D[15:8]; ERR is 0 and data is 0 where nothing else is said.
+#![tactic(auto)]
 mod print;
 mod requests;
 

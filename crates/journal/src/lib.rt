@@ -1,5 +1,6 @@
 // The journal: a ring of records in lent bytes, each of which takes the state after an event back to the one before it. A journal belongs
 // to the state that it went with.
+#![tactic(auto)]
 mod records;
 
 ghost use Rattle.std.specs.Prelude.{◌≡◌, true, false, cond, ◌+◌, ◌-◌, ◌%◌, ◌<◌, ◌≤◌, length};
@@ -34,7 +35,7 @@ const FIRST: usize = 5;
 pub const KEPT: usize = 6;
 
 // How many slots a journal has, and the version that its header says.
-#[derive(Drop)]
+#[derive(Clone, Copy)]
 struct Format {
     slots: u8,
     version: u16,

@@ -1,23 +1,25 @@
 // The link alone: its numbers, its control field, its active port and what belongs to each port.
+#![tactic(auto)]
+
 ghost use Rattle.std.specs.Prelude.{◌%◌, ◌≡◌};
 ghost use Rattle.link.specs.Link.{send_up, receive_up, receive_number, number_in, packed, reply_control, reject_control, acknowledge_control};
 ghost use Rattle.link.specs.Link.{is_connect, is_reset, is_test, fresh_link, looped_at, in_loopback};
 
 // Two types, so that a reply's control cannot take one number for the other.
-#[derive(Drop)]
+#[derive(Clone, Copy)]
 pub struct SendNumber(pub u8);
 
-#[derive(Drop)]
+#[derive(Clone, Copy)]
 pub struct ReceiveNumber(pub u8);
 
 // What belongs to one port.
-#[derive(Drop)]
+#[derive(Clone, Copy)]
 pub struct Port {
     pub loopback: bool,
 }
 
 // The two numbers, the active port, and the two ports.
-#[derive(Drop)]
+#[derive(Clone, Copy)]
 pub struct Link {
     pub send: SendNumber,
     pub receive: ReceiveNumber,

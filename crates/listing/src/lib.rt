@@ -1,10 +1,11 @@
 // The bench listing: what a line of text says, and an answer as a line of text; pure, on lent bytes.
+#![tactic(auto)]
 pub mod answer;
 pub mod characters;
 pub mod line;
 
 // What a line is.
-#[derive(Drop)]
+#[derive(Clone, Copy)]
 pub enum Form {
     Frame,
     Completion,

@@ -1,5 +1,6 @@
 // The numbers that calls give back: document 01, "Numbers given back", and document 02's. A call is refused when it gives 1 to 10 or 31 to 35.
 // Then the sizes of what a call is handed, and of what it writes, as documents 01 and 02 have them.
+#![tactic(auto)]
 
 // A frame was read or sent; or the control room wrote or read a body.
 pub const HAS_FRAME: u8 = 0;

@@ -1,4 +1,5 @@
 // A listing played: each line's answer behind the last one's, lines cut out of blocks of any size.
+#![tactic(auto)]
 pub mod calls;
 
 ghost use Rattle.std.specs.Prelude.{◌≡◌, ◌+◌, ◌*◌, ◌≤◌, length, take};
@@ -20,7 +21,7 @@ pub const LINE_ROOM: usize = 81;
 pub const ANSWER_ROOM: usize = 48;
 
 // What a block leaves besides lent bytes: the characters of the line so far, and the output's length.
-#[derive(Drop)]
+#[derive(Clone, Copy)]
 pub struct Fed {
     pub count: usize,
     pub next: usize,

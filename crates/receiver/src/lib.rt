@@ -1,4 +1,5 @@
 // The receiver: frames are read from cable bits (document 01, "The wire").
+#![tactic(auto)]
 mod ranges;
 mod scanning;
 mod verdict;
@@ -14,7 +15,7 @@ use numbers::{BAD_START, BAD_STATE, INPUT_MOST, LONG_INPUT, OUTPUT_LEAST, SHORT_
 use scanning::Control;
 
 // A receiver between two calls; docs/RECEIVER.md has its fields and ranges.
-#[derive(Drop)]
+#[derive(Clone, Copy)]
 pub struct Receiver {
     pub mode: u8,
     pub ones: u8,
@@ -24,7 +25,7 @@ pub struct Receiver {
 }
 
 // What a reading gives: the receiver, the number, the bits consumed, and the length of a body.
-#[derive(Drop)]
+#[derive(Clone, Copy)]
 pub struct Received {
     pub rx: Receiver,
     pub number: u8,

@@ -5,7 +5,7 @@ ghost use Rattle.wire.specs.Bits.{wire};
 ghost use Rattle.receiver.specs.Inner.{Good, Stepped, Scan, Idle, Same};
 
 // A receiver without its bytes: small enough to go by value with every bit.
-#[derive(Drop)]
+#[derive(Clone, Copy)]
 pub struct Control {
     pub mode: u8,
     pub ones: u8,
@@ -14,7 +14,7 @@ pub struct Control {
 }
 
 // Where a scan stopped: hit is 0 where the bits ran out, 1 at a flag, 2 at a seventh one.
-#[derive(Drop)]
+#[derive(Clone, Copy)]
 pub struct Scanned {
     pub control: Control,
     pub bytes: [u8; 20],

@@ -1,6 +1,7 @@
 // The registers of all channels, in lent bytes: a row for each, with its place, its width, the bits that it keeps, and where it stands in D.
 // One way to read them and one to store into them, and what a pin sample, an SPI transfer and an I2C transaction leave of them. Nothing here of
 // LEN, of enable bits, of errors.
+#![tactic(auto)]
 pub mod gpio;
 pub mod i2c;
 pub mod spi;
@@ -15,7 +16,7 @@ use parts::Width;
 pub const SIZE: usize = 406;
 
 // A register's place and width, the bits that it keeps, and the bit of D where its lowest one stands.
-#[derive(Drop)]
+#[derive(Clone, Copy)]
 pub struct Row {
     pub place: usize,
     pub width: Width,

@@ -1,4 +1,5 @@
 // What C and Rust programs link: every call on numbers, byte slices and, for a batch, a slice of sample structs, its result packed into one number.
+#![tactic(auto)]
 mod receiving;
 
 ghost use Rattle.std.specs.Prelude.{◌≡◌, ◌≤◌, ◌<◌};

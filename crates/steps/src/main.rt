@@ -1,6 +1,7 @@
 // Walks along the edges that documents 01 and 02 name: bodies of 1, 2, 16 and 17 bytes; SPI lengths of 0, 1 and 127; 64 and 65 events with a small
 // journal, 200 and 201 with a large one, and steps back until one is refused. A line is the number and the kept number, then with 0 the port and the
 // body. docs/STEPS.md works every line out.
+#![tactic(auto)]
 ghost use Rattle.std.specs.Prelude.{◌≡◌, length};
 ghost use Rattle.state.specs.Bytes.{state_size};
 

@@ -9,7 +9,7 @@ const FLAG: u16 = 0x7E;
 
 // How far the output is written: its bits, those of them in its last byte as long as it is not whole, and the
 // run of ones at their end.
-#[derive(Drop)]
+#[derive(Clone, Copy)]
 struct Pen {
     bits: usize,
     held: u16,

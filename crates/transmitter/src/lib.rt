@@ -1,4 +1,5 @@
 // The transmitter: a body goes out as a frame (document 01, "The wire").
+#![tactic(auto)]
 mod framing;
 
 ghost use Rattle.std.specs.Prelude.{◌≡◌};
@@ -7,7 +8,7 @@ ghost use Rattle.transmitter.specs.Transmit as transmit;
 use numbers::{BAD_BODY, BODY_LEAST, BODY_MOST, CABLE_MOST, HAS_FRAME, SHORT_OUTPUT};
 
 // What a transmission gives: the number, and how many bytes were written.
-#[derive(Drop)]
+#[derive(Clone, Copy)]
 pub struct Sent {
     pub number: u8,
     pub count: usize,

@@ -17,11 +17,11 @@ zeros n = replicate n 0
 length_zeros : (n : ℕ) → length (zeros n) ≡ n
 length_zeros n = length-replicate n 0
 
-abbrev invariant-loop : tie.invariant-loop
-invariant-loop s₀ at many i₀ s i = (i ≤ many) × (length s ≡ length s₀) × (s ≡ put at (zeros i) s₀)
+abbrev invariant-loop-i : tie.invariant-loop-i
+invariant-loop-i s₀ at many i₀ s i = (i ≤ many) × (length s ≡ length s₀) × (s ≡ put at (zeros i) s₀)
 
-abbrev decreases-loop : tie.decreases-loop
-decreases-loop s₀ at many i₀ s i = many - i
+abbrev decreases-loop-i : tie.decreases-loop-i
+decreases-loop-i s₀ at many i₀ s i = many - i
 
 one_more : (at many i : ℕ) (s after : List ℕ) → at + many ≤ length s → i < many → after ≡ put at (zeros i) s
     → set after (at + i) 0 ≡ put at (zeros (i + 1)) s
@@ -40,8 +40,8 @@ pub clear_spec : {M : Type 1} → statement M
 clear_spec =
     tie.close
     (tie.spec
-    invariant-loop
-    decreases-loop
+    invariant-loop-i
+    decreases-loop-i
     (λ c. (search rules, refl, put_none _ _))
     (λ c. search rules)
     (λ c. search rules)

@@ -7,16 +7,16 @@ use Rattle.parts.proofs.Laws.{Halfway, exchanged_more, exchanged_all}
 use Rattle.parts.proofs.exchange.Statement.{statement}
 use Rattle.parts.proofs.exchange.Tie as tie
 
-abbrev invariant-loop : tie.invariant-loop
-invariant-loop d₀ s₀ i₀ d s i = Halfway d₀ s₀ i d × Halfway s₀ d₀ i s × (i ≤ length d₀) × (length s₀ ≡ length d₀)
+abbrev invariant-loop-i : tie.invariant-loop-i
+invariant-loop-i d₀ s₀ i₀ d s i = Halfway d₀ s₀ i d × Halfway s₀ d₀ i s × (i ≤ length d₀) × (length s₀ ≡ length d₀)
 
-abbrev decreases-loop : tie.decreases-loop
-decreases-loop d₀ s₀ i₀ d s i = length d - i
+abbrev decreases-loop-i : tie.decreases-loop-i
+decreases-loop-i d₀ s₀ i₀ d s i = length d - i
 
-loop_again : tie.Need-loop-preserved invariant-loop decreases-loop
+loop_again : tie.Need-loop-i-preserved invariant-loop-i decreases-loop-i
 loop_again c =
     let a = c.before.before.before.before.args in
-    let l = c.before.before.before.loop in
+    let l = c.before.before.before.loop-i in
     let v = l.invariant in
     let m = v.0.0 in
     let n = v.3 in (
@@ -26,10 +26,10 @@ loop_again c =
       n,
     )
 
-returns : tie.Need-returns invariant-loop decreases-loop
+returns : tie.Need-returns invariant-loop-i decreases-loop-i
 returns c =
     let a = c.before.before.args in
-    let l = c.before.loop in
+    let l = c.before.loop-i in
     let v = l.invariant in
     let m = v.0.0 in
     let n = v.3 in
@@ -39,16 +39,16 @@ pub exchange_spec : {M : Type 1} → statement M
 exchange_spec =
     tie.close
     (tie.spec
-    invariant-loop
-    decreases-loop
+    invariant-loop-i
+    decreases-loop-i
     (λ c. ((refl, refl, refl), (refl, refl, refl), omega arith, sym c.requires))
     (λ c. omega arith)
-    (λ c. omega (arith, c.before.before.before.loop.invariant.0.0, c.before.before.before.loop.invariant.1.0))
+    (λ c. omega (arith, c.before.before.before.loop-i.invariant.0.0, c.before.before.before.loop-i.invariant.1.0))
     (λ c. omega arith)
-    (λ c. omega (arith, c.before.before.before.loop.invariant.0.0, c.before.before.before.loop.invariant.1.0))
+    (λ c. omega (arith, c.before.before.before.loop-i.invariant.0.0, c.before.before.before.loop-i.invariant.1.0))
     (λ c. omega arith)
     (λ c. simp length-set (omega arith))
     loop_again
-    (λ c. c.before.loop.invariant.0.0)
-    (λ c. c.before.loop.invariant.1.0)
+    (λ c. c.before.loop-i.invariant.0.0)
+    (λ c. c.before.loop-i.invariant.1.0)
     returns)

@@ -32,12 +32,12 @@ unfolding channel_of
 channel_of_spec =
     tie.close
     (tie.spec
-    (λ c. past_two _ c.before.match.rest)
-    (λ c. ap channel_of (sym c.match.keys1))
-    (λ c. ap channel_of (sym c.match.keys2))
-    (λ c. ap channel_of (sym c.match.keys3))
-    (λ c. ap channel_of (sym c.match.keys4))
-    (λ c. ap channel_of (sym c.match.keys5))
-    (λ c. ap channel_of (sym c.match.keys6))
-    (λ c. master _ c.before.match.rest c.if1.true)
-    (λ c. no_master _ c.before.match.rest c.if1.false))
+    (λ c. past_two _ c.before.in_default.in_default-own.rest)
+    (λ c. ap channel_of (sym c.in-0.is))
+    (λ c. ap channel_of (sym c.in-1.is))
+    (λ c. ap channel_of (sym c.in-2.is))
+    (λ c. ap channel_of (sym c.in-19.is))
+    (λ c. ap channel_of (sym c.in-20.is))
+    (λ c. ap channel_of (sym c.in-21.is))
+    (λ c. master _ c.before.in_default.in_default-own.rest c.if-ch-lt19.true)
+    (λ c. no_master _ c.before.in_default.in_default-own.rest c.if-ch-lt19.false))

@@ -12,5 +12,5 @@ unfolding code_of
 command_of_spec =
     tie.close
     (tie.spec
-    (λ c. ap (code_of id_commands) (sym c.match.keys1))
-    (λ c. none_of id_commands Unknown _ c.match.rest))
+    (λ c. ap (code_of id_commands) (sym c.in-209.is))
+    (λ c. none_of id_commands Unknown _ c.in_default.in_default-own.rest))

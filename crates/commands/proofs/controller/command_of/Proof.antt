@@ -12,10 +12,10 @@ unfolding code_of
 command_of_spec =
     tie.close
     (tie.spec
-    (λ c. ap (code_of controller_commands) (sym c.match.keys1))
-    (λ c. ap (code_of controller_commands) (sym c.match.keys2))
-    (λ c. ap (code_of controller_commands) (sym c.match.keys3))
-    (λ c. ap (code_of controller_commands) (sym c.match.keys4))
-    (λ c. ap (code_of controller_commands) (sym c.match.keys5))
-    (λ c. ap (code_of controller_commands) (sym c.match.keys6))
-    (λ c. none_of controller_commands Unknown _ c.match.rest))
+    (λ c. ap (code_of controller_commands) (sym c.in-2.is))
+    (λ c. ap (code_of controller_commands) (sym c.in-4.is))
+    (λ c. ap (code_of controller_commands) (sym c.in-6.is))
+    (λ c. ap (code_of controller_commands) (sym c.in-3.is))
+    (λ c. ap (code_of controller_commands) (sym c.in-5.is))
+    (λ c. ap (code_of controller_commands) (sym c.in-7.is))
+    (λ c. none_of controller_commands Unknown _ c.in_default.in_default-own.rest))

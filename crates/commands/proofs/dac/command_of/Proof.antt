@@ -12,12 +12,12 @@ unfolding code_of
 command_of_spec =
     tie.close
     (tie.spec
-    (λ c. ap (code_of dac_commands) (sym c.match.keys1))
-    (λ c. ap (code_of dac_commands) (sym c.match.keys2))
-    (λ c. ap (code_of dac_commands) (sym c.match.keys3))
-    (λ c. ap (code_of dac_commands) (sym c.match.keys4))
-    (λ c. ap (code_of dac_commands) (sym c.match.keys5))
-    (λ c. ap (code_of dac_commands) (sym c.match.keys6))
-    (λ c. ap (code_of dac_commands) (sym c.match.keys7))
-    (λ c. ap (code_of dac_commands) (sym c.match.keys8))
-    (λ c. none_of dac_commands Unknown _ c.match.rest))
+    (λ c. ap (code_of dac_commands) (sym c.in-16.is))
+    (λ c. ap (code_of dac_commands) (sym c.in-32.is))
+    (λ c. ap (code_of dac_commands) (sym c.in-48.is))
+    (λ c. ap (code_of dac_commands) (sym c.in-64.is))
+    (λ c. ap (code_of dac_commands) (sym c.in-17.is))
+    (λ c. ap (code_of dac_commands) (sym c.in-33.is))
+    (λ c. ap (code_of dac_commands) (sym c.in-49.is))
+    (λ c. ap (code_of dac_commands) (sym c.in-65.is))
+    (λ c. none_of dac_commands Unknown _ c.in_default.in_default-own.rest))

@@ -12,6 +12,6 @@ unfolding code_of
 command_of_spec =
     tie.close
     (tie.spec
-    (λ c. ap (code_of seu_commands) (sym c.match.keys1))
-    (λ c. ap (code_of seu_commands) (sym c.match.keys2))
-    (λ c. none_of seu_commands Unknown _ c.match.rest))
+    (λ c. ap (code_of seu_commands) (sym c.in-241.is))
+    (λ c. ap (code_of seu_commands) (sym c.in-240.is))
+    (λ c. none_of seu_commands Unknown _ c.in_default.in_default-own.rest))
