@@ -8,7 +8,7 @@ use Rattle.adapter.proofs.i2c_completion.Statement.{statement}
 use Rattle.adapter.proofs.i2c_completion.Tie as tie
 
 i2c_completion_requires : tie.Need-i2c-completion-requires
-i2c-completion-requires c κs =
+i2c_completion_requires c κs =
     let t = c.before.before.before in
     let p = unrefused _ _ _ _ _ _ t.enum_told.given.1 t.before.before.judge.ensures in (
       (not-false _ p.1, its_length _ (not-false _ p.0)),

@@ -21,13 +21,13 @@ a_journal : (c : tie.Else2) → well_formed c.before.before.before.before.before
 a_journal c = tested_not _ _ _ c.before.is-well-formed.ensures c.if2.false
 
 no_journal : tie.Need-returns-2
-no-journal c = back_journal _ _ (a_state c.before.before.before) (tested_not _ _ _ c.before.is-well-formed.ensures c.if2.true)
+no_journal c = back_journal _ _ (a_state c.before.before.before) (tested_not _ _ _ c.before.is-well-formed.ensures c.if2.true)
 
 none_kept : tie.Need-returns-3
 none_kept c = let t = c.before.before in back_none _ _ (a_state t.before.before.before) (a_journal t) c.if3.true
 
 take_back_requires : tie.Need-take-back-requires
-take-back-requires c κs =
+take_back_requires c κs =
     let t = c.before.before.before.before in
     (its_length _ (a_state t.before.before.before), (a_journal t, pos_of_ne-zero c.before.before.if3.false))
 

@@ -8,13 +8,13 @@ use Rattle.journal.proofs.keep_part.Statement.{statement}
 use Rattle.journal.proofs.keep_part.Tie as tie
 
 slice_write_j : tie.Need-slice-write-j
-slice-write-j c =
+slice_write_j c =
     let p = c.before.before.before.before.before.before.before.before.before.before.before.before.requires in
     let s = in_journal _ 6 p.0 (lit< tt) in
     search rules
 
 slice_write_j_2 : tie.Need-slice-write-j-2
-slice-write-j-2 c =
+slice_write_j_2 c =
     let p = c.before.before.before.before.before.before.before.before.before.before.before.before.requires in
     let s = in_journal _ 6 p.0 (lit< tt) in
     simp length-set (search rules)

@@ -8,7 +8,7 @@ use Rattle.journal.proofs.restore.Statement.{statement}
 use Rattle.journal.proofs.restore.Tie as tie
 
 add_end : tie.Need-overflow-add-end
-add-end c = let l = newest_in _ _ c.before.before.before.before.requires.0 c.newest.ensures 256 (lit≤ tt) in search rules
+add_end c = let l = newest_in _ _ c.before.before.before.before.requires.0 c.newest.ensures 256 (lit≤ tt) in search rules
 
 pub restore_spec : {M : Type 1} → statement M
 restore_spec =

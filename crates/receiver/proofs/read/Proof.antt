@@ -5,7 +5,7 @@ use Rattle.receiver.proofs.read.Statement.{statement}
 use Rattle.receiver.proofs.read.Tie as tie
 
 conclude_requires : tie.Need-conclude-requires
-conclude-requires c κs =
+conclude_requires c κs =
     let s = c.before.scan-from.ensures in
     (s.good, (s.ends, search rules))
 

@@ -9,16 +9,16 @@ returns : tie.Need-returns
 returns c = input_refused _ _ _ _ (sym c.before.before.before.in-range.ensures.0 ∙ c.before.before.if1.true) c.before.if2.true c.bare.ensures
 
 returns_2 : tie.Need-returns-2
-returns-2 c =
+returns_2 c =
     start_refused _ _ _ _ (sym c.before.before.before.before.in-range.ensures.0 ∙ c.before.before.before.if1.true) c.before.before.if2.false c.before.if3.true c.bare2.ensures
 
 returns_3 : tie.Need-returns-3
-returns-3 c =
+returns_3 c =
     output_refused _ _ _ _ (sym c.before.before.before.before.before.in-range.ensures.0 ∙ c.before.before.before.before.if1.true) c.before.before.before.if2.false c.before.before.if3.false c.before.if4.true
     c.bare3.ensures
 
 returns_4 : tie.Need-returns-4
-returns-4 c =
+returns_4 c =
     let r = c.before.before.read.ensures in
     answered _ _ _ _ (sym c.before.before.before.before.before.before.before.before.in-range.ensures.0 ∙ c.before.before.before.before.before.before.before.if1.true) c.before.before.before.before.before.before.if2.false c.before.before.before.before.before.if3.false c.before.before.before.before.if4.false r.0 r.1
 

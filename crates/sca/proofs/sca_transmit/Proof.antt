@@ -7,7 +7,7 @@ use Rattle.sca.proofs.sca_transmit.Statement.{statement}
 use Rattle.sca.proofs.sca_transmit.Tie as tie
 
 pack_sent_requires : tie.Need-pack-sent-requires
-pack-sent-requires c κs = rw c.before.before.transmit.ensures.0 (sent_small _ _)
+pack_sent_requires c κs = rw c.before.before.transmit.ensures.0 (sent_small _ _)
 
 returns : tie.Need-returns
 returns c = (c.pack-sent.ensures ∙ ap pack_sent c.before.before.before.transmit.ensures.0, c.before.before.before.transmit.ensures.1)

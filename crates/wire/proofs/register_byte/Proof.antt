@@ -9,8 +9,8 @@ use Rattle.wire.proofs.register_byte.Tie as tie
 
 returns : tie.Need-returns
 returns c =
-    let a = c.before.before.args in
-    rw (low_nibbles a.x, register_append a.start (low 4 (a.x % 16)) (low 4 (a.x / 16)), sym c.before.register-four.ensures) c.register-four2.ensures
+    let a = c.args in
+    rw (low_nibbles a.x, register_append a.start (low 4 (a.x % 16)) (low 4 (a.x / 16)), sym c.register_four-c.ensures) c.register_four.ensures
 
 pub register_byte_spec : {M : Type 1} → statement M
 register_byte_spec =

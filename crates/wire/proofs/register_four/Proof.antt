@@ -5,8 +5,8 @@ use borrow.Author.Rules.{rules}
 use Rattle.wire.proofs.register_four.Statement.{statement}
 use Rattle.wire.proofs.register_four.Tie as tie
 
-mul_result : tie.Need-overflow-mul-result
-mul-result c = search rules
+mul_result : tie.Need-overflow_mul-result
+mul_result c = search rules
 
 returns : tie.Need-returns
 returns c = sym (register_four_lem c.args.c c.args.x c.requires)

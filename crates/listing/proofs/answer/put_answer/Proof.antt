@@ -5,13 +5,13 @@ use Rattle.listing.proofs.answer.put_answer.Statement.{statement}
 use Rattle.listing.proofs.answer.put_answer.Tie as tie
 
 put_frame_requires : tie.Need-put-frame-requires
-put-frame-requires c κs = (
+put_frame_requires c κs = (
   frame_room _ _ _ _ _ _ _ _ _ _ c.before.before.before.put-decimal2.ensures c.before.before.before.before.before.before.before.put_byte.ensures c.before.before.before.before.before.before.before.before.before.before.before.put-decimal.ensures c.before.before.before.before.before.before.before.before.before.before.before.before.before.before.before.requires.0,
   c.before.before.before.before.before.before.before.before.before.before.before.before.before.before.before.requires.1,
 )
 
 put_byte_requires : tie.Need-put-byte-requires-2
-put-byte-requires c κs =
+put_byte_requires c κs =
     end_room _ _ _ _ _ _ _ _ _ _ _ _ _ _ c.before.before.before.put-frame.ensures c.before.before.before.before.before.before.before.put-decimal2.ensures c.before.before.before.before.before.before.before.before.before.before.before.put_byte.ensures c.before.before.before.before.before.before.before.before.before.before.before.before.before.before.before.put-decimal.ensures c.before.before.before.before.before.before.before.before.before.before.before.before.before.before.before.before.before.before.before.requires.0
     c.before.before.before.before.before.before.before.before.before.before.before.before.before.before.before.before.before.before.before.requires.1
 

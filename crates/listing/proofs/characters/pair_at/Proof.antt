@@ -8,7 +8,7 @@ use Rattle.listing.proofs.characters.pair_at.Statement.{statement}
 use Rattle.listing.proofs.characters.pair_at.Tie as tie
 
 add_result : tie.Need-overflow-add-result
-add-result c =
+add_result c =
     let h = is_small_lem _ _ c.before.before.hex-value.ensures in
     let l = is_small_lem _ _ c.hex-value2.ensures in
     omega arith

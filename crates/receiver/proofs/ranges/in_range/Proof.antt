@@ -8,7 +8,7 @@ use Rattle.receiver.proofs.ranges.in_range.Statement.{statement}
 use Rattle.receiver.proofs.ranges.in_range.Tie as tie
 
 clear_from_requires : tie.Need-clear-from-requires
-clear-from-requires c κs =
+clear_from_requires c κs =
     let s = c.before.before.before in
     ((fields _ _ _ _ (sym s.fields_fit.ensures ∙ c.before.before.if1.taken)).count_most, search rules)
 

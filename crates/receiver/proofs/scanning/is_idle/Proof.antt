@@ -6,7 +6,7 @@ use Rattle.receiver.proofs.scanning.is_idle.Statement.{statement}
 use Rattle.receiver.proofs.scanning.is_idle.Tie as tie
 
 returns_6 : tie.Need-returns-6
-returns-6 c h =
+returns_6 c h =
     record {
       all = c.before.before.before.before.before.before.before.before.before.before.before.before.before.before.if1.true;
       control = control_eq _ _ c.before.before.before.before.before.before.before.before.before.before.before.if2.false c.before.before.before.before.before.before.before.before.if3.false c.before.before.before.before.before.if4.false c.before.before.if5.false;

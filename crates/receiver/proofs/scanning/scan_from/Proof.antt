@@ -11,16 +11,16 @@ use Rattle.receiver.proofs.scanning.scan_from.Statement.{statement}
 use Rattle.receiver.proofs.scanning.scan_from.Tie as tie
 
 sub_scan : tie.Need-overflow-sub-scan
-sub-scan c = search rules
+sub_scan c = search rules
 
 part_scan_start : tie.Need-slice-bounds-scan-start
-part-scan-start c = search rules
+part_scan_start c = search rules
 
 part_scan_end : tie.Need-slice-bounds-scan-end
-part-scan-end c = search rules
+part_scan_end c = search rules
 
 scan_requires : tie.Need-scan-requires
-scan-requires c κs = search rules
+scan_requires c κs = search rules
 
 returns : tie.Need-returns
 returns c =

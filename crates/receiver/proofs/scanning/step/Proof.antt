@@ -6,7 +6,7 @@ use Rattle.receiver.proofs.scanning.step.Statement.{statement}
 use Rattle.receiver.proofs.scanning.step.Tie as tie
 
 add_t12 : tie.Need-overflow-add-t12
-add-t12 c = omega (arith, c.before.before.before.under2.ensures.2, c.before.before.before.before.under.ensures.2, c.before.before.before.before.before.requires.0, c.before.before.before.before.before.requires.3)
+add_t12 c = omega (arith, c.before.before.before.under2.ensures.2, c.before.before.before.before.under.ensures.2, c.before.before.before.before.before.requires.0, c.before.before.before.before.before.requires.3)
 
 returns : tie.Need-returns
 returns c =

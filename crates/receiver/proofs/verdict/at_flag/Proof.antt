@@ -14,19 +14,19 @@ returns c =
     bare_flag _ _ (flag_long s.args.t1 s.args.bits s.requires.0 s.requires.1 s.requires.2 c.before.before.if1.true) c.before.at-opening.ensures c.bare.ensures
 
 returns_2 : tie.Need-returns-2
-returns-2 c =
+returns_2 c =
     let s = c.before.before.before.before.before in
     bare_flag _ _ (flag_broken s.args.t1 s.args.bits s.requires.0 s.requires.1 s.requires.2 c.before.before.before.if1.false c.before.before.if2.true)
     c.before.at-opening2.ensures c.bare2.ensures
 
 returns_3 : tie.Need-returns-3
-returns-3 c =
+returns_3 c =
     let s = c.before.before.before.before.before.before.before.before in
     bare_flag _ _ (flag_wrong s.args.t1 s.args.bits s.requires.0 s.requires.1 s.requires.2 c.before.before.before.before.before.before.if1.false c.before.before.before.before.before.if2.false (λ z. c.before.before.if3.true (c.before.before.before.register.ensures ∙ z)))
     c.before.at-opening3.ensures c.bare3.ensures
 
 returns_4 : tie.Need-returns-4
-returns-4 c =
+returns_4 c =
     let s = c.before.before.before.before.before.before.before.before.before.before.before.before in
     let n = length_front s.args.t1 (s.args.bits / 8 - 2) s.requires.2 (omega (arith, s.requires.1)) in
     let g = flag_good s.args.t1 s.args.bits s.requires.0 s.requires.1 s.requires.2 c.before.before.before.before.before.before.before.before.before.before.if1.false c.before.before.before.before.before.before.before.before.before.if2.false s.requires.3 (sym c.before.before.before.before.before.before.before.register.ensures ∙ c.before.before.before.before.before.before.if3.false) in

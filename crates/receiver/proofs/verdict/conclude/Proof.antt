@@ -12,19 +12,19 @@ returns c =
     conclude_out s.args.stop s.requires.0 _ c.before.if1.true refl c.bare.ensures
 
 at_flag_requires : tie.Need-at-flag-requires
-at-flag-requires c κs =
+at_flag_requires c κs =
     let s = c.before.before.before.before.before.before.before.before in
     let g = s.requires.0 in
     (omega (arith, s.requires.1.0 c.before.before.before.if2.true), omega (arith, g.count), g.size, g.small, s.requires.1.1)
 
 returns_2 : tie.Need-returns-2
-returns-2 c =
+returns_2 c =
     let s = c.before.before.before.before.before.before.before.before.before.before.before in
     let a = c.before.before.at_flag.ensures in
     conclude_flag s.args.stop s.requires.0 _ _ _ refl c.before.before.before.before.before.before.if2.true a.0 a.1
 
 returns_3 : tie.Need-returns-3
-returns-3 c =
+returns_3 c =
     let s = c.before.before.before.before.before.before.before in
     conclude_abort s.args.stop s.requires.0 _ c.before.before.before.if1.false c.before.before.if2.false c.before.new.ensures c.bare2.ensures
 

@@ -10,7 +10,7 @@ returns c =
     fill_none a.output.now a.pen.bits a.pen.held c.before.before.before.before.requires.2 (search rules)
 
 put_requires : tie.Need-put-requires
-put-requires c κs =
+put_requires c κs =
     let a = c.before.before.before.before.args in
     let p = c.before.before.before.before.requires in
     fill_room a.output.now a.pen.bits a.pen.held p.0 p.1 p.2 (search rules)

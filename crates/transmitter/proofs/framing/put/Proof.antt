@@ -7,7 +7,7 @@ use Rattle.transmitter.proofs.framing.put.Statement.{statement}
 use Rattle.transmitter.proofs.framing.put.Tie as tie
 
 add_all : tie.Need-overflow-add-all
-add-all c =
+add_all c =
     let a = c.before.before.before.args in
     let p = c.before.before.before.requires in
     record { fits = joined_fits a.output.now a.pen.bits a.pen.held a.v a.count (omega (arith, p.0, p.1)) p.2 p.3 p.4 p.5 }

@@ -8,7 +8,7 @@ use Rattle.transmitter.proofs.framing.stuff_byte.Statement.{statement}
 use Rattle.transmitter.proofs.framing.stuff_byte.Tie as tie
 
 stuff_four_requires_2 : tie.Need-stuff-four-requires-2
-stuff-four-requires-2 c κs =
+stuff_four_requires_2 c κs =
     let w = c.before.before.before.stuff-four.ensures in
     let p = c.before.before.before.before.before.before.requires in
     (omega (arith, w.raw.size, p.0), omega (arith, rw length_low at w.most, p.1), w.raw.held, w.short, omega arith)

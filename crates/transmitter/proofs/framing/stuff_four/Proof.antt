@@ -5,16 +5,16 @@ use Rattle.transmitter.proofs.framing.stuff_four.Statement.{statement}
 use Rattle.transmitter.proofs.framing.stuff_four.Tie as tie
 
 stuffed_requires : tie.Need-stuffed-requires
-stuffed-requires c κs = search rules
+stuffed_requires c κs = search rules
 
 add_count : tie.Need-overflow-add-count
-add-count c = search rules
+add_count c = search rules
 
 cast_count : tie.Need-overflow-cast-count
-cast-count c = search rules
+cast_count c = search rules
 
 put_requires : tie.Need-put-requires
-put-requires c κs = search rules
+put_requires c κs = search rules
 
 same_length : tie.Need-same-length
 same_length c = search rules

@@ -11,20 +11,20 @@ use Rattle.transmitter.proofs.framing.write_frame.Statement.{statement}
 use Rattle.transmitter.proofs.framing.write_frame.Tie as tie
 
 stuff_bytes_requires : tie.Need-stuff-bytes-requires
-stuff-bytes-requires c κs =
+stuff_bytes_requires c κs =
     let a = c.before.before.before.put.ensures in
     let p = c.before.before.before.before.before.before.before.before.requires in
     (omega (arith, a.0.size, p.1), p.0, omega (arith, rw length_low at a.0.count, a.1), a.0.held, omega (arith, a.1))
 
 stuff_byte_requires : tie.Need-stuff-byte-requires
-stuff-byte-requires c κs =
+stuff_byte_requires c κs =
     let w = c.before.before.before.stuff-bytes.ensures in
     let a = c.before.before.before.before.before.before.before.put.ensures in
     let p = c.before.before.before.before.before.before.before.before.before.before.before.before.requires in
     (omega (arith, w.raw.size, a.0.size, p.1), omega (arith, rw length_low at a.0.count, a.1, rw length_wire at w.most, p.0), w.raw.held, omega (arith, w.short))
 
 stuff_byte_requires_2 : tie.Need-stuff-byte-requires-2
-stuff-byte-requires-2 c κs =
+stuff_byte_requires_2 c κs =
     let v = c.before.before.before.stuff-byte.ensures in
     let w = c.before.before.before.before.before.before.before.stuff-bytes.ensures in
     let a = c.before.before.before.before.before.before.before.before.before.before.before.put.ensures in
@@ -32,7 +32,7 @@ stuff-byte-requires-2 c κs =
     (omega (arith, v.raw.size, w.raw.size, a.0.size, p.1), omega (arith, rw length_low at a.0.count, a.1, rw length_wire at w.most, rw length_low at v.most, p.0), v.raw.held, v.short)
 
 put_requires_2 : tie.Need-put-requires-2
-put-requires-2 c κs =
+put_requires_2 c κs =
     let u = c.before.before.before.stuff-byte2.ensures in
     let v = c.before.before.before.before.before.before.before.stuff-byte.ensures in
     let w = c.before.before.before.before.before.before.before.before.before.before.before.stuff-bytes.ensures in
@@ -41,7 +41,7 @@ put-requires-2 c κs =
     (omega (arith, u.raw.size, v.raw.size, w.raw.size, a.0.size, p.1), omega (arith, rw length_low at a.0.count, a.1, rw length_wire at w.most, rw length_low at v.most, rw length_low at u.most, p.0), u.raw.held, omega arith, omega arith, omega arith)
 
 fill_requires : tie.Need-fill-requires
-fill-requires c κs =
+fill_requires c κs =
     let d = c.before.before.before.put2.ensures.0 in
     let u = c.before.before.before.before.before.before.before.stuff-byte2.ensures in
     let v = c.before.before.before.before.before.before.before.before.before.before.before.stuff-byte.ensures in
