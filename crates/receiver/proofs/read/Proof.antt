@@ -6,13 +6,13 @@ use Rattle.receiver.proofs.read.Tie as tie
 
 conclude_requires : tie.Need-conclude-requires
 conclude_requires c κs =
-    let s = c.before.scan-from.ensures in
+    let s = c.scan_from-stop.ensures in
     (s.good, (s.ends, search rules))
 
 returns : tie.Need-returns
 returns c =
-    let s = c.before.before.before.before.before.before.before.before in
-    rw (read_from_lem s.args.rx _ _ s.requires.0 c.before.before.before.before.scan-from.ensures) at c.before.before.conclude.ensures
+    let s = c in
+    rw (read_from_lem s.args.rx _ _ s.requires.0 c.scan_from-stop.ensures) at c.conclude.ensures
 
 pub read_spec : {M : Type 1} → statement M
 read_spec = tie.close (tie.spec (λ c κs. search rules) conclude_requires (λ c. search rules) returns)

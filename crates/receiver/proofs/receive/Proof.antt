@@ -5,22 +5,22 @@ use Rattle.receiver.proofs.Calls.{state_refused, input_refused, start_refused, o
 use Rattle.receiver.proofs.receive.Statement.{statement}
 use Rattle.receiver.proofs.receive.Tie as tie
 
-returns : tie.Need-returns
-returns c = input_refused _ _ _ _ (sym c.before.before.before.in-range.ensures.0 ∙ c.before.before.if1.true) c.before.if2.true c.bare.ensures
+returns : tie.Need-returns-then-input-gt-INPUT_MOST
+returns c = input_refused _ _ _ _ (sym c.in_range.ensures.0 ∙ c.if-in_range.true) c.if-input-gt-INPUT_MOST.true c.bare.ensures
 
-returns_2 : tie.Need-returns-2
+returns_2 : tie.Need-returns-then-input-start
 returns_2 c =
-    start_refused _ _ _ _ (sym c.before.before.before.before.in-range.ensures.0 ∙ c.before.before.before.if1.true) c.before.before.if2.false c.before.if3.true c.bare2.ensures
+    start_refused _ _ _ _ (sym c.in_range.ensures.0 ∙ c.if-in_range.true) c.if-input-gt-INPUT_MOST.false c.if-input-start.true c.bare-then-input-start.ensures
 
-returns_3 : tie.Need-returns-3
+returns_3 : tie.Need-returns-then-output-lt-OUTPUT_LEAST
 returns_3 c =
-    output_refused _ _ _ _ (sym c.before.before.before.before.before.in-range.ensures.0 ∙ c.before.before.before.before.if1.true) c.before.before.before.if2.false c.before.before.if3.false c.before.if4.true
-    c.bare3.ensures
+    output_refused _ _ _ _ (sym c.in_range.ensures.0 ∙ c.if-in_range.true) c.if-input-gt-INPUT_MOST.false c.if-input-start.false c.if-output-lt-OUTPUT_LEAST.true
+    c.bare-then-output-lt-OUTPUT_LEAST.ensures
 
-returns_4 : tie.Need-returns-4
+returns_4 : tie.Need-returns-then-in_range
 returns_4 c =
-    let r = c.before.before.read.ensures in
-    answered _ _ _ _ (sym c.before.before.before.before.before.before.before.before.in-range.ensures.0 ∙ c.before.before.before.before.before.before.before.if1.true) c.before.before.before.before.before.before.if2.false c.before.before.before.before.before.if3.false c.before.before.before.before.if4.false r.0 r.1
+    let r = c.read.ensures in
+    answered _ _ _ _ (sym c.in_range.ensures.0 ∙ c.if-in_range.true) c.if-input-gt-INPUT_MOST.false c.if-input-start.false c.if-output-lt-OUTPUT_LEAST.false r.0 r.1
 
 pub receive_spec : {M : Type 1} → statement M
 receive_spec =
@@ -34,8 +34,8 @@ receive_spec =
     returns_2
     (λ c κs. search rules)
     returns_3
-    (λ c κs. (c.before.before.before.before.before.in-range.ensures.1 c.before.before.before.before.if1.true, search rules))
+    (λ c κs. (c.in_range.ensures.1 c.if-in_range.true, search rules))
     (λ c. search rules)
     returns_4
     (λ c κs. search rules)
-    (λ c. state_refused _ _ _ _ (sym c.before.before.in-range.ensures.0 ∙ c.before.if1.false) c.bare4.ensures))
+    (λ c. state_refused _ _ _ _ (sym c.in_range.ensures.0 ∙ c.if-in_range.false) c.bare-2.ensures))

@@ -14,11 +14,11 @@ use Rattle.registers.specs.Registers.{are_zero}
 use Rattle.registers.proofs.are_zero.Statement.{statement}
 use Rattle.registers.proofs.are_zero.Tie as tie
 
-abbrev invariant-loop : tie.invariant-loop
-invariant-loop registers first many all₀ i₀ all i = (i ≤ many) × (all ≡ are_zero first i registers)
+abbrev invariant-loop-i : tie.invariant-loop-i
+invariant-loop-i registers first many all₀ i₀ all i = (i ≤ many) × (all ≡ are_zero first i registers)
 
-abbrev decreases-loop : tie.decreases-loop
-decreases-loop registers first many all₀ i₀ all i = many - i
+abbrev decreases-loop-i : tie.decreases-loop-i
+decreases-loop-i registers first many all₀ i₀ all i = many - i
 
 none : (first : ℕ) (rs : List ℕ) → true ≡ are_zero first 0 rs
 unfolding are_zero part all_zero
@@ -44,8 +44,8 @@ pub are_zero_spec : {M : Type 1} → statement M
 are_zero_spec =
     tie.close
     (tie.spec
-    invariant-loop
-    decreases-loop
+    invariant-loop-i
+    decreases-loop-i
     (λ c. (search rules, none _ _))
     (λ c. search rules)
     (λ c. search rules)

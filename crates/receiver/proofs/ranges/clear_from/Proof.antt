@@ -10,43 +10,43 @@ use Rattle.receiver.proofs.Content.{own_set, later_set, all_clear}
 use Rattle.receiver.proofs.ranges.clear_from.Statement.{statement}
 use Rattle.receiver.proofs.ranges.clear_from.Tie as tie
 
-abbrev invariant-loop : tie.invariant-loop
-invariant-loop bytes count k top j₀ j = (count / 8 < j) × (j ≤ 20) × ((m : ℕ) → m < j → count / 8 < m → get_or bytes m 0 ≡ 0)
+abbrev invariant-loop-j : tie.invariant-loop-j
+invariant-loop-j bytes count k top j₀ j = (count / 8 < j) × (j ≤ 20) × ((m : ℕ) → m < j → count / 8 < m → get_or bytes m 0 ≡ 0)
 
-abbrev decreases-loop : tie.decreases-loop
-decreases-loop bytes count k top j₀ j = 20 - j
+abbrev decreases-loop-j : tie.decreases-loop-j
+decreases-loop-j bytes count k top j₀ j = 20 - j
 
 pub clear_from_spec : {M : Type 1} → statement M
 clear_from_spec =
     tie.close
     (tie.spec
-    invariant-loop
-    decreases-loop
+    invariant-loop-j
+    decreases-loop-j
     (λ c. search rules)
     (λ c. search rules)
     (λ c. search rules)
     (λ c.
-    let s = c.before.before in
-    let h : AreBytes s.args.bytes.now = λ i. omega (arith, c.before.shared-slice-known.given i) in
-    (own_set s.args.bytes.now s.args.count s.requires.1 s.requires.0 h c.if1.true, h))
+    let s = c in
+    let h : AreBytes s.args.bytes.now = λ i. omega (arith, c.shared_slice_known-1.given i) in
+    (own_set s.args.bytes.now s.args.count s.requires.1 s.requires.0 h c.if-top-count-ne0.true, h))
     (λ c. search rules)
-    (λ c. (omega arith, omega (arith, c.before.before.requires.0), λ m h k. absurd (omega arith)))
-    (λ c. search rules)
-    (λ c.
-    let l = c.before.before.before.loop in
-    let s = c.before.before.before.before.before.before in
-    let h : AreBytes s.args.bytes.now = λ i. omega (arith, c.before.before.before.before.before.shared-slice-known.given i) in
-    (later_set s.args.bytes.now s.args.count s.requires.1 s.requires.0 h l.j l.invariant.0 c.if2.true, h))
-    (λ c. search rules)
+    (λ c. (omega arith, omega (arith, c.requires.0), λ m h k. absurd (omega arith)))
     (λ c. search rules)
     (λ c.
-    let l = c.before.before.before.loop in
-    (omega (arith, l.invariant.0), omega arith, below_more _ _ l.invariant.2 (λ k. c.if2.false)))
+    let l = c.loop-j in
+    let s = c in
+    let h : AreBytes s.args.bytes.now = λ i. omega (arith, c.shared_slice_known-1.given i) in
+    (later_set s.args.bytes.now s.args.count s.requires.1 s.requires.0 h l.j l.invariant.0 c.if-bytes-j-ne0.true, h))
+    (λ c. search rules)
+    (λ c. search rules)
     (λ c.
-    let l = c.before.loop in
-    let s = c.before.before.before.before in
-    let h : AreBytes s.args.bytes.now = λ i. omega (arith, c.before.before.before.shared-slice-known.given i) in (
-      all_clear s.args.bytes.now s.args.count s.requires.1 s.requires.0 h c.before.before.if1.false
-          (λ j k q. l.invariant.2 j (omega (arith, c.loop-test.false)) k),
+    let l = c.loop-j in
+    (omega (arith, l.invariant.0), omega arith, below_more _ _ l.invariant.2 (λ k. c.if-bytes-j-ne0.false)))
+    (λ c.
+    let l = c.loop-j in
+    let s = c in
+    let h : AreBytes s.args.bytes.now = λ i. omega (arith, c.shared_slice_known-1.given i) in (
+      all_clear s.args.bytes.now s.args.count s.requires.1 s.requires.0 h c.if-top-count-ne0.false
+          (λ j k q. l.invariant.2 j (omega (arith, c.loop-j-test.false)) k),
       h,
     )))

@@ -5,12 +5,12 @@ use Rattle.wire.proofs.Tests.{apart}
 use Rattle.receiver.proofs.scanning.is_idle.Statement.{statement}
 use Rattle.receiver.proofs.scanning.is_idle.Tie as tie
 
-returns_6 : tie.Need-returns-6
+returns_6 : tie.Need-returns-then-whole
 returns_6 c h =
     record {
-      all = c.before.before.before.before.before.before.before.before.before.before.before.before.before.before.if1.true;
-      control = control_eq _ _ c.before.before.before.before.before.before.before.before.before.before.before.if2.false c.before.before.before.before.before.before.before.before.if3.false c.before.before.before.before.before.if4.false c.before.before.if5.false;
-      content = c.before.if6.false;
+      all = c.if-whole.true;
+      control = control_eq _ _ c.if-before-after.false c.if-before-after-2.false c.if-before-after-3.false c.if-before-after-4.false;
+      content = c.if-first-held.false;
       short = leb-true _ 8 h;
     }
 

@@ -9,33 +9,33 @@ use Rattle.wire.proofs.Tests.{apart}
 use Rattle.receiver.proofs.scanning.same_until.Statement.{statement}
 use Rattle.receiver.proofs.scanning.same_until.Tie as tie
 
-abbrev invariant-loop : tie.invariant-loop
-invariant-loop s i x passed j₀ j = (i ≤ j) × (j ≤ length s) × ((k : ℕ) → k < j → i ≤ k → get_or s k 0 ≡ x)
+abbrev invariant-loop-j : tie.invariant-loop-j
+invariant-loop-j s i x passed j₀ j = (i ≤ j) × (j ≤ length s) × ((k : ℕ) → k < j → i ≤ k → get_or s k 0 ≡ x)
 
-abbrev decreases-loop : tie.decreases-loop
-decreases-loop s i x passed j₀ j = length s - j
+abbrev decreases-loop-j : tie.decreases-loop-j
+decreases-loop-j s i x passed j₀ j = length s - j
 
-returns : tie.Need-returns invariant-loop decreases-loop
+returns : tie.Need-returns-then-s-j invariant-loop-j decreases-loop-j
 returns c =
-    let v = c.before.before.before.loop.invariant in
-    record { least = v.0; most = v.1; bytes = v.2; none = λ h. apart (sym h ∙ c.before.before.before.before.if1.true) }
+    let v = c.loop-j.invariant in
+    record { least = v.0; most = v.1; bytes = v.2; none = λ h. apart (sym h ∙ c.if-passed.true) }
 
-loop_again : tie.Need-loop-preserved invariant-loop decreases-loop
+loop_again : tie.Need-loop-j-preserved invariant-loop-j decreases-loop-j
 loop_again c =
-    let v = c.before.before.before.loop.invariant in
-    (omega (arith, v.0), omega arith, below_more _ _ v.2 (λ q. c.if2.false))
+    let v = c.loop-j.invariant in
+    (omega (arith, v.0), omega arith, below_more _ _ v.2 (λ q. c.if-s-j.false))
 
-returns_2 : tie.Need-returns-2 invariant-loop decreases-loop
+returns_2 : tie.Need-returns-then-passed invariant-loop-j decreases-loop-j
 returns_2 c =
-    let v = c.before.loop.invariant in
-    record { least = v.0; most = v.1; bytes = v.2; none = λ h. apart (sym h ∙ c.before.before.if1.true) }
+    let v = c.loop-j.invariant in
+    record { least = v.0; most = v.1; bytes = v.2; none = λ h. apart (sym h ∙ c.if-passed.true) }
 
 pub same_until_spec : {M : Type 1} → statement M
 same_until_spec =
     tie.close
     (tie.spec
-    invariant-loop
-    decreases-loop
+    invariant-loop-j
+    decreases-loop-j
     (λ c. (search rules, search rules, λ k p q. absurd (omega arith)))
     (λ c. search rules)
     returns

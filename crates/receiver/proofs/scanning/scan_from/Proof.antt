@@ -13,10 +13,10 @@ use Rattle.receiver.proofs.scanning.scan_from.Tie as tie
 sub_scan : tie.Need-overflow-sub-scan
 sub_scan c = search rules
 
-part_scan_start : tie.Need-slice-bounds-scan-start
+part_scan_start : tie.Need-slice_bounds-scan-start
 part_scan_start c = search rules
 
-part_scan_end : tie.Need-slice-bounds-scan-end
+part_scan_end : tie.Need-slice_bounds-scan-end
 part_scan_end c = search rules
 
 scan_requires : tie.Need-scan-requires
@@ -24,7 +24,7 @@ scan_requires c κs = search rules
 
 returns : tie.Need-returns
 returns c =
-    let a = c.before.before.before.args in
+    let a = c.args in
     let s = a.input.now in
     let k = a.bit / 8 in
     let t : take (length s - k) (drop k s) ≡ drop k s = take_all (length s - k) (drop k s) (rw length-drop (omega arith)) in

@@ -10,12 +10,12 @@ add_t12 c = omega (arith, c.before.before.before.under2.ensures.2, c.before.befo
 
 returns : tie.Need-returns
 returns c =
-    let p = c.before.before.before.before.before.requires in
-    let u = c.before.before.before.before.under.ensures in
-    let v = c.before.before.before.under2.ensures in
-    let t = c.before.before.under3.ensures in
-    let k = c.before.choose.ensures in
-    let l = c.choose2.ensures in
+    let p = c.requires in
+    let u = c.under-counts.ensures in
+    let v = c.under-pushed.ensures in
+    let t = c.under.ensures in
+    let k = c.choose-now_ones.ensures in
+    let l = c.choose-now_lead.ensures in
     record {
       mode = refl;
       zero = λ h. k.0 h;
@@ -38,7 +38,7 @@ step_spec =
     (λ c κs. search rules)
     (λ c κs. search rules)
     (λ c κs. search rules)
-    (λ c. omega (arith, c.under3.ensures.2, c.before.before.before.requires.1))
+    (λ c. omega (arith, c.under.ensures.2, c.requires.1))
     (λ c κs. search rules)
     (λ c κs. search rules)
     add_t12

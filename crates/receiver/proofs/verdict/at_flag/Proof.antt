@@ -8,29 +8,29 @@ use Rattle.receiver.proofs.View.{length_front, flag_long, flag_broken, flag_wron
 use Rattle.receiver.proofs.verdict.at_flag.Statement.{statement}
 use Rattle.receiver.proofs.verdict.at_flag.Tie as tie
 
-returns : tie.Need-returns
+returns : tie.Need-returns-then-bits-gt-CONTENT_MOST
 returns c =
-    let s = c.before.before.before.before in
-    bare_flag _ _ (flag_long s.args.t1 s.args.bits s.requires.0 s.requires.1 s.requires.2 c.before.before.if1.true) c.before.at-opening.ensures c.bare.ensures
+    let s = c in
+    bare_flag _ _ (flag_long s.args.t1 s.args.bits s.requires.0 s.requires.1 s.requires.2 c.if-bits-gt-CONTENT_MOST.true) c.at_opening.ensures c.bare.ensures
 
-returns_2 : tie.Need-returns-2
+returns_2 : tie.Need-returns-then-bits-ne0
 returns_2 c =
-    let s = c.before.before.before.before.before in
-    bare_flag _ _ (flag_broken s.args.t1 s.args.bits s.requires.0 s.requires.1 s.requires.2 c.before.before.before.if1.false c.before.before.if2.true)
-    c.before.at-opening2.ensures c.bare2.ensures
+    let s = c in
+    bare_flag _ _ (flag_broken s.args.t1 s.args.bits s.requires.0 s.requires.1 s.requires.2 c.if-bits-gt-CONTENT_MOST.false c.if-bits-ne0.true)
+    c.at_opening-then-bits-ne0.ensures c.bare-then-bits-ne0.ensures
 
-returns_3 : tie.Need-returns-3
+returns_3 : tie.Need-returns-then-register
 returns_3 c =
-    let s = c.before.before.before.before.before.before.before.before in
-    bare_flag _ _ (flag_wrong s.args.t1 s.args.bits s.requires.0 s.requires.1 s.requires.2 c.before.before.before.before.before.before.if1.false c.before.before.before.before.before.if2.false (λ z. c.before.before.if3.true (c.before.before.before.register.ensures ∙ z)))
-    c.before.at-opening3.ensures c.bare3.ensures
+    let s = c in
+    bare_flag _ _ (flag_wrong s.args.t1 s.args.bits s.requires.0 s.requires.1 s.requires.2 c.if-bits-gt-CONTENT_MOST.false c.if-bits-ne0.false (λ z. c.if-register.true (c.register.ensures ∙ z)))
+    c.at_opening-then-register.ensures c.bare-then-register.ensures
 
-returns_4 : tie.Need-returns-4
+returns_4 : tie.Need-returns
 returns_4 c =
-    let s = c.before.before.before.before.before.before.before.before.before.before.before.before in
+    let s = c in
     let n = length_front s.args.t1 (s.args.bits / 8 - 2) s.requires.2 (omega (arith, s.requires.1)) in
-    let g = flag_good s.args.t1 s.args.bits s.requires.0 s.requires.1 s.requires.2 c.before.before.before.before.before.before.before.before.before.before.if1.false c.before.before.before.before.before.before.before.before.before.if2.false s.requires.3 (sym c.before.before.before.before.before.before.before.register.ensures ∙ c.before.before.before.before.before.before.if3.false) in
-    rw n at (body_flag {used = s.args.used} _ _ _ g c.at-opening4.ensures c.before.before.before.store.ensures)
+    let g = flag_good s.args.t1 s.args.bits s.requires.0 s.requires.1 s.requires.2 c.if-bits-gt-CONTENT_MOST.false c.if-bits-ne0.false s.requires.3 (sym c.register.ensures ∙ c.if-register.false) in
+    rw n at (body_flag {used = s.args.used} _ _ _ g c.at_opening-rx.ensures c.store.ensures)
 
 pub at_flag_spec : {M : Type 1} → statement M
 at_flag_spec =
@@ -44,15 +44,15 @@ at_flag_spec =
     returns_2
     (λ c. search rules)
     (λ c. search rules)
-    (λ c. let p = c.before.before.before.before.requires in sym (length_front _ _ p.2 (omega (arith, p.1))))
+    (λ c. let p = c.requires in sym (length_front _ _ p.2 (omega (arith, p.1))))
     (λ c κs. search rules)
     (λ c κs. search rules)
     (λ c κs. search rules)
     returns_3
     (λ c. search rules)
     (λ c. search rules)
-    (λ c. let p = c.before.before.before.before.before.before.before.before.requires in sym (length_front _ _ p.2 (omega (arith, p.1))))
-    (λ c κs. simp length-take (omega (arith, c.before.before.before.before.before.before.before.before.requires.4)))
+    (λ c. let p = c.requires in sym (length_front _ _ p.2 (omega (arith, p.1))))
+    (λ c κs. simp length-take (omega (arith, c.requires.4)))
     (λ c κs. search rules)
     (λ c. search rules)
     returns_4)

@@ -6,27 +6,27 @@ use Rattle.receiver.proofs.View.{conclude_out, conclude_flag, conclude_abort}
 use Rattle.receiver.proofs.verdict.conclude.Statement.{statement}
 use Rattle.receiver.proofs.verdict.conclude.Tie as tie
 
-returns : tie.Need-returns
+returns : tie.Need-returns-then-hit-eq0
 returns c =
-    let s = c.before.before.before.before.before in
-    conclude_out s.args.stop s.requires.0 _ c.before.if1.true refl c.bare.ensures
+    let s = c in
+    conclude_out s.args.stop s.requires.0 _ c.if-hit-eq0.true refl c.bare.ensures
 
-at_flag_requires : tie.Need-at-flag-requires
+at_flag_requires : tie.Need-at_flag-requires
 at_flag_requires c κs =
-    let s = c.before.before.before.before.before.before.before.before in
+    let s = c in
     let g = s.requires.0 in
-    (omega (arith, s.requires.1.0 c.before.before.before.if2.true), omega (arith, g.count), g.size, g.small, s.requires.1.1)
+    (omega (arith, s.requires.1.0 c.if-hit-eq1.true), omega (arith, g.count), g.size, g.small, s.requires.1.1)
 
-returns_2 : tie.Need-returns-2
+returns_2 : tie.Need-returns-then-hit-eq1
 returns_2 c =
-    let s = c.before.before.before.before.before.before.before.before.before.before.before in
-    let a = c.before.before.at_flag.ensures in
-    conclude_flag s.args.stop s.requires.0 _ _ _ refl c.before.before.before.before.before.before.if2.true a.0 a.1
+    let s = c in
+    let a = c.at_flag.ensures in
+    conclude_flag s.args.stop s.requires.0 _ _ _ refl c.if-hit-eq1.true a.0 a.1
 
-returns_3 : tie.Need-returns-3
+returns_3 : tie.Need-returns
 returns_3 c =
-    let s = c.before.before.before.before.before.before.before in
-    conclude_abort s.args.stop s.requires.0 _ c.before.before.before.if1.false c.before.before.if2.false c.before.new.ensures c.bare2.ensures
+    let s = c in
+    conclude_abort s.args.stop s.requires.0 _ c.if-hit-eq0.false c.if-hit-eq1.false c.new.ensures c.bare-2.ensures
 
 pub conclude_spec : {M : Type 1} → statement M
 conclude_spec =
@@ -35,7 +35,7 @@ conclude_spec =
     (λ c κs. search rules)
     returns
     (λ c. search rules)
-    (λ c. omega (arith, c.before.before.before.before.before.before.before.requires.1.0 c.before.before.if2.true))
+    (λ c. omega (arith, c.requires.1.0 c.if-hit-eq1.true))
     at_flag_requires
     (λ c. search rules)
     returns_2

@@ -10,10 +10,10 @@ pub filled_spec : {M : Type 1} → statement M
 filled_spec =
     tie.close
     (tie.spec
-    (λ c. filled_none _ _ c.if1.true)
+    (λ c. filled_none _ _ c.if-length-from.true)
     (λ c. search rules)
     (λ c. search rules)
     (λ c. search rules)
     (λ c. search (shifted, pow_pos, rules))
-    (λ c. filled_low _ _ c.before.if1.false (omega arith))
-    (λ c. filled_all _ _ c.before.if1.false (omega arith)))
+    (λ c. filled_low _ _ c.if-length-from.false (omega arith))
+    (λ c. filled_all _ _ c.if-length-from.false (omega arith)))

@@ -9,4 +9,4 @@ merged_spec =
     tie.close
     (tie.spec
     (λ c κs. search rules)
-    (λ c. merged_mask _ _ _ _ _ c.filled.ensures))
+    (λ c. merged_mask _ _ _ _ _ c.filled-mask.ensures))

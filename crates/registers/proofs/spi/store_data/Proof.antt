@@ -17,4 +17,4 @@ store_data_spec =
     (λ c. search rules)
     (λ c κs. search rules)
     (λ c. search rules)
-    (λ c. stores_data _ _ _ _ _ _ c.before.before.store4.ensures c.before.before.before.before.before.before.store3.ensures c.before.before.before.before.before.before.before.before.before.before.store2.ensures c.before.before.before.before.before.before.before.before.before.before.before.before.before.before.store.ensures))
+    (λ c. stores_data _ _ _ _ _ _ c.store-4.ensures c.store-3.ensures c.store-2.ensures c.store.ensures))

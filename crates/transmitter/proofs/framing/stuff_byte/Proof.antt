@@ -7,16 +7,16 @@ use borrow.Author.Rules.{rules}
 use Rattle.transmitter.proofs.framing.stuff_byte.Statement.{statement}
 use Rattle.transmitter.proofs.framing.stuff_byte.Tie as tie
 
-stuff_four_requires_2 : tie.Need-stuff-four-requires-2
+stuff_four_requires_2 : tie.Need-stuff_four-requires
 stuff_four_requires_2 c κs =
-    let w = c.before.before.before.stuff-four.ensures in
-    let p = c.before.before.before.before.before.before.requires in
+    let w = c.stuff_four-p.ensures in
+    let p = c.requires in
     (omega (arith, w.raw.size, p.0), omega (arith, rw length_low at w.most, p.1), w.raw.held, w.short, omega arith)
 
 returns : tie.Need-returns
 returns c =
-    rw (low_nibbles c.before.before.before.before.before.before.before.before.before.args.x)
-    (written_then c.before.before.before.before.before.before.stuff-four.ensures c.before.before.stuff-four2.ensures)
+    rw (low_nibbles c.args.x)
+    (written_then c.stuff_four-p.ensures c.stuff_four.ensures)
 
 pub stuff_byte_spec : {M : Type 1} → statement M
 stuff_byte_spec =

@@ -12,46 +12,46 @@ use Rattle.transmitter.proofs.Written.{written_none, written_then}
 use Rattle.transmitter.proofs.framing.stuff_bytes.Statement.{statement}
 use Rattle.transmitter.proofs.framing.stuff_bytes.Tie as tie
 
-abbrev invariant-loop : tie.invariant-loop
-invariant-loop out₀ s p₀ i₀ out p i =
+abbrev invariant-loop-i : tie.invariant-loop-i
+invariant-loop-i out₀ s p₀ i₀ out p i =
     (i ≤ length s) × (p.ones ≤ 4) × (5 * p.bits + p.ones ≤ 40 + 48 * i) × (length out ≡ length out₀)
     × (p.held < 2 ^ (p.bits % 8))
     × ((r : List ℕ) (n h k : ℕ) → Written out p.bits p.held p.ones (wire (drop i s)) r n h k → Written out₀ p₀.bits p₀.held p₀.ones (wire s) r n h k)
 
-abbrev decreases-loop : tie.decreases-loop
-decreases-loop out₀ s p₀ i₀ out p i = length s - i
+abbrev decreases-loop-i : tie.decreases-loop-i
+decreases-loop-i out₀ s p₀ i₀ out p i = length s - i
 
-stuff_byte_requires : tie.Need-stuff-byte-requires invariant-loop decreases-loop
+stuff_byte_requires : tie.Need-stuff_byte-p-requires invariant-loop-i decreases-loop-i
 stuff_byte_requires c κs =
-    let l = c.before.before.before.loop in
-    (omega (arith, c.before.before.before.before.before.before.requires.0, l.invariant.3), omega (arith, l.invariant.2, c.before.before.loop-test.true, c.before.before.before.before.before.before.requires.1), l.invariant.4, l.invariant.1)
+    let l = c.loop-i in
+    (omega (arith, c.requires.0, l.invariant.3), omega (arith, l.invariant.2, c.loop-i-test.true, c.requires.1), l.invariant.4, l.invariant.1)
 
-loop_again : tie.Need-loop-preserved invariant-loop decreases-loop
+loop_again : tie.Need-loop-i-preserved invariant-loop-i decreases-loop-i
 loop_again c =
-    let l = c.before.before.before.before.before.before.loop in
-    let w = c.before.before.stuff-byte.ensures in
-    let t = c.before.before.before.before.before.loop-test.true in (
+    let l = c.loop-i in
+    let w = c.stuff_byte-p.ensures in
+    let t = c.loop-i-test.true in (
       omega (arith, t),
       w.short,
       omega (arith, rw length_low at w.most, l.invariant.2),
       w.raw.size ∙ l.invariant.3,
       w.raw.held,
-      λ r n h k v. l.invariant.5 r n h k (rw (wire_cons c.before.before.before.before.before.before.before.before.before.args.s.now l.i t) (written_then w v)),
+      λ r n h k v. l.invariant.5 r n h k (rw (wire_cons c.args.s.now l.i t) (written_then w v)),
     )
 
-returns : tie.Need-returns invariant-loop decreases-loop
+returns : tie.Need-returns invariant-loop-i decreases-loop-i
 returns c =
-    let l = c.before.loop in
+    let l = c.loop-i in
     l.invariant.5 l.output l.p.bits l.p.held l.p.ones
-    (rw (wire_end c.before.before.before.before.args.s.now l.i 0 (omega arith)) (written_none l.output l.p.bits l.p.held l.p.ones l.invariant.4 l.invariant.1))
+    (rw (wire_end c.args.s.now l.i 0 (omega arith)) (written_none l.output l.p.bits l.p.held l.p.ones l.invariant.4 l.invariant.1))
 
 pub stuff_bytes_spec : {M : Type 1} → statement M
 stuff_bytes_spec =
     tie.close
     (tie.spec
-    invariant-loop
-    decreases-loop
-    (λ c. (omega arith, c.before.before.requires.4, c.before.before.requires.2, refl, c.before.before.requires.3, λ r n h k w. w))
+    invariant-loop-i
+    decreases-loop-i
+    (λ c. (omega arith, c.requires.4, c.requires.2, refl, c.requires.3, λ r n h k w. w))
     (λ c. search rules)
     stuff_byte_requires
     (λ c. search rules)

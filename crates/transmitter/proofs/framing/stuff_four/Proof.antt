@@ -4,23 +4,23 @@ use borrow.Author.Rules.{rules}
 use Rattle.transmitter.proofs.framing.stuff_four.Statement.{statement}
 use Rattle.transmitter.proofs.framing.stuff_four.Tie as tie
 
-stuffed_requires : tie.Need-stuffed-requires
+stuffed_requires : tie.Need-stuffed-e-requires
 stuffed_requires c κs = search rules
 
-add_count : tie.Need-overflow-add-count
+add_count : tie.Need-overflow_add-count
 add_count c = search rules
 
-cast_count : tie.Need-overflow-cast-count
+cast_count : tie.Need-overflow_cast-count
 cast_count c = search rules
 
 put_requires : tie.Need-put-requires
 put_requires c κs = search rules
 
-same_length : tie.Need-same-length
+same_length : tie.Need-shape_of-output
 same_length c = search rules
 
 returns : tie.Need-returns
-returns c = written_four c.before.before.before.before.stuffed.ensures c.before.before.put.ensures
+returns c = written_four c.stuffed-e.ensures c.put.ensures
 
 pub stuff_four_spec : {M : Type 1} → statement M
 stuff_four_spec =
