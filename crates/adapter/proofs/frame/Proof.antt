@@ -15,8 +15,8 @@ cast_frame c =
 
 frame_requires : tie.Need-frame-requires
 frame_requires c κs =
-    let t = c.before.before.before in
-    let p = unrefused _ _ _ _ _ _ t.enum_told.given.1 t.before.before.judge.ensures in
+    let t = c in
+    let p = unrefused _ _ _ _ _ _ t.in-Passed.is t.judge-verdict.ensures in
     ((not-false _ p.1, its_length _ (not-false _ p.0)), (body_bounds _ p.4, ltb-false _ 16 p.2))
 
 pub frame_spec : {M : Type 1} → statement M

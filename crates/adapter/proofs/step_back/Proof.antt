@@ -20,22 +20,22 @@ a_state c = tested_not _ _ _ c.before.is_state.ensures c.if1.false
 a_journal : (c : tie.Else2) → well_formed c.before.before.before.before.before.before.before.before.args.journal.now ≡ true
 a_journal c = tested_not _ _ _ c.before.is-well-formed.ensures c.if2.false
 
-no_journal : tie.Need-returns-2
-no_journal c = back_journal _ _ (a_state c.before.before.before) (tested_not _ _ _ c.before.is-well-formed.ensures c.if2.true)
+no_journal : tie.Need-returns-then-not-is_well_formed
+no_journal c = back_journal _ _ (a_state c) (tested_not _ _ _ c.is_well_formed.ensures c.if-not-is_well_formed.true)
 
-none_kept : tie.Need-returns-3
-none_kept c = let t = c.before.before in back_none _ _ (a_state t.before.before.before) (a_journal t) c.if3.true
+none_kept : tie.Need-returns-then-journal-eq0
+none_kept c = let t = c in back_none _ _ (a_state t) (a_journal t) c.if-journal-eq0.true
 
-take_back_requires : tie.Need-take-back-requires
+take_back_requires : tie.Need-take_back-requires
 take_back_requires c κs =
-    let t = c.before.before.before.before in
-    (its_length _ (a_state t.before.before.before), (a_journal t, pos_of_ne-zero c.before.before.if3.false))
+    let t = c in
+    (its_length _ (a_state t), (a_journal t, pos_of_ne-zero c.if-journal-eq0.false))
 
-taken_back : tie.Need-returns-4
+taken_back : tie.Need-returns
 taken_back c =
-    let u = c.before.before.before.before.before.before.before in
-    let t = u.before.before in
-    back_tried _ _ (a_state t.before.before.before) (a_journal t) _ u.if3.false c.before.before.before.before.take_back.ensures
+    let u = c in
+    let t = u in
+    back_tried _ _ (a_state t) (a_journal t) _ u.if-journal-eq0.false c.take_back.ensures
 
 pub step_back_spec : {M : Type 1} → statement M
 step_back_spec {M} =
