@@ -5,21 +5,12 @@ use mathlib.Core.List.{List}
 use Prim.Native.Nat.{ℕ}
 use Rattle.receiver.specs.declared.Received.{Received}
 use Rattle.transmitter.specs.declared.Sent.{Sent}
-use seplogic.Ra.Ura.{Ura}
-use base.Logic.{SProp, ent, sep, fst∗, snd∗}
-use prog.Memory.{Memory}
-use prog.Routine.{Routine}
-use types.Logic.{Logic}
-use contract.Monad.{Fun, fact, fact_i, fact_use}
-use contract.Lifetimes.{Lfts}
-use denote.Triple.Clauses.{AtExit}
-use denote.Triple.Entry.{Args}
 use Rattle.parts.proofs.Outcome.{One, OneBeside}
 use Rattle.transmitter.proofs as transmitter
 use Rattle.receiver.proofs as receiver
 use Rattle.sca.proofs as sca
 use Rattle.adapter.specs.Calls.{made, copied, stepped}
-use Rattle.sca.specs.Adapter.{Left, left}
+use Rattle.sca.specs.Adapter.{left}
 use Rattle.control_room.specs.Calls as rooms
 use Rattle.sca.specs.ControlRoom as room
 -- the adapter's ten calls

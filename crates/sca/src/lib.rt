@@ -1,5 +1,6 @@
 // What C and Rust programs link: every call on numbers, byte slices and, for a batch, a slice of sample structs, its result packed into one number.
 #![tactic(auto)]
+
 mod receiving;
 
 ghost use Rattle.std.specs.Prelude.{◌≡◌, ◌≤◌, ◌<◌};

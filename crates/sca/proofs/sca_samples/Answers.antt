@@ -2,7 +2,7 @@
 use Rattle.std.proofs.Common.{◌≡◌, List, length, refl, ap, ◌∙◌, ℕ}
 use Rattle.batch.specs.declared.Sample.{Sample}
 use Rattle.batch.specs.declared.Pass.{Pass}
-use Rattle.batch.proofs.Ran.{Phase, Ran, start, next, nearer, moves, ready, all}
+use Rattle.batch.proofs.Ran.{Phase, Ran, start, nearer, moves, ready, all}
 use Rattle.sca.specs.Adapter.{left, packed_batch}
 use Rattle.sca.proofs.sca_samples.Goals as goal
 
