@@ -1,0 +1,6 @@
+-- `requests::frame` meets its contract. Assumes nothing.
+use Rattle.chip.proofs.Laws.{event_said}
+use Rattle.exercise.proofs.requests.frame.Goals as goal
+
+pub returns : goal.returns
+returns c = search event_said
