@@ -73,7 +73,13 @@ def table(files):
     return {n: new for n, new in turned.items() if n not in stays}, stays, {new: ns for new, ns in back.items() if len(ns) > 1}
 
 
+def of_the_kit(text):
+    """The names that a file brings in from the kit: they keep their spelling there."""
+    return {w for l in text.split("\n") if re.match(r"(pub )?(ghost )?use (?!Rattle\.(?!std\b))", l) for w in WORD.findall(l)}
+
+
 def turn(text, pairs, path):
+    pairs = {n: new for n, new in pairs.items() if n not in of_the_kit(text)}
     out, last = [], 0
     for m in WORD.finditer(text):
         w = m[0]

@@ -1,7 +1,7 @@
 -- Any two outcomes that a function's contract allows coincide: the result and every lent byte, for every public function.
 use mathlib.Core.Path.{sym, ◌∙◌}
 use Rattle.adapter.specs.Calls.{made, copied, outcome, stepped}
-use Rattle.parts.proofs.Outcome.{One}
+use Rattle.parts.proofs.Outcome.{One, OneBeside}
 use Rattle.adapter.proofs as this
 
 pub create_one : One 1 this.create.Kinds.ps this.create.Kinds.r this.create.Reads.Post (λ κs x s. made x s.0.now)
@@ -13,7 +13,7 @@ empty_one κs a x y s t p q = p ∙ sym q
 pub kept_one : One 1 this.kept.Kinds.ps this.kept.Kinds.r this.kept.Reads.Post (λ κs x s. x)
 kept_one κs a x y s t p q = p ∙ sym q
 
-pub enlarge_one : One 2 this.enlarge.Kinds.ps this.enlarge.Kinds.r this.enlarge.Reads.Post (λ κs x s. copied x s.0.now s.1.0.now)
+pub enlarge_one : OneBeside 2 this.enlarge.Kinds.ps this.enlarge.Kinds.r this.enlarge.Reads.Post (λ κs a x s. copied x a.0.now s.1.0.now)
 enlarge_one κs a x y s t p q = p ∙ sym q
 
 pub frame_one : One 4 this.frame.Kinds.ps this.frame.Kinds.r this.frame.Reads.Post (λ κs x s. outcome x s.0.now s.1.0.now s.1.1.1.1.0.now)

@@ -6,7 +6,7 @@ use mathlib.Core.List.{List, [], ◌∷◌}
 use native.Mathlib.Omega.{arith}
 use lib.Dec.{eqb, leb, ltb, lit≤, lit<}
 use lib.ListN.{length, get_or, set, replicate}
-use borrow.Author.Tests.{eq-eqb, ne_eqb, lt-ltb, le-ltb, le-leb, lt-leb, ltb-true, ltb-false, not_true, not-false}
+use borrow.Author.Tests.{eq-eqb, ne_eqb, lt-ltb, le-ltb, le-leb, lt-leb, ltb-true, ltb-false, not-true, not-false}
 use Rattle.bits.proofs.Tests.{and_left, and_right, cond_cases}
 use Rattle.parts.specs.Parts.{put}
 use Rattle.parts.specs.Digits.{digits}
@@ -36,7 +36,7 @@ or_true false = refl
 
 module _ (r o : List ℕ) (g : Given) (rest : Outcome) (b : Bool) (e : b ≡ is_record r) where
   pub no_record : not b ≡ true → g ≡ gives 6 0 false → outcome g r o ≡ unless_refused r o rest
-  no_record h i = rw (i, ← e, not_true b h) refl
+  no_record h i = rw (i, ← e, not-true b h) refl
 
   pub too_short : not b ≡ false → length o < 16 → g ≡ gives 1 0 false → outcome g r o ≡ unless_refused r o rest
   too_short h l i = rw (i, ← e, not-false b h, lt-ltb (length o) 16 l) refl
@@ -169,7 +169,7 @@ module _ (r body o : List ℕ) (g : Given) where
   module _ (b : Bool) (e : b ≡ is_open_to r (get_or body 2 0) (get_or body 3 0)) where
     pub no_match_lem : not b ≡ true → g ≡ gives 32 0 false → outcome g r o ≡ matched r body o
     unfolding matched
-    no_match_lem h i = rw (i, ← e, not_true b h) refl
+    no_match_lem h i = rw (i, ← e, not-true b h) refl
 
     pub a_match : (s p : List ℕ) (cmd : ℕ) → not b ≡ false → cmd ≡ command_in (number_at r (get_or body 2 0)) → s ≡ closed r (get_or body 2 0)
         → p ≡ put 0 (told cmd body) o → g ≡ gives 0 9 false → outcome g s p ≡ matched r body o

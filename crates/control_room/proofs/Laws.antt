@@ -6,7 +6,7 @@ use mathlib.Core.Logic.{inl, inr}
 use mathlib.Core.Path.{◌≡◌, refl, sym, ap, ap₂, subst, ◌∙◌}
 use native.Mathlib.Numerals.{add-one}
 use native.Mathlib.Omega.{arith}
-use borrow.Author.Tests.{eq-eqb, ne_eqb, eqb-true, eqb-false, leb-true, le-leb, ltb-true, ltb-false, not_true, not-false}
+use borrow.Author.Tests.{eq-eqb, ne_eqb, eqb-true, eqb-false, leb-true, le-leb, ltb-true, ltb-false, not-true, not-false}
 use lib.Dec.{eqb, leb, ltb, lit<}
 use lib.ListN.{length, take, drop, length-append, length-drop, take-append-drop}
 use lib.Seq.{take_at, drop_at, drop-drop, length-take-le}
@@ -104,7 +104,7 @@ module _ (r : List ℕ) (t : ℕ) (h : t < 255) where
 
   pub sound_not : (due b : Bool) (e : ℕ) → due ≡ are_sound r t (255 - t) → e ≡ number_at r t → b ≡ is_sound e → not b ≡ true → false ≡ due
   sound_not due b e d f g i =
-      sym (d ∙ sound_next ∙ ap (λ (s : Bool). s && are_sound r (t + 1) (255 - (t + 1))) (ap is_sound (sym f) ∙ sym g ∙ not_true b i))
+      sym (d ∙ sound_next ∙ ap (λ (s : Bool). s && are_sound r (t + 1) (255 - (t + 1))) (ap is_sound (sym f) ∙ sym g ∙ not-true b i))
 
   pub free_more : (due e : ℕ) → due ≡ lowest_free r t (255 - t) → e ≡ number_at r t → (e ≡ 0 → ⊥) → due ≡ lowest_free r (t + 1) (255 - (t + 1))
   free_more due e d f z = d ∙ free_next ∙ rw (← f, ne_eqb e 0 z) refl

@@ -1,5 +1,6 @@
 // The control room's end of the link: requests written from the chip's own tables of commands, replies read, and the record of what is open between.
 #![tactic(auto)]
+
 mod record;
 
 ghost use Rattle.std.specs.Prelude.{◌≡◌, cond, true, false, ◌≤◌, eqb, length};

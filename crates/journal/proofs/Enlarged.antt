@@ -44,6 +44,7 @@ module _ (j : List ℕ) (w : Well j) where
 
     -- each slot has its record
     in_its_slot : (n k : ℕ) → k < n → 1024 + 256 * n ≤ length second → part (1024 + 256 * k) 256 (filled n) ≡ slot_at j k
+    in_its_slot zero k l h = elim l [ ]
     in_its_slot (suc n) k l h =
         let room : 1024 + 256 * n ≤ length second = omega arith in
         let q = slot_length n in

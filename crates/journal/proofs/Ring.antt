@@ -11,7 +11,7 @@ use native.Mathlib.Omega.{arith}
 use lib.ListN.{length, take, drop, get_or, set, length-set}
 use lib.Seq.{get_or-set_same, get_or-set_other}
 use lib.Dec.{eqb, leb, ltb, lit<}
-use borrow.Author.Tests.{eq-eqb, ne_eqb, eqb-true, le-leb, leb-true, lt-ltb, ltb-true, not_true}
+use borrow.Author.Tests.{eq-eqb, ne_eqb, eqb-true, le-leb, leb-true, lt-ltb, ltb-true, not-true}
 use Rattle.bits.proofs.Tests.{both, cond_cases}
 use Rattle.parts.specs.Parts.{part, put}
 use Rattle.parts.proofs.Laws.{length_put, length_part, part_put_front, part_put_before, part_put_after, get_d_put_before, part_set}
@@ -56,7 +56,7 @@ of_well j h =
     let q2 = both _ _ q3.0 in
     let q1 = both _ _ q2.0 in
     record {
-      size = not_true _ p.0;
+      size = not-true _ p.0;
       m0 = eqb-true _ _ q1.0;
       m1 = eqb-true _ _ q1.1;
       m2 = eqb-true _ _ q2.1;

@@ -1,5 +1,6 @@
 // A request's information read, and the body of a request, a reply or an interrupt written.
 #![tactic(auto)]
+
 ghost use Rattle.std.specs.Prelude.{◌≡◌, [], ◌∷◌, ◌<◌, ◌≤◌, length};
 ghost use Rattle.numbers.specs.Numbers.{reply_bytes};
 ghost use Rattle.parts.specs.Parts.{put};

@@ -7,7 +7,7 @@ use mathlib.Core.List.{List, [], ◌∷◌}
 use mathlib.Core.Logic.{◌⊎◌, inl, inr}
 use mathlib.Core.Path.{◌≡◌, refl, sym, ap, subst, ◌∙◌}
 use native.Mathlib.Omega.{arith}
-use borrow.Author.Tests.{eq-eqb, ne_eqb, eqb-true, eqb-false, ltb-true, le-ltb, not_true}
+use borrow.Author.Tests.{eq-eqb, ne_eqb, eqb-true, eqb-false, ltb-true, le-ltb, not-true}
 use lib.Dec.{eqb, ltb, lit<, lit≤}
 use lib.Bits.{and_mask}
 use lib.Pow.{shr-shr}
@@ -736,7 +736,7 @@ unfolding decoded
 own_errors r rs ch cmd d listed free =
     let t = free_among r free in
     rw (ne_eqb (free_trn r) 0x00 (λ e. omega arith), ne_eqb (free_trn r) 0xFF free, known_channel ch cmd listed)
-    (cond_cases (λ (z : Decoded). OwnError rs ch cmd (error_of z)) (not (is_enabled rs (channel_of ch))) (λ h. disabled (not_true _ h))
+    (cond_cases (λ (z : Decoded). OwnError rs ch cmd (error_of z)) (not (is_enabled rs (channel_of ch))) (λ h. disabled (not-true _ h))
     (λ _. cond_cases (λ (z : Decoded). OwnError rs ch cmd (error_of z)) (is_busy rs (channel_of ch)) working
     (λ _. by (command_at ch cmd) refl listed)))
   where
@@ -744,7 +744,7 @@ own_errors r rs ch cmd d listed free =
     by Unknown e h = absurd (false≢true h)
     by (Known l does) e h =
         rw (eq-eqb l.asked l.asked refl)
-        (cond_cases (λ (z : Decoded). OwnError rs ch cmd (error_of z)) (not (can_move rs does)) (λ m. nbyte l does e (not_true _ m)) (λ _. none))
+        (cond_cases (λ (z : Decoded). OwnError rs ch cmd (error_of z)) (not (can_move rs does)) (λ m. nbyte l does e (not-true _ m)) (λ _. none))
 
 -- And what the tables don't have (35) the chip would not carry out either: 0x02 or 0x04, where its channel is enabled and idle.
 pub unlisted_errors : (rs : List ℕ) (q : Request) → is_listed (command_at q.ch q.cmd) ≡ false → first_error rs q ≡ 0 → ⊥

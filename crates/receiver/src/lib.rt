@@ -1,5 +1,6 @@
 // The receiver: frames are read from cable bits (document 01, "The wire").
 #![tactic(auto)]
+
 mod ranges;
 mod scanning;
 mod verdict;

@@ -4,7 +4,7 @@ use mathlib.Core.Bool.{Bool, true, false, not, ◌&&◌, cond}
 use mathlib.Core.List.{List}
 use mathlib.Core.Path.{◌≡◌, refl, sym, ◌∙◌}
 use native.Mathlib.Omega.{arith}
-use borrow.Author.Tests.{lt-ltb, le-ltb, leb-true, not-false, not_true}
+use borrow.Author.Tests.{lt-ltb, le-ltb, leb-true, not-false, not-true}
 use lib.Bits.{bit_and}
 use lib.Dec.{eqb, leb, ltb}
 use lib.ListN.{length, get_or, get_or-eq_default}
@@ -112,7 +112,7 @@ module _ (i count : ℕ) (received rs : List ℕ) (taken : Bool) where
   fills s1 s3 t e1 e3 = simp (not-false taken t, e3, e1)
 
   pub not_taken : not taken ≡ true → rs ≡ cond taken (filled i received count rs) rs
-  not_taken t = simp (not_true taken t)
+  not_taken t = simp (not-true taken t)
 
 -- ---- the end
 

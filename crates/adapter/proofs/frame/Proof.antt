@@ -8,15 +8,13 @@ use Rattle.adapter.proofs.Cases.{refuses, passes, passed_byte, unrefused, body_b
 use Rattle.adapter.proofs.frame.Statement.{statement}
 use Rattle.adapter.proofs.frame.Tie as tie
 
-cast_frame : tie.Need-overflow-cast-frame
-cast_frame c =
-    let t = c.before.before in
-    record { fits = passed_byte 1 (lit< tt) _ _ t.enum_told.given.1 _ _ _ _ t.before.before.judge.ensures }
+cast_frame : tie.Need-overflow_cast-port
+cast_frame c = record { fits = passed_byte 1 (lit< tt) _ _ c.in-Passed.is _ _ _ _ c.judge-verdict.ensures }
 
 frame_requires : tie.Need-frame-requires
 frame_requires c κs =
-    let t = c.before.before.before in
-    let p = unrefused _ _ _ _ _ _ t.enum_told.given.1 t.before.before.judge.ensures in
+    let t = c in
+    let p = unrefused _ _ _ _ _ _ t.in-Passed.is t.judge-verdict.ensures in
     ((not-false _ p.1, its_length _ (not-false _ p.0)), (body_bounds _ p.4, ltb-false _ 16 p.2))
 
 pub frame_spec : {M : Type 1} → statement M

@@ -14,6 +14,6 @@ kept_spec =
     tie.close
     (tie.spec
     (λ c κs. search rules)
-    (λ c. in_journal _ 6 (tested _ _ _ c.before.before.is-well-formed.ensures c.before.if1.true) (lit< tt))
+    (λ c. in_journal _ 6 (tested _ _ _ c.is_well_formed.ensures c.if-is_well_formed.true) (lit< tt))
     (λ c. search choices)
     (λ c. search choices))

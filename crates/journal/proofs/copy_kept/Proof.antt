@@ -10,14 +10,14 @@ use Rattle.journal.proofs.Enlarged.{as_long, store_room, copied_one, copied_all}
 use Rattle.journal.proofs.copy_kept.Statement.{statement}
 use Rattle.journal.proofs.copy_kept.Tie as tie
 
-abbrev invariant-loop : tie.invariant-loop
-invariant-loop j second₀ f first kept k₀ second k =
+abbrev invariant-loop-k : tie.invariant-loop-k
+invariant-loop-k j second₀ f first kept k₀ second k =
     (k ≤ kept) × (kept < 256) × (second ≡ put 1024 (oldest k j) second₀)
 
-abbrev decreases-loop : tie.decreases-loop
-decreases-loop j second₀ f first kept k₀ second k = kept - k
+abbrev decreases-loop-k : tie.decreases-loop-k
+decreases-loop-k j second₀ f first kept k₀ second k = kept - k
 
-loop_holds : tie.Need-loop-init invariant-loop decreases-loop
+loop_holds : tie.Need-loop-k-init invariant-loop-k decreases-loop-k
 unfolding oldest
 loop_holds c = (search rules, search journal-needs, put_none 1024 _)
 
@@ -25,8 +25,8 @@ pub copy_kept_spec : {M : Type 1} → statement M
 copy_kept_spec =
     tie.close
     (tie.spec
-    invariant-loop
-    decreases-loop
+    invariant-loop-k
+    decreases-loop-k
     (λ c κs. search rules)
     (λ c. search journal-needs)
     (λ c. search journal-needs)

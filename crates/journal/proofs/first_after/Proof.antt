@@ -9,5 +9,5 @@ first_after_spec =
     tie.close
     (tie.spec
     (λ c κs. search rules)
-    (λ c. simp (eq-eqb _ _ c.before.if1.true) c.slot-after.ensures)
-    (λ c. simp (ne_eqb _ _ c.if1.false)))
+    (λ c. simp (eq-eqb _ _ c.if-kept-slots.true) c.slot_after.ensures)
+    (λ c. simp (ne_eqb _ _ c.if-kept-slots.false)))

@@ -4,17 +4,17 @@ use Rattle.journal.specs.Layout.{format_of}
 use Rattle.journal.proofs.format_of.Statement.{statement}
 use Rattle.journal.proofs.format_of.Tie as tie
 
-returns : tie.Need-returns
+returns : tie.Need-returns-then-size-eq-SMALL
 unfolding format_of
-returns c = simp (eq-eqb _ _ c.if1.true)
+returns c = simp (eq-eqb _ _ c.if-size-eq-SMALL.true)
 
-returns_2 : tie.Need-returns-2
+returns_2 : tie.Need-returns-then-size-eq-LARGE
 unfolding format_of
-returns_2 c = simp (ne_eqb _ _ c.before.if1.false, eq-eqb _ _ c.if2.true)
+returns_2 c = simp (ne_eqb _ _ c.if-size-eq-SMALL.false, eq-eqb _ _ c.if-size-eq-LARGE.true)
 
-returns_3 : tie.Need-returns-3
+returns_3 : tie.Need-returns
 unfolding format_of
-returns_3 c = simp (ne_eqb _ _ c.before.if1.false, ne_eqb _ _ c.if2.false)
+returns_3 c = simp (ne_eqb _ _ c.if-size-eq-SMALL.false, ne_eqb _ _ c.if-size-eq-LARGE.false)
 
 pub format_of_spec : {M : Type 1} → statement M
 format_of_spec = tie.close (tie.spec returns returns_2 returns_3)

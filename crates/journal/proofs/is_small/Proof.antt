@@ -5,13 +5,13 @@ use Rattle.journal.specs.Layout.{is_small}
 use Rattle.journal.proofs.is_small.Statement.{statement}
 use Rattle.journal.proofs.is_small.Tie as tie
 
-returns : tie.Need-returns
+returns : tie.Need-returns-then-j-eq-SMALL
 unfolding is_small
-returns c = simp (eq-eqb _ _ c.before.if1.true) c.is-well-formed.ensures
+returns c = simp (eq-eqb _ _ c.if-j-eq-SMALL.true) c.is_well_formed.ensures
 
-returns_2 : tie.Need-returns-2
+returns_2 : tie.Need-returns
 unfolding is_small
-returns_2 c = simp (ne_eqb _ _ c.if1.false)
+returns_2 c = simp (ne_eqb _ _ c.if-j-eq-SMALL.false)
 
 pub is_small_spec : {M : Type 1} → statement M
 is_small_spec = tie.close (tie.spec (λ c κs. search rules) returns returns_2)

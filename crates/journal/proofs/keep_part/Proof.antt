@@ -7,15 +7,15 @@ use Rattle.journal.proofs.Record.{keeps_record}
 use Rattle.journal.proofs.keep_part.Statement.{statement}
 use Rattle.journal.proofs.keep_part.Tie as tie
 
-slice_write_j : tie.Need-slice-write-j
+slice_write_j : tie.Need-bounds-j-5-2
 slice_write_j c =
-    let p = c.before.before.before.before.before.before.before.before.before.before.before.before.requires in
+    let p = c.requires in
     let s = in_journal _ 6 p.0 (lit< tt) in
     search rules
 
-slice_write_j_2 : tie.Need-slice-write-j-2
+slice_write_j_2 : tie.Need-bounds-j-6-2
 slice_write_j_2 c =
-    let p = c.before.before.before.before.before.before.before.before.before.before.before.before.requires in
+    let p = c.requires in
     let s = in_journal _ 6 p.0 (lit< tt) in
     simp length-set (search rules)
 

@@ -7,8 +7,8 @@ use Rattle.journal.proofs.Record.{newest_judged, newest_tried}
 use Rattle.journal.proofs.restore.Statement.{statement}
 use Rattle.journal.proofs.restore.Tie as tie
 
-add_end : tie.Need-overflow-add-end
-add_end c = let l = newest_in _ _ c.before.before.before.before.requires.0 c.newest.ensures 256 (lit≤ tt) in search rules
+add_end : tie.Need-overflow_add-end
+add_end c = let l = newest_in _ _ c.requires.0 c.newest-at.ensures 256 (lit≤ tt) in search rules
 
 pub restore_spec : {M : Type 1} → statement M
 restore_spec =
@@ -18,7 +18,7 @@ restore_spec =
     add_end
     (λ c. search rules)
     (λ c. search rules)
-    (λ c. newest_in _ _ c.before.before.before.before.requires.0 c.newest.ensures 256 (lit≤ tt))
+    (λ c. newest_in _ _ c.requires.0 c.newest-at.ensures 256 (lit≤ tt))
     (λ c κs. search rules)
     (λ c. search rules)
     (λ c. search rules)

@@ -12,12 +12,12 @@ use Rattle.channels.proofs.Laws.{enabled_bit, first_fits, wide_fits, shift_fits}
 use Rattle.channels.proofs.masters.some_are_sound.Statement.{statement}
 use Rattle.channels.proofs.masters.some_are_sound.Tie as tie
 
-abbrev invariant-loop : tie.invariant-loop
-invariant-loop registers bits first many all₀ k₀ all k =
+abbrev invariant-loop-k : tie.invariant-loop-k
+invariant-loop-k registers bits first many all₀ k₀ all k =
     (k ≤ many) × ((all && each (many - k) (first + k) (master_sound registers)) ≡ each many first (master_sound registers))
 
-abbrev decreases-loop : tie.decreases-loop
-decreases-loop registers bits first many all₀ k₀ all k = many - k
+abbrev decreases-loop-k : tie.decreases-loop-k
+decreases-loop-k registers bits first many all₀ k₀ all k = many - k
 
 begun : (rs : List ℕ) (first many : ℕ) → each (many - 0) (first + 0) (master_sound rs) ≡ each many first (master_sound rs)
 begun rs first many =
@@ -42,8 +42,8 @@ pub some_are_sound_spec : {M : Type 1} → statement M
 some_are_sound_spec =
     tie.close
     (tie.spec
-    invariant-loop
-    decreases-loop
+    invariant-loop-k
+    decreases-loop-k
     (λ c. (search rules, search begun))
     (λ c. search first_fits)
     (λ c. search (wide_fits, rules))

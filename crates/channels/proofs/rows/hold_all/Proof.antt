@@ -13,11 +13,11 @@ use Rattle.channels.specs.Rows.{held, held_all}
 use Rattle.channels.proofs.rows.hold_all.Statement.{statement}
 use Rattle.channels.proofs.rows.hold_all.Tie as tie
 
-abbrev invariant-loop : tie.invariant-loop
-invariant-loop registers₀ numbers i₀ registers i = (i ≤ length numbers) × (length registers ≡ size) × (held_all (drop i numbers) registers ≡ held_all numbers registers₀)
+abbrev invariant-loop-i : tie.invariant-loop-i
+invariant-loop-i registers₀ numbers i₀ registers i = (i ≤ length numbers) × (length registers ≡ size) × (held_all (drop i numbers) registers ≡ held_all numbers registers₀)
 
-abbrev decreases-loop : tie.decreases-loop
-decreases-loop registers₀ numbers i₀ registers i = length numbers - i
+abbrev decreases-loop-i : tie.decreases-loop-i
+decreases-loop-i registers₀ numbers i₀ registers i = length numbers - i
 
 one_more : (cs rs after all : List ℕ) (i : ℕ) (ch : Channel) → i < length cs → ch ≡ channel_of (get_or cs i 0) → after ≡ held rs ch
     → held_all (drop i cs) rs ≡ all → held_all (drop (i + 1) cs) after ≡ all
@@ -34,8 +34,8 @@ pub hold_all_spec : {M : Type 1} → statement M
 hold_all_spec =
     tie.close
     (tie.spec
-    invariant-loop
-    decreases-loop
+    invariant-loop-i
+    decreases-loop-i
     (λ c. (search rules, search rules, refl))
     (λ c. search rules)
     (λ c κs. search rules)

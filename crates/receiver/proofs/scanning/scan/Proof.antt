@@ -87,8 +87,8 @@ loop_again_2 c =
       λ n r. l.invariant.5 n r ∙ gone_on (state_of l.c l.bytes) _ n _ l.left l.w r l.invariant.3 p e (state_after_lem l.c l.bytes (l.w % 2) s.result _ (omega arith) n6 l.invariant.0 s.ensures k),
     )
 
-add_used_2 : tie.Need-overflow-add-used-2 invariant-loop-left decreases-loop-left invariant-bytes decreases-bytes
-add_used_2 c = let l = c.before.before.before.loop in omega (arith, c.same-until.ensures.most, c.before.before.before.before.before.before.before.before.requires.1.1, l.invariant.4, l.invariant.2, c.before.before.before.before.before.before.bytes.invariant.4, c.before.before.before.before.before.before.bytes.invariant.3)
+add_used_2 : tie.Need-overflow_add-used-in-bytes invariant-loop-left decreases-loop-left invariant-bytes decreases-bytes
+add_used_2 c = let l = c.loop-left in omega (arith, c.same_until-end.ensures.most, c.requires.1.1, l.invariant.4, l.invariant.2, c.bytes.invariant.4, c.bytes.invariant.3)
 
 bytes_again : tie.Need-bytes-preserved invariant-loop-left decreases-loop-left invariant-bytes decreases-bytes
 bytes_again c =

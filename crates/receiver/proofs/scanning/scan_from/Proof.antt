@@ -10,7 +10,7 @@ use borrow.Author.Rules.{rules}
 use Rattle.receiver.proofs.scanning.scan_from.Statement.{statement}
 use Rattle.receiver.proofs.scanning.scan_from.Tie as tie
 
-sub_scan : tie.Need-overflow-sub-scan
+sub_scan : tie.Need-slice_bounds-scan-count
 sub_scan c = search rules
 
 part_scan_start : tie.Need-slice_bounds-scan-start

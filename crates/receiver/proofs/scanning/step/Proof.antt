@@ -5,8 +5,8 @@ use borrow.Author.Rules.{rules}
 use Rattle.receiver.proofs.scanning.step.Statement.{statement}
 use Rattle.receiver.proofs.scanning.step.Tie as tie
 
-add_t12 : tie.Need-overflow-add-t12
-add_t12 c = omega (arith, c.before.before.before.under2.ensures.2, c.before.before.before.before.under.ensures.2, c.before.before.before.before.before.requires.0, c.before.before.before.before.before.requires.3)
+add_result : tie.Need-overflow_add-result
+add_result c = omega (arith, c.under-pushed.ensures.2, c.under-counts.ensures.2, c.requires.0, c.requires.3)
 
 returns : tie.Need-returns
 returns c =
@@ -41,5 +41,5 @@ step_spec =
     (λ c. omega (arith, c.under.ensures.2, c.requires.1))
     (λ c κs. search rules)
     (λ c κs. search rules)
-    add_t12
+    add_result
     returns)
