@@ -3,4 +3,4 @@ use Rattle.chip.proofs.Laws.{silently_said}
 use Rattle.exercise.proofs.requests.upset.Goals as goal
 
 pub returns : goal.returns
-returns c = search silently_said
+returns g c = search silently_said

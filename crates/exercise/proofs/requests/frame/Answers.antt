@@ -1,6 +1,0 @@
--- `requests::frame` meets its contract. Assumes nothing.
-use Rattle.chip.proofs.Laws.{event_said}
-use Rattle.exercise.proofs.requests.frame.Goals as goal
-
-pub returns : goal.returns
-returns c = search event_said
