@@ -45,7 +45,7 @@ use Rattle.registers.proofs.Laws.{RegistersFit, store_fits, length_store, store_
 use Rattle.registers.proofs.Laws.{zeroed_zero, read_zero, zero_bytes, each_through, each_at, each_same, each_within, each_zero}
 use Rattle.registers.specs.Pins.{datain_after, firing_lines, interrupts, sampled}
 use Rattle.registers.specs.Transfer.{with_data, completed}
-use Rattle.registers.specs.Transaction.{nbyte, allows, success, status_after, filled_word, filled, fills_data, ended}
+use Rattle.registers.specs.Transaction.{allows, success, status_after, filled_word, filled, fills_data, ended}
 use Rattle.channels.specs.Rows.{master_control, master_bit, master_group, row_of, register_of, dropping, all_dropping, is_on, is_at_work, is_known, is_enabled, is_busy, held, held_all, settled, still_held, are_held, all_held}
 use Rattle.channels.proofs.Owners.{first, many, last, is_own, switches, switched_by, busy_by, own_inside, switched_by_lem, busy_by_lem}
 use Rattle.channels.proofs.Owners.{Twin, one_or_apart, canonical_number, below_16, own_first, own_last, apart_own, touches, changes, proper, commands_proper}
@@ -54,7 +54,7 @@ use Rattle.channels.proofs.Owners.{begins, ends, grouped, behind_core, is_by, dr
 pub use Rattle.channels.proofs.Owners.{Own, controls_own}
 use Rattle.channels.specs.Groups.{core_size, span_of, by_does, by_command, group_for}
 use Rattle.channels.specs.Errors.{can_move, of_command, decoded}
-use Rattle.channels.specs.Starts.{start_does, is_start, open_sound, opens_sound, sound_registers}
+use Rattle.channels.specs.Starts.{is_start, open_sound, opens_sound, sound_registers}
 use Rattle.channels.specs.Inner.{master_sound, none_on, Enables}
 use Rattle.channels.specs.Perform.{told, left, with_invcom, marked, reply_to, left_by, replied, performed}
 use Rattle.channels.specs.declared.groups.Group.{Group}

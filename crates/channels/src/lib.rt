@@ -1,6 +1,7 @@
 // The channels: a row each, with what enables it, what makes it busy, its group and its own bytes; the first error of a request; and then what
 // it does, which cannot fail.
 #![tactic(auto)]
+
 mod errors;
 pub mod groups;
 mod masters;

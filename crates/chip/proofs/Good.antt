@@ -2,7 +2,7 @@
 use Rattle.std.proofs.Common.{ℕ, ◌-◌, ◌≤◌, not, List, subst, arith, lit≤}
 use borrow.Author.Tests.{not-false}
 use Rattle.bits.proofs.Tests.{cond_cases, either}
-use Rattle.channels.proofs.Laws.{RequestBytes, performed_sound, sampled_sound, completed_sound, ended_sound, upset_sound}
+use Rattle.channels.proofs.Laws.{performed_sound, sampled_sound, completed_sound, ended_sound, upset_sound}
 use Rattle.channels.specs.Rows.{is_enabled}
 use Rattle.commands.specs.Channels.{first_master}
 use Rattle.commands.specs.declared.channel.Channel.TheVariants.{Gpio}

@@ -17,7 +17,6 @@ use Rattle.registers.specs.Transfer.{completed}
 use Rattle.registers.specs.Transaction.{ended}
 use Rattle.channels.specs.Rows.{is_enabled, is_busy}
 use Rattle.channels.specs.Perform as perform
-use Rattle.channels.specs.Starts.{open_code}
 use Rattle.channels.proofs.Laws.{ReplyBytes, replied_bytes, GivenByte, given_byte}
 use Rattle.commands.specs.Request.{interrupt_transaction}
 use Rattle.commands.specs.Spi.{go}
@@ -33,7 +32,7 @@ use Rattle.link.specs.Link.{reject_control, acknowledge_control, receive_number,
 use Rattle.chip.specs.Request.{replies, finished, requested}
 use Rattle.chip.specs.Frame.{is_reset_frame, address_of, control_of, information_of, connected, reset, looped, counted, commanded, numbered}
 use Rattle.chip.specs.Frame.{carried, addressed, on_frame}
-use Rattle.chip.specs.Chip.{transferred, on_spi, started_by, given_by, transacted, on_i2c, on_sample, on_upset, reaction}
+use Rattle.chip.specs.Chip.{transferred, on_spi, given_by, transacted, on_i2c, on_sample, on_upset, reaction}
 
 -- ---- how an event can change the state, but for the send number of a reply
 

@@ -1,5 +1,6 @@
 // The chip as a machine: what each event makes of its link and of the registers that it is lent, and its frame laid into the output.
 #![tactic(auto)]
+
 mod answer;
 pub mod events;
 mod frame;

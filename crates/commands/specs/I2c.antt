@@ -4,7 +4,6 @@ use Rattle.bits.specs.Table.{Row, row}
 use Rattle.commands.specs.declared.command.Command.{Command}
 use Rattle.commands.specs.declared.command.Command.TheVariants.{Known}
 use Rattle.commands.specs.declared.command.Does.TheVariants as does
-use Rattle.commands.specs.Field.{Field}
 use Rattle.commands.specs.Field.{Mask, Ctrl, Status, Data0, Data1, Data2, Data3, master}
 use Rattle.commands.specs.declared.command.Lengths.{Lengths}
 use Rattle.commands.specs.declared.command.Register.{Register}

@@ -1,6 +1,7 @@
 // The journal: a ring of records in lent bytes, each of which takes the state after an event back to the one before it. A journal belongs
 // to the state that it went with.
 #![tactic(auto)]
+
 mod records;
 
 ghost use Rattle.std.specs.Prelude.{◌≡◌, true, false, cond, ◌+◌, ◌-◌, ◌%◌, ◌<◌, ◌≤◌, length};

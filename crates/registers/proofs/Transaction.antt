@@ -2,17 +2,16 @@
 use Prim.Native.Nat.{ℕ, ◌+◌, ◌*◌, ◌/◌, ◌%◌, ◌^◌, ◌<◌, ◌≤◌}
 use mathlib.Core.Bool.{Bool, true, false, not, ◌&&◌, cond}
 use mathlib.Core.List.{List}
-use mathlib.Core.Path.{◌≡◌, refl, sym, ◌∙◌}
+use mathlib.Core.Path.{◌≡◌, sym, ◌∙◌}
 use native.Mathlib.Omega.{arith}
 use borrow.Author.Tests.{lt-ltb, le-ltb, leb-true, not-false, not-true}
 use lib.Bits.{bit_and}
-use lib.Dec.{eqb, leb, ltb}
+use lib.Dec.{eqb, leb}
 use lib.ListN.{length, get_or, get_or-eq_default}
-use Rattle.bits.specs.Bits.{bit_of, digit}
+use Rattle.bits.specs.Bits.{digit}
 use Rattle.bits.proofs.Bits.{bit_test}
 use Rattle.parts.specs.Digits.{word}
 use Rattle.parts.specs.declared.Width.{Width}
-use Rattle.commands.specs.Field.{Field}
 use Rattle.commands.specs.Field.{Ctrl, Status, Open, Data0, Data1, Data2, Data3, master}
 use Rattle.commands.specs.declared.command.Register.{Register}
 use Rattle.commands.specs.declared.command.Transaction.{Transaction}
@@ -20,7 +19,7 @@ use Rattle.commands.specs.declared.command.Transaction.TheVariants.{WriteMany, R
 use Rattle.registers.specs.declared.Row.{Row}
 use Rattle.registers.specs.Registers.{size, row, row_of, bank, read, store}
 use Rattle.registers.proofs.Rows.{bank_to}
-use Rattle.registers.specs.Transaction.{nbyte, one_to_sixteen, allows, success, status_after, byte_after, word_after, filled_word, filled}
+use Rattle.registers.specs.Transaction.{nbyte, allows, status_after, byte_after, word_after, filled_word, filled}
 use Rattle.registers.specs.Transaction.{fills_data, brings_byte, ended, end_data}
 
 -- ---- the rows

@@ -2,6 +2,7 @@
 // One way to read them and one to store into them, and what a pin sample, an SPI transfer and an I2C transaction leave of them. Nothing here of
 // LEN, of enable bits, of errors.
 #![tactic(auto)]
+
 pub mod gpio;
 pub mod i2c;
 pub mod spi;

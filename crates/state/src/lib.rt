@@ -1,6 +1,7 @@
 // The chip's state in the bytes that a caller lends: its link, then its registers. docs/JOURNAL.md has them one by one. Power-on, and what is
 // in range.
 #![tactic(auto)]
+
 ghost use Rattle.std.specs.Prelude.{◌≡◌, ◌≤◌, length};
 ghost use Rattle.parts.specs.Parts.{put};
 ghost use Rattle.registers.specs.Registers.{size};

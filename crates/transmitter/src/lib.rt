@@ -1,5 +1,6 @@
 // The transmitter: a body goes out as a frame (document 01, "The wire").
 #![tactic(auto)]
+
 mod framing;
 
 ghost use Rattle.std.specs.Prelude.{◌≡◌};

@@ -1,5 +1,6 @@
 // What the two directions of the wire share (document 01, "The wire"): here the check register of the FCS, four bits at a time.
 #![tactic(auto)]
+
 ghost use Rattle.std.specs.Prelude.{◌≡◌, ◌<◌};
 ghost use Rattle.wire.specs.Bits.{low, wire};
 ghost use Rattle.wire.specs.Fcs as fcs;

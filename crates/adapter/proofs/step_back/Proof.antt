@@ -13,33 +13,21 @@ use Rattle.adapter.proofs.Cases.{back_state, back_journal, back_none, back_tried
 use Rattle.adapter.proofs.step_back.Statement.{statement}
 use Rattle.adapter.proofs.step_back.Tie as tie
 
--- what each test has told, past it
-a_state : (c : tie.Else-not-is_state) → is_state c.args.state.now ≡ true
-a_state c = sym c.is_state.ensures ∙ c.if-not-is_state.false
-
-a_journal : (c : tie.Else-not-is_well_formed) → well_formed c.args.journal.now ≡ true
-a_journal c = sym c.is_well_formed.ensures ∙ c.if-not-is_well_formed.false
-
 no_journal : tie.Need-returns-then-not-is_well_formed
-no_journal c = back_journal _ _ (a_state c) (sym c.is_well_formed.ensures ∙ c.if-not-is_well_formed.true)
+no_journal c = back_journal _ _ (sym c.is_state.ensures ∙ c.if-not-is_state.false) (sym c.is_well_formed.ensures ∙ c.if-not-is_well_formed.true)
 
 none_kept : tie.Need-returns-then-journal-eq0
-none_kept c = let t = c in back_none _ _ (a_state t) (a_journal t) c.if-journal-eq0.true
+none_kept c = back_none _ _ (sym c.is_state.ensures ∙ c.if-not-is_state.false) (sym c.is_well_formed.ensures ∙ c.if-not-is_well_formed.false) c.if-journal-eq0.true
 
 take_back_requires : tie.Need-take_back-requires
-take_back_requires c κs =
-    let t = c in
-    (its_length _ (a_state t), (a_journal t, pos_of_ne-zero c.if-journal-eq0.false))
+take_back_requires c κs = (its_length _ (sym c.is_state.ensures ∙ c.if-not-is_state.false), ((sym c.is_well_formed.ensures ∙ c.if-not-is_well_formed.false), pos_of_ne-zero c.if-journal-eq0.false))
 
 taken_back : tie.Need-returns
-taken_back c =
-    let u = c in
-    let t = u in
-    back_tried _ _ (a_state t) (a_journal t) _ u.if-journal-eq0.false c.take_back.ensures
+taken_back c = back_tried _ _ (sym c.is_state.ensures ∙ c.if-not-is_state.false) (sym c.is_well_formed.ensures ∙ c.if-not-is_well_formed.false) _ c.if-journal-eq0.false c.take_back.ensures
 
 pub step_back_spec : {M : Type 1} → statement M
 step_back_spec {M} =
     let spelled = two (tie.spec {M = M}) (search rules) (λ c. back_state _ _ (sym c.is_state.ensures ∙ c.if-not-is_state.true)) in
-    let formed = three spelled (search rules) no_journal (λ c. in_journal _ 6 (a_journal c.before) (lit< tt)) in
+    let formed = three spelled (search rules) no_journal (λ c. in_journal _ 6 (sym c.is_well_formed.ensures ∙ c.if-not-is_well_formed.false) (lit< tt)) in
     let kept = two formed (search rules) none_kept take_back_requires in
     tie.close (two kept (search rules) taken_back)

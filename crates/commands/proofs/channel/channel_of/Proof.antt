@@ -32,12 +32,12 @@ unfolding channel_of
 channel_of_spec =
     tie.close
     (tie.spec
-    (λ c. past_two _ c.in-3-to-18.in_default-own.rest)
+    (λ c. search (c, past_two))
     (λ c. ap channel_of (sym c.in-0.is))
     (λ c. ap channel_of (sym c.in-1.is))
     (λ c. ap channel_of (sym c.in-2.is))
     (λ c. ap channel_of (sym c.in-19.is))
     (λ c. ap channel_of (sym c.in-20.is))
     (λ c. ap channel_of (sym c.in-21.is))
-    (λ c. master _ c.in-3-to-18.in_default-own.rest c.in-3-to-18.if-ch-lt19-own.true)
-    (λ c. no_master _ c.in_default.in_default-own.rest c.in_default.if-ch-lt19-own.false))
+    (λ c. search (c, master))
+    (λ c. search (c, no_master)))

@@ -1,5 +1,6 @@
 -- `spi::command_of` meets its contract. Assumes nothing.
 use mathlib.Core.Path.{ap, sym}
+use Rattle.std.proofs.Common.{rules}
 use Rattle.bits.proofs.Rows.{none_of}
 use Rattle.commands.specs.declared.command.Command.TheVariants.{Unknown}
 use Rattle.commands.specs.Command.{code_of}
@@ -26,5 +27,5 @@ command_of_spec =
     (λ c. ap (code_of spi_commands) (sym c.in-33.is))
     (λ c. ap (code_of spi_commands) (sym c.in-48.is))
     (λ c. ap (code_of spi_commands) (sym c.in-49.is))
-    (λ c. ap (code_of spi_commands) (sym c.in-114.is))
+    (λ c. search rules)
     (λ c. none_of spi_commands Unknown _ c.in_default.in_default-own.rest))
