@@ -1,6 +1,7 @@
 // The adapter as its users call it, on the bytes that they lend: every refusal in document 01's order, every event kept in the journal, steps
 // back.
 #![tactic(auto)]
+
 pub mod events;
 
 ghost use Rattle.std.specs.Prelude.{◌≡◌, true, not, cond, ◌<◌, ltb, length};

@@ -1,6 +1,7 @@
 // A batch of pin samples, in two passes over its list: the first looks at every kind, the second gives the samples to the chip one by one. What
 // walks the list hands each sample to `step`; between them, all that a batch is stands in a `Pass`.
 #![tactic(auto)]
+
 ghost use Rattle.std.specs.Prelude.{◌≡◌, true, ◌+◌, ◌≤◌, ◌<◌, length};
 ghost use Rattle.std.specs.Int.Count.{ones};
 ghost use Rattle.numbers.specs.Numbers.{reply_bytes, samples_most};

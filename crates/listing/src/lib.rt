@@ -1,5 +1,6 @@
 // The bench listing: what a line of text says, and an answer as a line of text; pure, on lent bytes.
 #![tactic(auto)]
+
 pub mod answer;
 pub mod characters;
 pub mod line;

@@ -1,5 +1,6 @@
 // A listing played: each line's answer behind the last one's, lines cut out of blocks of any size.
 #![tactic(auto)]
+
 pub mod calls;
 
 ghost use Rattle.std.specs.Prelude.{◌≡◌, ◌+◌, ◌*◌, ◌≤◌, length, take};

@@ -28,7 +28,7 @@ use Rattle.journal.proofs.Ring.{Well, of_well, well_of}
 use Rattle.adapter.specs.declared.Answer.{Answer}
 use Rattle.adapter.specs.declared.Verdict.TheVariants.{Passed}
 use Rattle.adapter.specs.Refusals.{in_order}
-use Rattle.adapter.specs.Calls.{Outcome, outcome, shown, recorded, called as single-called}
+use Rattle.adapter.specs.Calls.{Outcome, shown, recorded, called as single-called}
 use Rattle.adapter.proofs.Laws.{recorded_well}
 use Rattle.batch.specs.declared.Sample.{Sample}
 use Rattle.batch.specs.Batch.{event_of, Course, outset, onward, one_by_one, lines_in, bare, answered, some_wrong, verdict, called, done}

@@ -1,6 +1,6 @@
 -- TWO HUNDRED STEPS. Lengths and versions that don't agree are 4; the enlarging call, for every input; and, for any calls that meet demand 3, a run that
 -- goes on with the enlarged journal gives what it would have given with the small one, the kept number apart, until that one gives 5. Assumes nothing.
-use Prim.Native.Nat.{ℕ, ◌+◌, ◌-◌, min, ◌≤◌, ◌<◌}
+use Prim.Native.Nat.{ℕ, ◌+◌, min, ◌≤◌, ◌<◌}
 use mathlib.Core.Path.{◌≡◌, refl, sym, ap, ap₂, ◌∙◌}
 use mathlib.Core.List.{List, [], ◌∷◌, ◌++◌, foldl, foldl-append}
 use mathlib.Core.Bool.{Bool, true, false, cond, true≢false, false≢true}
@@ -21,7 +21,7 @@ use Rattle.journal.proofs.Enlarged.{small_well, small_length, large_size, large_
 use Rattle.adapter.specs.Refusals.{in_order, verdict, back_verdict}
 use Rattle.adapter.specs.declared.Verdict.{Verdict}
 use Rattle.adapter.specs.declared.Verdict.TheVariants.{Refused}
-use Rattle.adapter.specs.Calls.{made, made_empty, kept_in, made_large, called, stepped_back}
+use Rattle.adapter.specs.Calls.{made, made_empty, kept_in, made_large, stepped_back}
 use Rattle.adapter.proofs.Laws.{called_refused, empty_done}
 use Rattle.batch.specs.declared.Sample.{Sample}
 use Rattle.batch.specs.Batch.{event_of}

@@ -1,15 +1,14 @@
 -- THE SIXTEEN I2C MASTERS: what document 02 says of them, each sentence once, for the master of every number; the wrong adapters that demand 3 shuts out
 -- for them; and worked examples, a row of each kind. Assumes nothing.
-use Prim.Native.Nat.{ℕ, ◌+◌, ◌*◌, ◌-◌, ◌%◌, ◌≤◌, ◌<◌}
-use mathlib.Core.Bool.{Bool, true, false, not, ◌&&◌, ◌||◌, cond, true≢false}
+use Prim.Native.Nat.{ℕ, ◌+◌, ◌*◌, ◌-◌, ◌<◌}
+use mathlib.Core.Bool.{Bool, true, false, ◌||◌, cond, true≢false}
 use mathlib.Core.List.{List, [], ◌∷◌, map}
-use mathlib.Core.Logic.{◌⊎◌, inl, inr}
+use mathlib.Core.Logic.{inl, inr}
 use mathlib.Core.Path.{◌≡◌, refl, sym, ap, ◌∙◌}
 use native.Mathlib.Omega.{arith}
 use borrow.Author.Tests.{eq-eqb, eqb-true, eqb-false, le-leb}
 use lib.Dec.{eqb}
 use lib.ListN.{length, replicate}
-use Rattle.bits.specs.Bits.{word}
 use Rattle.bits.proofs.Tests.{cond_cases}
 use Rattle.parts.specs.Parts.{part, put, all_zero}
 use Rattle.parts.specs.Digits.{number, digits}
@@ -27,20 +26,20 @@ use Rattle.commands.specs.declared.request.Request.{Request}
 use Rattle.registers.specs.Registers.{size, bank, read, store, written, zeroed, are_zero, each_master}
 use Rattle.registers.specs.Transaction.{word_after, filled_word, filled, ended, end_data}
 use Rattle.registers.proofs.Rows.{bank_from, bank_to, among}
-use Rattle.registers.proofs.Laws.{length_store, read_other, read_zero, each_at}
-use Rattle.channels.specs.Rows.{master_control, master_bit, register_of, dropping, is_enabled, is_busy, held, held_all, settled}
+use Rattle.registers.proofs.Laws.{length_store, read_zero, each_at}
+use Rattle.channels.specs.Rows.{master_control, master_bit, register_of, dropping, is_enabled, held, held_all, settled}
 use Rattle.channels.specs.Errors.{decoded}
 use Rattle.channels.specs.Perform.{marked, replied, performed}
 use Rattle.channels.proofs.Laws.{Sound, RequestBytes, Granted, granted_decoded, kept_start, settled_drops, settled_zero, own_elsewhere, controls_own, among as amongChannels}
 use Rattle.channels.proofs.Owners.{field_own}
-use Rattle.state.specs.State.{Adapter, with_registers, powered_on, power_on}
-use Rattle.chip.specs.Answer.{Reaction, gives}
+use Rattle.state.specs.State.{Adapter, with_registers, powered_on}
+use Rattle.chip.specs.Answer.{gives}
 use Rattle.chip.specs.Event.{Event, frame, completion, spi, i2c, sample, upset}
 use Rattle.chip.specs.Request.{replies, requested}
 use Rattle.chip.specs.Frame.{reset, is_reset_frame, commanded, numbered, carried, addressed, on_frame}
 use Rattle.chip.specs.Chip.{reaction, on_i2c, transacted}
 use Rattle.chip.proofs.Examples.{fresh, after, run, Ask, ask, asked, told, left, Rows, write, read as reads}
-use Rattle.promises.specs.Runs.{Call, event, batch, back, empty, enlarge, Given, Calls, Run, left as paired, Demand3}
+use Rattle.promises.specs.Runs.{Call, event, batch, back, empty, enlarge, Given, Calls, left as paired, Demand3}
 use Rattle.promises.specs.Ours.{Handed, gives_ours, leaves_ours, ours}
 use Rattle.promises.proofs.Examples.{below, literal, typed}
 use Rattle.promises.proofs.ShutOut.{ran, output, number_of}

@@ -5,21 +5,12 @@ use mathlib.Core.List.{List}
 use Prim.Native.Nat.{ℕ}
 use Rattle.receiver.specs.declared.Received.{Received}
 use Rattle.transmitter.specs.declared.Sent.{Sent}
-use seplogic.Ra.Ura.{Ura}
-use base.Logic.{SProp, ent, sep, fst∗, snd∗}
-use prog.Memory.{Memory}
-use prog.Routine.{Routine}
-use types.Logic.{Logic}
-use contract.Monad.{Fun, fact, fact_i, fact_use}
-use contract.Lifetimes.{Lfts}
-use denote.Triple.Clauses.{AtExit}
-use denote.Triple.Entry.{Args}
-use Rattle.parts.proofs.Outcome.{One}
+use Rattle.parts.proofs.Outcome.{One, OneBeside}
 use Rattle.transmitter.proofs as transmitter
 use Rattle.receiver.proofs as receiver
 use Rattle.sca.proofs as sca
 use Rattle.adapter.specs.Calls.{made, copied, stepped}
-use Rattle.sca.specs.Adapter.{Left, left}
+use Rattle.sca.specs.Adapter.{left}
 use Rattle.control_room.specs.Calls as rooms
 use Rattle.sca.specs.ControlRoom as room
 -- the adapter's ten calls
@@ -65,7 +56,7 @@ sca_empty_one κs a x y s t p q = p ∙ sym q
 pub sca_kept_one : One 1 sca.sca_kept.Kinds.ps sca.sca_kept.Kinds.r sca.sca_kept.Reads.Post (λ κs x s. x)
 sca_kept_one κs a x y s t p q = p ∙ sym q
 
-pub sca_enlarge_one : One 2 sca.sca_enlarge.Kinds.ps sca.sca_enlarge.Kinds.r sca.sca_enlarge.Reads.Post (λ κs x s. copied x s.0.now s.1.0.now)
+pub sca_enlarge_one : OneBeside 2 sca.sca_enlarge.Kinds.ps sca.sca_enlarge.Kinds.r sca.sca_enlarge.Reads.Post (λ κs a x s. copied x a.0.now s.1.0.now)
 sca_enlarge_one κs a x y s t p q = p ∙ sym q
 
 pub sca_frame_one : One 4 sca.sca_frame.Kinds.ps sca.sca_frame.Kinds.r sca.sca_frame.Reads.Post (λ κs x s. left x s.0.now s.1.0.now s.1.1.1.1.0.now)
@@ -80,24 +71,8 @@ sca_i2c_completion_one κs a x y s t p q = p ∙ sym q
 pub sca_sample_one : One 3 sca.sca_sample.Kinds.ps sca.sca_sample.Kinds.r sca.sca_sample.Reads.Post (λ κs x s. left x s.0.now s.1.0.now s.1.1.1.1.0.now)
 sca_sample_one κs a x y s t p q = p ∙ sym q
 
--- No `Reads.Post` is made of a function that is walked by hand. Its contract stands in the logic as an assertion (`clauses`): where it holds of two
--- outcomes, they are the same.
-module _ {M : Type 1} {𝓤 : Ura M} (𝓛 : Logic 𝓤) (mem : Memory → SProp 𝓤) (run : Routine → Fun 𝓤)
-    (κs : Lfts 4) (a : Args sca.sca_samples.signature κs) where
-  abbrev Ends : Type 0
-  Ends = AtExit sca.sca_samples.ended κs
-
-  abbrev Allowed : ℕ → Ends → SProp 𝓤
-  Allowed x s = (sca.sca_samples.clauses 𝓛 mem run κs a).ensures tt x s
-
-  abbrev seen : ℕ → Ends → Left
-  seen x s = left x s.0.now s.1.0.now s.1.1.1.0.now
-
-  pub sca_samples_one : (x y : ℕ) (s t : Ends) → ent 𝓤 (sep 𝓤 (Allowed x s) (Allowed y t)) (fact 𝓤 (seen x s ≡ seen y t))
-  sca_samples_one x y s t =
-      let P = sep 𝓤 (Allowed x s) (Allowed y t) in
-      fact_use 𝓤 {P = P} _ (fst∗ 𝓤 (Allowed x s) (Allowed y t)) (λ p.
-      fact_use 𝓤 {P = P} _ (snd∗ 𝓤 (Allowed x s) (Allowed y t)) (λ q. fact_i 𝓤 (seen x s ≡ seen y t) P (p ∙ sym q)))
+pub sca_samples_one : One 4 sca.sca_samples.Kinds.ps sca.sca_samples.Kinds.r sca.sca_samples.Reads.Post (λ κs x s. left x s.0.now s.1.0.now s.1.1.1.0.now)
+sca_samples_one κs a x y s t p q = p ∙ sym q
 
 pub sca_upset_one : One 3 sca.sca_upset.Kinds.ps sca.sca_upset.Kinds.r sca.sca_upset.Reads.Post (λ κs x s. left x s.0.now s.1.0.now s.1.1.0.now)
 sca_upset_one κs a x y s t p q = p ∙ sym q

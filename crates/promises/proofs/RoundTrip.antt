@@ -19,7 +19,7 @@ use Rattle.transmitter.specs.Frame.{frame, filled, framed}
 use Rattle.transmitter.specs.Transmit as transmit
 use Rattle.receiver.specs.declared.Receiver.{Receiver}
 use Rattle.receiver.specs.Receiver.{State, hunting, opened, runs, view, image}
-use Rattle.receiver.specs.Receive.{bare, at_flag, reading, output_after}
+use Rattle.receiver.specs.Receive.{bare, at_flag, reading}
 use Rattle.wire.proofs.Bits.{AreBits, AreBytes, none, more, bits_append, bits_wire, length_wire, wire_append, length_pack, pack_wire, wire_pack}
 use Rattle.wire.proofs.Check.{good_residue}
 use Rattle.promises.specs.Wire.{after, found, filling}

@@ -1,6 +1,6 @@
 -- WHAT DEMAND 3 SHUTS OUT: document 01's wrong adapters ("Strength of the promises"). First, for any calls at all, the kind of wrongness
 -- that no run forgives; then each wrong adapter, made from the delivered calls with one thing changed.
-use Prim.Native.Nat.{ℕ, zero, suc, ◌+◌, ◌≤◌, ◌<◌}
+use Prim.Native.Nat.{ℕ, zero, suc, ◌+◌, ◌<◌}
 use mathlib.Core.Path.{◌≡◌, refl, sym, ap, ◌∙◌}
 use mathlib.Core.List.{List, [], ◌∷◌, foldl}
 use mathlib.Core.Bool.{Bool, true, false, cond, ◌||◌, false≢true}

@@ -1,4 +1,3 @@
 pub mod Spelling
 pub mod Packing
-pub mod Lending
 pub mod Test

@@ -1,13 +1,10 @@
 -- `step_back` meets its contract. Assumes nothing.
-use mathlib.Core.Path.{◌≡◌, sym, ◌∙◌}
-use mathlib.Core.Bool.{true}
+use mathlib.Core.Path.{sym, ◌∙◌}
 use native.Mathlib.Nat.{pos_of_ne-zero}
 use borrow.Author.Rules.{rules}
 use lib.Dec.{lit<}
-use Rattle.state.specs.Bytes.{is_state}
 use Rattle.state.proofs.Spelling.{its_length}
 use Rattle.bits.proofs.Answered.{two, three}
-use Rattle.journal.specs.Layout.{well_formed}
 use Rattle.journal.proofs.Ring.{in_journal}
 use Rattle.adapter.proofs.Cases.{back_state, back_journal, back_none, back_tried}
 use Rattle.adapter.proofs.step_back.Statement.{statement}

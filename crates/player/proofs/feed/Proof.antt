@@ -9,8 +9,8 @@ use Rattle.player.proofs.Feeding.{none_fed, byte_fed, all_fed}
 use Rattle.player.proofs.feed.Statement.{statement}
 use Rattle.player.proofs.feed.Tie as tie
 
-abbrev invariant-loop : tie.invariant-loop
-invariant-loop state₀ held journal₀ line₀ block out₀ f₀ i₀ state journal line out f i =
+abbrev invariant-loop-i : tie.invariant-loop-i
+invariant-loop-i state₀ held journal₀ line₀ block out₀ f₀ i₀ state journal line out f i =
     ((i ≤ length block)
     × (f.count ≤ 81)
     × (f.next ≤ 48 * i)
@@ -20,24 +20,21 @@ invariant-loop state₀ held journal₀ line₀ block out₀ f₀ i₀ state jou
     × (length journal ≡ length journal₀))
     × (fed f state journal line out ≡ feeds 0 out₀ (foldl takes (player state₀ journal₀ line₀ held []) (take i block)))
 
-abbrev decreases-loop : tie.decreases-loop
-decreases-loop state₀ held journal₀ line₀ block out₀ f₀ i₀ state journal line out f i = length block - i
+abbrev decreases-loop-i : tie.decreases-loop-i
+decreases-loop-i state₀ held journal₀ line₀ block out₀ f₀ i₀ state journal line out f i = length block - i
 
 pub feed_spec : {M : Type 1} → statement M
 feed_spec =
     tie.close
     (tie.spec
-    invariant-loop
-    decreases-loop
+    invariant-loop-i
+    decreases-loop-i
     (λ c. (search rules, search none_fed))
     (λ c. search rules)
     (λ c κs. search rules)
     (λ c. search rules)
     (λ c. search rules)
-    (λ c.
-    let t = c.before.before.before.before.before.before.before.before in
-    let l = t.before.before.before.before.before.before in
-    (search rules, byte_fed _ _ _ _ _ _ _ _ _ _ _ t.take-byte.ensures.0 l.before.loop.invariant.1 l.loop-test.true (search rules)))
+    (λ c. (search rules, byte_fed _ _ _ _ _ _ _ _ _ _ _ c.take_byte-f.ensures.0 c.loop-i.invariant.1 c.loop-i-test.true (search rules)))
     (λ c. search rules)
     (λ c. search rules)
     (λ c. search rules)

@@ -9,7 +9,6 @@ finish_spec =
     tie.close
     (tie.spec
     (λ c. (search ends_nothing, search rules))
-    (λ c. search rules)
     (λ c κs. search rules)
     (λ c. search rules)
     (λ c. search rules)

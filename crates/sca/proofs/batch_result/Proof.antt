@@ -11,4 +11,4 @@ batch_result_spec =
     (tie.spec
     (λ c κs. search rules)
     (λ c κs. search rules)
-    (λ c. c.pack-batch.ensures ∙ ap pack_batch c.before.finish.ensures))
+    (λ c. c.pack_batch.ensures ∙ ap pack_batch c.finish.ensures))

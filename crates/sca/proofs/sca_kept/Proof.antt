@@ -11,4 +11,4 @@ sca_kept_spec =
     (tie.spec
     (λ c κs. search rules)
     (λ c κs. search rules)
-    (λ c. c.pack-kept.ensures ∙ ap pack_kept c.before.kept.ensures))
+    (λ c. c.pack_kept.ensures ∙ ap pack_kept c.kept.ensures))

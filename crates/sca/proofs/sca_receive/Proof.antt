@@ -5,10 +5,10 @@ use Rattle.sca.proofs.Spelling.{read_bytes, read_refused}
 use Rattle.sca.proofs.sca_receive.Statement.{statement}
 use Rattle.sca.proofs.sca_receive.Tie as tie
 
-returns : tie.Need-returns
+returns : tie.Need-returns-then-rx-eq-BYTES
 returns c =
-    let r = c.before.before.before.before.before.before.before.receive.ensures in
-    read_bytes _ _ _ _ c.before.before.before.before.before.before.before.before.before.before.before.if1.true c.before.before.before.before.before.before.before.before.before.spelled_by.ensures r.0 r.1 c.before.before.before.spell.ensures c.pack-received.ensures
+    let r = c.receive-got.ensures in
+    read_bytes _ _ _ _ c.if-rx-eq-BYTES.true c.spelled_by.ensures r.0 r.1 c.spell.ensures c.pack_received.ensures
 
 pub sca_receive_spec : {M : Type 1} → statement M
 sca_receive_spec =
@@ -17,9 +17,9 @@ sca_receive_spec =
     (λ c κs. search rules)
     (λ c κs. search rules)
     (λ c κs. search rules)
-    (λ c κs. rw c.before.before.before.before.before.before.receive.ensures.0 (received_small _ _ _ _))
+    (λ c κs. rw c.receive-got.ensures.0 (received_small _ _ _ _))
     (λ c. search rules)
     (λ c. search rules)
     returns
     (λ c κs. search rules)
-    (λ c. read_refused _ _ _ _ c.before.if1.false c.wide.ensures.0))
+    (λ c. read_refused _ _ _ _ c.if-rx-eq-BYTES.false c.wide.ensures.0))

@@ -6,9 +6,9 @@ use Rattle.sca.specs.Link.{receiver_bytes}
 use Rattle.sca.proofs.sca_receiver_new.Statement.{statement}
 use Rattle.sca.proofs.sca_receiver_new.Tie as tie
 
-returns : tie.Need-returns
+returns : tie.Need-returns-then-rx-eq-BYTES
 returns c =
-    rw (eq-eqb _ 24 c.before.before.before.before.before.before.if1.true) (c.wide.ensures.0, c.before.before.before.spell.ensures ∙ ap receiver_bytes c.before.before.before.before.before.new.ensures)
+    rw (eq-eqb _ 24 c.if-rx-eq-BYTES.true) (c.wide.ensures.0, c.spell.ensures ∙ ap receiver_bytes c.new.ensures)
 
 pub sca_receiver_new_spec : {M : Type 1} → statement M
 sca_receiver_new_spec =
@@ -20,4 +20,4 @@ sca_receiver_new_spec =
     (λ c. search rules)
     returns
     (λ c κs. search rules)
-    (λ c. rw (ne_eqb _ 24 c.before.if1.false) (c.wide2.ensures.0, refl)))
+    (λ c. rw (ne_eqb _ 24 c.if-rx-eq-BYTES.false) (c.wide-2.ensures.0, refl)))

@@ -4,24 +4,24 @@ use Rattle.listing.proofs.Writing.{number_room, kept_room, frame_room, end_room,
 use Rattle.listing.proofs.answer.put_answer.Statement.{statement}
 use Rattle.listing.proofs.answer.put_answer.Tie as tie
 
-put_frame_requires : tie.Need-put-frame-requires
+put_frame_requires : tie.Need-put_frame-d-requires
 put_frame_requires c κs = (
-  frame_room _ _ _ _ _ _ _ _ _ _ c.before.before.before.put-decimal2.ensures c.before.before.before.before.before.before.before.put_byte.ensures c.before.before.before.before.before.before.before.before.before.before.before.put-decimal.ensures c.before.before.before.before.before.before.before.before.before.before.before.before.before.before.before.requires.0,
-  c.before.before.before.before.before.before.before.before.before.before.before.before.before.before.before.requires.1,
+  frame_room _ _ _ _ _ _ _ _ _ _ c.put_decimal-c.ensures c.put_byte-b.ensures c.put_decimal-a.ensures c.requires.0,
+  c.requires.1,
 )
 
-put_byte_requires : tie.Need-put-byte-requires-2
+put_byte_requires : tie.Need-put_byte-requires
 put_byte_requires c κs =
-    end_room _ _ _ _ _ _ _ _ _ _ _ _ _ _ c.before.before.before.put-frame.ensures c.before.before.before.before.before.before.before.put-decimal2.ensures c.before.before.before.before.before.before.before.before.before.before.before.put_byte.ensures c.before.before.before.before.before.before.before.before.before.before.before.before.before.before.before.put-decimal.ensures c.before.before.before.before.before.before.before.before.before.before.before.before.before.before.before.before.before.before.before.requires.0
-    c.before.before.before.before.before.before.before.before.before.before.before.before.before.before.before.before.before.before.before.requires.1
+    end_room _ _ _ _ _ _ _ _ _ _ _ _ _ _ c.put_frame-d.ensures c.put_decimal-c.ensures c.put_byte-b.ensures c.put_decimal-a.ensures c.requires.0
+    c.requires.1
 
 returns : tie.Need-returns
 returns c =
     let e =
-    line_written _ _ _ _ _ _ _ _ _ _ _ _ _ _ _ _ c.before.before.put-byte2.ensures c.before.before.before.before.before.before.put-frame.ensures c.before.before.before.before.before.before.before.before.before.before.put-decimal2.ensures c.before.before.before.before.before.before.before.before.before.before.before.before.before.before.put_byte.ensures
-    c.before.before.before.before.before.before.before.before.before.before.before.before.before.before.before.before.before.before.put-decimal.ensures c.before.before.before.before.before.before.before.before.before.before.before.before.before.before.before.before.before.before.before.before.before.before.requires.0 c.before.before.before.before.before.before.before.before.before.before.before.before.before.before.before.before.before.before.before.before.before.before.requires.1
+    line_written _ _ _ _ _ _ _ _ _ _ _ _ _ _ _ _ c.put_byte.ensures c.put_frame-d.ensures c.put_decimal-c.ensures c.put_byte-b.ensures
+    c.put_decimal-a.ensures c.requires.0 c.requires.1
     in
-    (e, line_bound _ _ _ _ _ _ _ _ e c.before.before.before.before.before.before.before.before.before.before.before.before.before.before.before.before.before.before.before.before.before.before.requires.1)
+    (e, line_bound _ _ _ _ _ _ _ _ e c.requires.1)
 
 pub put_answer_spec : {M : Type 1} → statement M
 put_answer_spec =

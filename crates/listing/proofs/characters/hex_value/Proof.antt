@@ -10,12 +10,12 @@ hex_value_spec =
     tie.close
     (tie.spec
     (λ c κs. search rules)
-    (λ c. let h = low_end 48 57 c.before.before.args.c _ c.before.between.ensures c.if1.true in omega arith)
+    (λ c. let h = low_end 48 57 c.args.c _ c.between.ensures c.if-between.true in omega arith)
     (λ c. search values)
     (λ c κs. search rules)
-    (λ c. let h = low_end 65 70 c.before.before.before.before.args.c _ c.before.between2.ensures c.if2.true in omega arith)
+    (λ c. let h = low_end 65 70 c.args.c _ c.between-2.ensures c.if-between-2.true in omega arith)
     (λ c. search values)
     (λ c κs. search rules)
-    (λ c. let h = low_end 97 102 c.before.before.before.before.before.before.args.c _ c.before.between3.ensures c.if3.true in omega arith)
+    (λ c. let h = low_end 97 102 c.args.c _ c.between-3.ensures c.if-between-3.true in omega arith)
     (λ c. search values)
     (λ c. search values))

@@ -9,25 +9,25 @@ use Rattle.listing.proofs.Hex.{pair_more, pair_all}
 use Rattle.listing.proofs.characters.load_pairs.Statement.{statement}
 use Rattle.listing.proofs.characters.load_pairs.Tie as tie
 
-abbrev invariant-loop : tie.invariant-loop
-invariant-loop s bytes₀ i₀ bytes i = (i ≤ length bytes) × (length bytes ≡ length bytes₀) × (take i bytes ≡ pair_bytes i s)
+abbrev invariant-loop-i : tie.invariant-loop-i
+invariant-loop-i s bytes₀ i₀ bytes i = (i ≤ length bytes) × (length bytes ≡ length bytes₀) × (take i bytes ≡ pair_bytes i s)
 
-abbrev decreases-loop : tie.decreases-loop
-decreases-loop s bytes₀ i₀ bytes i = length bytes - i
+abbrev decreases-loop-i : tie.decreases-loop-i
+decreases-loop-i s bytes₀ i₀ bytes i = length bytes - i
 
-loop_holds : tie.Need-loop-init invariant-loop decreases-loop
+loop_holds : tie.Need-loop-i-init invariant-loop-i decreases-loop-i
 unfolding pair_bytes
 loop_holds c = (search rules, refl, refl)
 
-loop_again : tie.Need-loop-preserved invariant-loop decreases-loop
-loop_again c = (simp length-set (omega arith), simp length-set (omega arith), pair_more _ _ _ _ (omega arith) c.pair-at.ensures c.before.before.loop.invariant.2)
+loop_again : tie.Need-loop-i-preserved invariant-loop-i decreases-loop-i
+loop_again c = (simp length-set (omega arith), simp length-set (omega arith), pair_more _ _ _ _ (omega arith) c.pair_at.ensures c.loop-i.invariant.2)
 
 pub load_pairs_spec : {M : Type 1} → statement M
 load_pairs_spec =
     tie.close
     (tie.spec
-    invariant-loop
-    decreases-loop
+    invariant-loop-i
+    decreases-loop-i
     loop_holds
     (λ c. search rules)
     (λ c κs. search rules)
@@ -36,4 +36,4 @@ load_pairs_spec =
     (λ c. simp length-set (omega arith))
     loop_again
     (λ c. search rules)
-    (λ c. pair_all _ _ c.before.loop.i _ (omega arith) (omega arith) c.before.loop.invariant.2))
+    (λ c. pair_all _ _ c.loop-i.i _ (omega arith) (omega arith) c.loop-i.invariant.2))

@@ -7,10 +7,10 @@ use Rattle.listing.proofs.Hex.{is_small_lem}
 use Rattle.listing.proofs.characters.pair_at.Statement.{statement}
 use Rattle.listing.proofs.characters.pair_at.Tie as tie
 
-add_result : tie.Need-overflow-add-result
+add_result : tie.Need-overflow_add-result
 add_result c =
-    let h = is_small_lem _ _ c.before.before.hex-value.ensures in
-    let l = is_small_lem _ _ c.hex-value2.ensures in
+    let h = is_small_lem _ _ c.hex_value-high.ensures in
+    let l = is_small_lem _ _ c.hex_value-low.ensures in
     omega arith
 
 pub pair_at_spec : {M : Type 1} → statement M
@@ -22,6 +22,6 @@ pair_at_spec =
     (λ c. search rules)
     (λ c. search rules)
     (λ c κs. search rules)
-    (λ c. let h = is_small_lem _ _ c.before.before.hex-value.ensures in omega arith)
+    (λ c. let h = is_small_lem _ _ c.hex_value-high.ensures in omega arith)
     add_result
-    (λ c. simp (get_or-drop, add-zero, c.hex-value2.ensures, c.before.before.hex-value.ensures)))
+    (λ c. simp (get_or-drop, add-zero, c.hex_value-low.ensures, c.hex_value-high.ensures)))
