@@ -2,7 +2,7 @@
 # The bench program on random listings, beside the independent implementation. Sourced.
 
 test_bench() {
-    step "rt check bench" program_ready bench || return
+    step "rt run in crates/bench" program_ready bench || return
     mkdir -p "$logs/listings"
     step "write listings" run "$built/events" --seed "${SEED:-1}" --listings "$logs/listings" || return
     differing=0 lines=0

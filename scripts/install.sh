@@ -7,10 +7,8 @@ case $prefix in /*) ;; *) prefix=$PWD/$prefix ;; esac
 cd "$(dirname "$0")/.." || exit
 
 # An archive that is newer than all sources is taken as it is.
-archive=target/staticlib/libsca.a
-if [ ! -f "$archive" ] || [ -n "$(find crates crates.txt -newer "$archive" | head -n 1)" ]; then
-    rt staticlib sca || exit
-fi
+. scripts/program.sh
+is_new "$archive" || archive_build || exit
 
 # The header's version, as a text.
 version=$(sed -n 's/^#define SCA_VERSION \(0x[0-9A-Fa-f]*\)$/\1/p' include/sca.h)

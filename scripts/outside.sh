@@ -3,7 +3,7 @@
 
 test_outside() {
     step "a toolchain for x86-64" toolchain_ready || return
-    step "rt staticlib sca" rt staticlib sca || return
+    step "rt lib in crates/sca_c" archive_build || return
     step "build the reference" build_reference && test_reference
     test_c link
     test_c adapter
@@ -25,8 +25,6 @@ test_outside() {
     tally "examples" scripts/examples.sh
     tally "bad input" scripts/bad_input.sh
 }
-
-archive=target/staticlib/libsca.a
 
 # test_c NAME: a C program over include/sca.h and the archive.
 test_c() {

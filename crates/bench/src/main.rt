@@ -3,8 +3,8 @@
 #![tactic(auto)]
 ghost use Rattle.std.specs.Prelude.{◌≤◌, length};
 
-use libc::{STDERR_FILENO, STDIN_FILENO, STDOUT_FILENO};
 use player::{ANSWER_ROOM, LINE_ROOM};
+use std::io::Read;
 
 // The most that one read takes.
 const BLOCK_ROOM: usize = 16384;
@@ -20,19 +20,20 @@ struct Bench {
 }
 
 // Writes the first bytes of the output, and says whether the program goes on.
-fn flush(out: &[u8], used: usize) -> bool
+fn flush(rt: &(impl Print + Eprint), out: &[u8], used: usize) -> bool
     requires { used ≤ length out.now }
 {
-    let written = io::write_all(STDOUT_FILENO, &out[..used]);
-    if written {
+    let written = rt.write_all(&out[..used]);
+    if written.is_ok() {
         return true;
     }
-    io::write_all(STDERR_FILENO, b"bench: standard output cannot be written\n");
+    let _ = rt.eprintln("bench: standard output cannot be written");
     false
 }
 
 // Plays what was read, and writes the answers.
 fn feed(
+    rt: &(impl Print + Eprint),
     b: Bench,
     block: &[u8],
     state: &mut [u8],
@@ -45,7 +46,7 @@ fn feed(
     ensures { result.count ≤ 81 }
 {
     let r = player::feed(state, b.count, journal, line, block, out);
-    let more = flush(out, r.next);
+    let more = flush(rt, out, r.next);
     Bench {
         count: r.count,
         more: more,
@@ -54,6 +55,7 @@ fn feed(
 
 // The end of the input: a last line that lacks its LF is played.
 fn finish(
+    rt: &(impl Print + Eprint),
     b: Bench,
     state: &mut [u8],
     journal: &mut [u8],
@@ -64,7 +66,7 @@ fn finish(
     ensures { result.count ≤ 81 }
 {
     let r = player::finish(state, b.count, journal, line, out);
-    flush(out, r.next);
+    flush(rt, out, r.next);
     Bench {
         count: 0,
         more: false,
@@ -73,6 +75,8 @@ fn finish(
 
 // One read, and what follows from it.
 fn turn(
+    rt: &(impl Print + Eprint),
+    input: &mut impl Read,
     b: Bench,
     block: &mut [u8],
     state: &mut [u8],
@@ -84,23 +88,23 @@ fn turn(
     requires block_len_bound { length block.old ≤ 16384 }
     ensures { result.count ≤ 81 }
 {
-    let got = libc::read(STDIN_FILENO, block);
-    if got < 0 {
-        io::write_all(STDERR_FILENO, b"bench: standard input cannot be read\n");
-        return Bench {
-            count: 0,
-            more: false,
-        };
+    match input.read(block) {
+        Err(_) => {
+            let _ = rt.eprintln("bench: standard input cannot be read");
+            Bench {
+                count: 0,
+                more: false,
+            }
+        }
+        Ok(0) => finish(rt, b, state, journal, line, out),
+        Ok(n) => feed(rt, b, &block[..n], state, journal, line, out),
     }
-    if got == 0 {
-        return finish(b, state, journal, line, out);
-    }
-    let n = io::count(got, block);
-    feed(b, &block[..n], state, journal, line, out)
 }
 
 // Nothing says that the input ends, so the turns are counted down from a number that no run uses up.
 fn run(
+    rt: &(impl Print + Eprint),
+    input: &mut impl Read,
     block: &mut [u8; BLOCK_ROOM],
     state: &mut [u8],
     journal: &mut [u8],
@@ -113,12 +117,13 @@ fn run(
     };
     let mut turns = u64::MAX;
     while turns > 0 && b.more {
-        b = turn(b, block, state, journal, line, out);
+        b = turn(rt, input, b, block, state, journal, line, out);
         turns -= 1;
     }
 }
 
-fn main() {
+fn main(rt: HostRuntime) {
+    let mut input = rt.stdin();
     let mut block = [0u8; BLOCK_ROOM];
     let mut state = [0u8; state::BYTES];
     let mut journal = [0u8; journal::LARGE];
@@ -126,5 +131,13 @@ fn main() {
     let mut out = [0u8; OUTPUT_ROOM];
     player::start(&mut state);
     adapter::empty(&mut journal);
-    run(&mut block, &mut state, &mut journal, &mut line, &mut out);
+    run(
+        &rt,
+        &mut input,
+        &mut block,
+        &mut state,
+        &mut journal,
+        &mut line,
+        &mut out,
+    );
 }

@@ -9,34 +9,46 @@ use chip::{Response, events};
 use link::Link;
 use registers::SIZE;
 
-fn show(r: Response, output: [u8; 16]) -> Link
+fn show(rt: &impl Print, r: Response, output: [u8; 16]) -> Link
     ensures { result ≡ r.link }
 {
-    print::line(r.number, r.length, output);
+    print::line(rt, r.number, r.length, output);
     let after = r.link;
     after
 }
 
-pub(crate) fn frame(l: Link, registers: &mut [u8; SIZE], port: u8, body: &[u8]) -> Link
+pub(crate) fn frame(
+    rt: &impl Print,
+    l: Link,
+    registers: &mut [u8; SIZE],
+    port: u8,
+    body: &[u8],
+) -> Link
     requires { (2 ≤ length body.now) × (length body.now ≤ 16) }
     ensures { adapter result registers.new ≡ (reaction (adapter l registers.old) (Event.frame port body.now)).adapter }
 {
     let mut output = [0u8; 16];
     let r = events::on_frame(l, registers, port, body, &mut output);
-    show(r, output)
+    show(rt, r, output)
 }
 
-pub(crate) fn completion(l: Link, registers: &mut [u8; SIZE], received: &[u8]) -> Link
+pub(crate) fn completion(
+    rt: &impl Print,
+    l: Link,
+    registers: &mut [u8; SIZE],
+    received: &[u8],
+) -> Link
     requires { length received.now ≡ 16 }
     ensures { adapter result registers.new ≡ (reaction (adapter l registers.old) (Event.completion (Completion.spi received.now))).adapter }
 {
     let mut output = [0u8; 16];
     let r = events::on_spi(l, registers, received, &mut output);
-    show(r, output)
+    show(rt, r, output)
 }
 
 // On the master 0x0A.
 pub(crate) fn transaction(
+    rt: &impl Print,
     l: Link,
     registers: &mut [u8; SIZE],
     acknowledge: bool,
@@ -47,25 +59,39 @@ pub(crate) fn transaction(
 {
     let mut output = [0u8; 16];
     let r = events::on_i2c(l, registers, 0x0A, acknowledge, low, received, &mut output);
-    show(r, output)
+    show(rt, r, output)
 }
 
-pub(crate) fn sample(l: Link, registers: &mut [u8; SIZE], levels: u32, kind: u8) -> Link
+pub(crate) fn sample(
+    rt: &impl Print,
+    l: Link,
+    registers: &mut [u8; SIZE],
+    levels: u32,
+    kind: u8,
+) -> Link
     ensures { adapter result registers.new ≡ (reaction (adapter l registers.old) (Event.sample levels kind)).adapter }
 {
     let mut output = [0u8; 16];
     let r = events::on_sample(l, registers, levels, kind, &mut output);
-    show(r, output)
+    show(rt, r, output)
 }
 
-pub(crate) fn upset(l: Link, registers: &mut [u8; SIZE]) -> Link
+pub(crate) fn upset(rt: &impl Print, l: Link, registers: &mut [u8; SIZE]) -> Link
     ensures { adapter result registers.new ≡ (reaction (adapter l registers.old) Event.upset).adapter }
 {
-    show(events::on_upset(l, registers), [0; 16])
+    show(rt, events::on_upset(l, registers), [0; 16])
 }
 
 // TRN 0x01, with the frame number that the chip expects.
-pub(crate) fn ask(l: Link, registers: &mut [u8; SIZE], ch: u8, len: u8, cmd: u8, value: u32) -> Link
+pub(crate) fn ask(
+    rt: &impl Print,
+    l: Link,
+    registers: &mut [u8; SIZE],
+    ch: u8,
+    len: u8,
+    cmd: u8,
+    value: u32,
+) -> Link
     ensures { adapter result registers.new ≡ (reaction (adapter l registers.old) (Event.frame 0 (0x00 ∷ l.receive.0 % 8 * 2 ∷ 0x01 ∷ ch ∷ len ∷ cmd ∷ value / 0x10000 % 0x100 ∷ value / 0x1000000 ∷ value % 0x100 ∷ value / 0x100 % 0x100 ∷ []))).adapter }
 {
     let body = [
@@ -80,5 +106,5 @@ pub(crate) fn ask(l: Link, registers: &mut [u8; SIZE], ch: u8, len: u8, cmd: u8,
         (value % 0x100) as u8,
         (value / 0x100 % 0x100) as u8,
     ];
-    frame(l, registers, 0, &body)
+    frame(rt, l, registers, 0, &body)
 }

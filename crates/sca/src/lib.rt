@@ -1,4 +1,5 @@
-// What C and Rust programs link: every call on numbers, byte slices and, for a batch, a slice of sample structs, its result packed into one number.
+// What C and Rust programs link, as the archive of crate `sca_c`: every call on numbers, byte slices and, for a batch, a slice of sample structs, its
+// result packed into one number.
 #![tactic(auto)]
 
 mod receiving;
@@ -47,8 +48,7 @@ fn pack_received(r: Received) -> u64
 }
 
 // Frames a body.
-#[unsafe(no_mangle)]
-pub extern "C" fn sca_transmit(body: &[u8], output: &mut [u8]) -> u64
+pub fn sca_transmit(body: &[u8], output: &mut [u8]) -> u64
     ensures value { result ≡ calls.transmit_result body.now output.old }
     ensures output_after { output.new ≡ calls.transmit_output body.now output.old }
 {
@@ -56,8 +56,7 @@ pub extern "C" fn sca_transmit(body: &[u8], output: &mut [u8]) -> u64
 }
 
 // Makes a receiver new.
-#[unsafe(no_mangle)]
-pub extern "C" fn sca_receiver_new(rx: &mut [u8]) -> u64
+pub fn sca_receiver_new(rx: &mut [u8]) -> u64
     ensures value { result ≡ calls.new_result rx.old }
     ensures rx_after { rx.new ≡ calls.new_receiver rx.old }
 {
@@ -69,8 +68,7 @@ pub extern "C" fn sca_receiver_new(rx: &mut [u8]) -> u64
 }
 
 // Reads cable bits from a start bit on, up to the first answer.
-#[unsafe(no_mangle)]
-pub extern "C" fn sca_receive(rx: &mut [u8], input: &[u8], start: usize, output: &mut [u8]) -> u64
+pub fn sca_receive(rx: &mut [u8], input: &[u8], start: usize, output: &mut [u8]) -> u64
     ensures value { result ≡ calls.receive_result rx.old input.now start output.old }
     ensures rx_after { rx.new ≡ calls.receive_receiver rx.old input.now start output.old }
     ensures output_after { output.new ≡ calls.receive_output rx.old input.now start output.old }
@@ -110,40 +108,35 @@ fn pack_batch(b: Batch) -> u64
 }
 
 // A new adapter for a chip of this ID.
-#[unsafe(no_mangle)]
-pub extern "C" fn sca_create(state: &mut [u8], id: u32) -> u64
+pub fn sca_create(state: &mut [u8], id: u32) -> u64
     ensures { adapters.made result state.new ≡ adapters.created state.old id }
 {
     wide(adapter::create(state, id))
 }
 
 // Makes a journal empty.
-#[unsafe(no_mangle)]
-pub extern "C" fn sca_empty(journal: &mut [u8]) -> u64
+pub fn sca_empty(journal: &mut [u8]) -> u64
     ensures { adapters.made result journal.new ≡ adapters.made_empty journal.old }
 {
     wide(adapter::empty(journal))
 }
 
 // How many events a journal can take back.
-#[unsafe(no_mangle)]
-pub extern "C" fn sca_kept(journal: &[u8]) -> u64
+pub fn sca_kept(journal: &[u8]) -> u64
     ensures { result ≡ pack_kept (adapters.kept_in journal.now) }
 {
     pack_kept(adapter::kept(journal))
 }
 
 // Makes a second buffer a large journal with the steps of a small one.
-#[unsafe(no_mangle)]
-pub extern "C" fn sca_enlarge(journal: &[u8], second: &mut [u8]) -> u64
+pub fn sca_enlarge(journal: &[u8], second: &mut [u8]) -> u64
     ensures { adapters.copied result journal.now second.new ≡ adapters.made_large journal.now second.old }
 {
     wide(adapter::enlarge(journal, second))
 }
 
 // A frame body on a port.
-#[unsafe(no_mangle)]
-pub extern "C" fn sca_frame(
+pub fn sca_frame(
     state: &mut [u8],
     journal: &mut [u8],
     port: u32,
@@ -156,8 +149,7 @@ pub extern "C" fn sca_frame(
 }
 
 // An SPI completion with 16 received bytes.
-#[unsafe(no_mangle)]
-pub extern "C" fn sca_completion(
+pub fn sca_completion(
     state: &mut [u8],
     journal: &mut [u8],
     received: &[u8],
@@ -169,8 +161,7 @@ pub extern "C" fn sca_completion(
 }
 
 // The completion of one named I2C channel; a bit is 1 where its number is not 0.
-#[unsafe(no_mangle)]
-pub extern "C" fn sca_i2c_completion(
+pub fn sca_i2c_completion(
     state: &mut [u8],
     journal: &mut [u8],
     channel: u32,
@@ -193,8 +184,7 @@ pub extern "C" fn sca_i2c_completion(
 }
 
 // A pin sample.
-#[unsafe(no_mangle)]
-pub extern "C" fn sca_sample(
+pub fn sca_sample(
     state: &mut [u8],
     journal: &mut [u8],
     levels: u32,
@@ -214,13 +204,7 @@ fn batch_result(p: Pass) -> u64
 }
 
 // Pin samples by the batch: the list is walked here, once to look at it and once to do it.
-#[unsafe(no_mangle)]
-pub extern "C" fn sca_samples(
-    state: &mut [u8],
-    journal: &mut [u8],
-    list: &[Sample],
-    output: &mut [u8],
-) -> u64
+pub fn sca_samples(state: &mut [u8], journal: &mut [u8], list: &[Sample], output: &mut [u8]) -> u64
     ensures { left result state.new journal.new output.new ≡ packed_batch (batches.called state.old journal.old list.now output.old) }
 {
     let many = list.len();
@@ -232,16 +216,14 @@ pub extern "C" fn sca_samples(
 }
 
 // An upset.
-#[unsafe(no_mangle)]
-pub extern "C" fn sca_upset(state: &mut [u8], journal: &mut [u8], output: &mut [u8]) -> u64
+pub fn sca_upset(state: &mut [u8], journal: &mut [u8], output: &mut [u8]) -> u64
     ensures { left result state.new journal.new output.new ≡ packed (adapters.called state.old journal.old Event.upset output.old) }
 {
     pack_answer(adapter::upset(state, journal, output))
 }
 
 // Takes the newest standing event back.
-#[unsafe(no_mangle)]
-pub extern "C" fn sca_step_back(state: &mut [u8], journal: &mut [u8]) -> u64
+pub fn sca_step_back(state: &mut [u8], journal: &mut [u8]) -> u64
     ensures { adapters.stepped result state.new journal.new ≡ adapters.stepped_back state.old journal.old }
 {
     wide(adapter::step_back(state, journal))
@@ -260,16 +242,14 @@ fn pack_given(g: Given) -> u64
 }
 
 // Makes a record of open transactions new.
-#[unsafe(no_mangle)]
-pub extern "C" fn sca_record_new(transactions: &mut [u8]) -> u64
+pub fn sca_record_new(transactions: &mut [u8]) -> u64
     ensures { rooms.made result transactions.new ≡ rooms.record_made transactions.old }
 {
     wide(control_room::new_record(transactions))
 }
 
 // Writes the body of a request.
-#[unsafe(no_mangle)]
-pub extern "C" fn sca_request(
+pub fn sca_request(
     transactions: &mut [u8],
     channel: u32,
     command: u32,
@@ -282,24 +262,21 @@ pub extern "C" fn sca_request(
 }
 
 // Reads the body of a reply or of an interrupt.
-#[unsafe(no_mangle)]
-pub extern "C" fn sca_reply(transactions: &mut [u8], body: &[u8], output: &mut [u8]) -> u64
+pub fn sca_reply(transactions: &mut [u8], body: &[u8], output: &mut [u8]) -> u64
     ensures { room.left result transactions.new output.new ≡ room.packed (rooms.reply_read transactions.old body.now output.old) }
 {
     pack_given(control_room::reply(transactions, body, output))
 }
 
 // Writes the body of a command of the link.
-#[unsafe(no_mangle)]
-pub extern "C" fn sca_command(transactions: &mut [u8], control: u32, output: &mut [u8]) -> u64
+pub fn sca_command(transactions: &mut [u8], control: u32, output: &mut [u8]) -> u64
     ensures { room.left result transactions.new output.new ≡ room.packed (rooms.command_written transactions.old control output.old) }
 {
     pack_given(control_room::command(transactions, control, output))
 }
 
 // The version of these calls: the major number in bits 23 to 16, the minor in bits 15 to 8, the patch in bits 7 to 0.
-#[unsafe(no_mangle)]
-pub extern "C" fn sca_version() -> u64
+pub fn sca_version() -> u64
     ensures { result ≡ version }
 {
     VERSION

@@ -2,6 +2,7 @@
 // journal, 200 and 201 with a large one, and steps back until one is refused. A line is the number and the kept number, then with 0 the port and the
 // body. docs/STEPS.md works every line out.
 #![tactic(auto)]
+
 ghost use Rattle.std.specs.Prelude.{◌≡◌, length};
 ghost use Rattle.state.specs.Bytes.{state_size};
 
@@ -9,76 +10,80 @@ use adapter::Answer;
 use commands::command::Register;
 use state::{BYTES, LINK};
 
-const OUT: i32 = 1;
-
-fn print_byte(x: u8) {
-    io::print_decimal(OUT, x as u64);
+fn print_byte(rt: &impl Print, x: u8) {
+    let _ = rt.print(x);
 }
 
-fn print_hex(x: u8) {
-    io::print_hex(OUT, x as u64, 2);
+fn print_hex(rt: &impl Print, x: u8) {
+    let _ = print!(rt; "{x:02x}");
 }
 
-fn space() {
-    io::write_all(OUT, b" ");
+fn space(rt: &impl Print) {
+    let _ = rt.print(" ");
 }
 
-fn end_line() {
-    io::write_all(OUT, b"\n");
+fn end_line(rt: &impl Print) {
+    let _ = rt.print("\n");
 }
 
-fn print_body(output: &[u8; 16], length: u8) {
+fn print_body(rt: &impl Print, output: &[u8; 16], length: u8) {
     let mut i: u8 = 0;
     while i < 16 {
         if i < length {
             let k = i as usize;
-            print_hex(output[k]);
+            print_hex(rt, output[k]);
         }
         i += 1;
     }
 }
 
-fn print_kept(number: u8, journal: &[u8]) {
-    print_byte(number);
-    space();
+fn print_kept(rt: &impl Print, number: u8, journal: &[u8]) {
+    print_byte(rt, number);
+    space(rt);
     let k = adapter::kept(journal);
-    print_byte(k.kept);
+    print_byte(rt, k.kept);
 }
 
-fn show(answer: Answer, journal: &[u8; 17408], output: &[u8; 16]) {
-    print_kept(answer.number, journal);
+fn show(rt: &impl Print, answer: Answer, journal: &[u8; 17408], output: &[u8; 16]) {
+    print_kept(rt, answer.number, journal);
     if answer.number == 0 {
-        space();
-        print_byte(answer.port);
-        space();
-        print_body(output, answer.length);
+        space(rt);
+        print_byte(rt, answer.port);
+        space(rt);
+        print_body(rt, output, answer.length);
     }
-    end_line();
+    end_line(rt);
 }
 
 // The number, the kept number and the SEU counter.
-fn show_seu(number: u8, journal: &[u8], seu: u32) {
-    print_kept(number, journal);
-    space();
-    io::print_decimal(OUT, seu as u64);
-    end_line();
+fn show_seu(rt: &impl Print, number: u8, journal: &[u8], seu: u32) {
+    print_kept(rt, number, journal);
+    space(rt);
+    let _ = rt.print(seu);
+    end_line(rt);
 }
 
-fn frame(state: &mut [u8; BYTES], journal: &mut [u8; 17408], port: u32, body: &[u8]) {
+fn frame(
+    rt: &impl Print,
+    state: &mut [u8; BYTES],
+    journal: &mut [u8; 17408],
+    port: u32,
+    body: &[u8],
+) {
     let mut output = [0u8; 16];
     let answer = adapter::frame(state, journal, port, body, &mut output);
-    show(answer, journal, &output);
+    show(rt, answer, journal, &output);
 }
 
-fn request(state: &mut [u8; BYTES], journal: &mut [u8; 17408], body: [u8; 10]) {
-    frame(state, journal, 0, &body);
+fn request(rt: &impl Print, state: &mut [u8; BYTES], journal: &mut [u8; 17408], body: [u8; 10]) {
+    frame(rt, state, journal, 0, &body);
 }
 
-fn completion(state: &mut [u8; BYTES], journal: &mut [u8; 17408], byte: u8) {
+fn completion(rt: &impl Print, state: &mut [u8; BYTES], journal: &mut [u8; 17408], byte: u8) {
     let mut output = [0u8; 16];
     let received = [byte; 16];
     let answer = adapter::completion(state, journal, &received, &mut output);
-    show(answer, journal, &output);
+    show(rt, answer, journal, &output);
 }
 
 // The SEU counter of a state.
@@ -92,7 +97,7 @@ fn upsets_in(state: &[u8; BYTES]) -> u32 {
     counter(state)
 }
 
-fn upsets(state: &mut [u8; BYTES], journal: &mut [u8], count: u8) {
+fn upsets(rt: &impl Print, state: &mut [u8; BYTES], journal: &mut [u8], count: u8) {
     let mut number: u8 = 0;
     let mut i: u8 = 0;
     while i < count {
@@ -101,36 +106,38 @@ fn upsets(state: &mut [u8; BYTES], journal: &mut [u8], count: u8) {
         number = answer.number;
         i += 1;
     }
-    show_seu(number, journal, upsets_in(state));
+    show_seu(rt, number, journal, upsets_in(state));
 }
 
-fn steps_back(state: &mut [u8; BYTES], journal: &mut [u8], count: u8) {
+fn steps_back(rt: &impl Print, state: &mut [u8; BYTES], journal: &mut [u8], count: u8) {
     let mut number: u8 = 0;
     let mut i: u8 = 0;
     while i < count {
         number = adapter::step_back(state, journal);
         i += 1;
     }
-    show_seu(number, journal, upsets_in(state));
+    show_seu(rt, number, journal, upsets_in(state));
 }
 
-fn bodies(state: &mut [u8; BYTES], journal: &mut [u8; 17408]) {
-    frame(state, journal, 0, &[0x00]);
-    frame(state, journal, 0, &[0x00, 0x2F]);
-    frame(state, journal, 0, &[0u8; 16]);
-    frame(state, journal, 0, &[0u8; 17]);
-    frame(state, journal, 1, &[0x00, 0xE3]);
+fn bodies(rt: &impl Print, state: &mut [u8; BYTES], journal: &mut [u8; 17408]) {
+    frame(rt, state, journal, 0, &[0x00]);
+    frame(rt, state, journal, 0, &[0x00, 0x2F]);
+    frame(rt, state, journal, 0, &[0u8; 16]);
+    frame(rt, state, journal, 0, &[0u8; 17]);
+    frame(rt, state, journal, 1, &[0x00, 0xE3]);
     frame(
+        rt,
         state,
         journal,
         1,
         &[0x00, 0x00, 2, 3, 4, 5, 6, 7, 8, 9, 10, 11, 12, 13, 14, 15],
     );
-    frame(state, journal, 1, &[0u8; 17]);
+    frame(rt, state, journal, 1, &[0u8; 17]);
 }
 
 // CONTROL is written with the length, GO, the completion, and the top word is read.
 fn transfer(
+    rt: &impl Print,
     state: &mut [u8; BYTES],
     journal: &mut [u8; 17408],
     first: u8,
@@ -141,79 +148,88 @@ fn transfer(
     let n = first % 8;
     let t = trn % 128;
     request(
+        rt,
         state,
         journal,
         [0x00, n * 2, t, 0x01, 6, 0x40, 0, 0, length, 0],
     );
     request(
+        rt,
         state,
         journal,
         [0x00, (n + 1) % 8 * 2, t + 1, 0x01, 2, 0x72, 0, 0, 0, 0],
     );
-    completion(state, journal, byte);
+    completion(rt, state, journal, byte);
     request(
+        rt,
         state,
         journal,
         [0x00, (n + 2) % 8 * 2, t + 2, 0x01, 2, 0x31, 0, 0, 0, 0],
     );
 }
 
-fn spi(state: &mut [u8; BYTES], journal: &mut [u8; 17408]) {
+fn spi(rt: &impl Print, state: &mut [u8; BYTES], journal: &mut [u8; 17408]) {
     request(
+        rt,
         state,
         journal,
         [0x00, 0x00, 0x01, 0x00, 4, 0x02, 0, 0x02, 0, 0],
     );
-    transfer(state, journal, 1, 2, 1, 0xFF);
-    transfer(state, journal, 4, 5, 127, 0xFF);
-    transfer(state, journal, 7, 8, 0, 0xA5);
+    transfer(rt, state, journal, 1, 2, 1, 0xFF);
+    transfer(rt, state, journal, 4, 5, 127, 0xFF);
+    transfer(rt, state, journal, 7, 8, 0, 0xA5);
 }
 
-fn ring(state: &mut [u8; BYTES], journal: &mut [u8; 17408]) {
-    upsets(state, journal, 64);
-    upsets(state, journal, 1);
-    steps_back(state, journal, 64);
-    steps_back(state, journal, 1);
-    upsets(state, journal, 1);
-    frame(state, journal, 0, &[0x00, 0x8F]);
-    steps_back(state, journal, 1);
+fn ring(rt: &impl Print, state: &mut [u8; BYTES], journal: &mut [u8; 17408]) {
+    upsets(rt, state, journal, 64);
+    upsets(rt, state, journal, 1);
+    steps_back(rt, state, journal, 64);
+    steps_back(rt, state, journal, 1);
+    upsets(rt, state, journal, 1);
+    frame(rt, state, journal, 0, &[0x00, 0x8F]);
+    steps_back(rt, state, journal, 1);
 }
 
 // The number, and what the second buffer keeps then.
-fn enlarge(journal: &[u8], second: &mut [u8]) {
+fn enlarge(rt: &impl Print, journal: &[u8], second: &mut [u8]) {
     let number = adapter::enlarge(journal, second);
-    print_kept(number, second);
-    end_line();
+    print_kept(rt, number, second);
+    end_line(rt);
 }
 
 // Two events of a small journal go over into a large one, which then is filled.
-fn long_ring(state: &mut [u8; BYTES], small: &mut [u8; 17408], large: &mut [u8; 52224]) {
+fn long_ring(
+    rt: &impl Print,
+    state: &mut [u8; BYTES],
+    small: &mut [u8; 17408],
+    large: &mut [u8; 52224],
+) {
     let mut short = [0u8; 16];
-    upsets(state, small, 2);
-    enlarge(small, &mut short);
-    enlarge(small, large);
-    enlarge(large, &mut short);
-    upsets(state, large, 198);
-    upsets(state, large, 1);
-    steps_back(state, large, 200);
-    steps_back(state, large, 1);
+    upsets(rt, state, small, 2);
+    enlarge(rt, small, &mut short);
+    enlarge(rt, small, large);
+    enlarge(rt, large, &mut short);
+    upsets(rt, state, large, 198);
+    upsets(rt, state, large, 1);
+    steps_back(rt, state, large, 200);
+    steps_back(rt, state, large, 1);
 }
 
-fn clear(journal: &mut [u8; 17408]) {
+fn clear(rt: &impl Print, journal: &mut [u8; 17408]) {
     let number = adapter::empty(journal);
-    print_kept(number, journal);
-    end_line();
+    print_kept(rt, number, journal);
+    end_line(rt);
 }
 
-fn main() {
+fn main(rt: HostRuntime) {
     let mut state = [0u8; BYTES];
     let mut journal = [0u8; 17408];
     let mut large = [0u8; 52224];
-    clear(&mut journal);
+    clear(&rt, &mut journal);
     adapter::create(&mut state, 0x00000A);
-    bodies(&mut state, &mut journal);
-    spi(&mut state, &mut journal);
-    clear(&mut journal);
-    ring(&mut state, &mut journal);
-    long_ring(&mut state, &mut journal, &mut large);
+    bodies(&rt, &mut state, &mut journal);
+    spi(&rt, &mut state, &mut journal);
+    clear(&rt, &mut journal);
+    ring(&rt, &mut state, &mut journal);
+    long_ring(&rt, &mut state, &mut journal, &mut large);
 }
