@@ -41,14 +41,14 @@ crates_under() {
 
 # show_crates ALL: of rt's account on standard input, a line for each crate that it proves. Those that it has proved before have none.
 show_crates() {
-    echo "proving up to $1 crates, once; it takes some minutes"
+    echo "proving $1 crates, once; it takes some minutes"
     count=0 crate=''
     while IFS= read -r line; do
         case $line in
         "crate "*": modules "*) crate=${line#crate } && crate=${crate%%:*} ;;
         "logic=proved "*)
             count=$((count + 1))
-            echo "proved $count of up to $1: $crate"
+            echo "proved $count of $1: $crate"
             ;;
         esac
     done

@@ -35,7 +35,7 @@ each_edit_shows_a_fact() {
             ;;
         # rt ci counts it among the failed
         'NOT REFUSED'* | 'NOT TRIED'*) ;;
-        'BAD EDIT'*) echo "$said" | head -n 3 | cut -c 1-300 ;;
+        'BAD EDIT'*) echo "$edit: $said" | cut -c 1-300 ;;
         *) bad "$edit: it was not tried" ;;
         esac
     done

@@ -1,6 +1,7 @@
 // The bench program: a listing on standard input, its answers on standard output. What matters is in `player`; here it is only read,
 // fed and written. The answers to what was read are written before the next read.
 #![tactic(auto)]
+
 ghost use Rattle.std.specs.Prelude.{◌≤◌, length};
 
 use player::{ANSWER_ROOM, LINE_ROOM};
