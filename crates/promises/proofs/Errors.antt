@@ -1,4 +1,5 @@
--- ERR: for every request the reply is the one that `first_error` says, and the one change that an error reply makes. Assumes nothing.
+-- ERR: what an answer without an error is, the one change that an error reply makes, and a frame that comes as far as check 8; what `FirstError` is
+-- stated with. Assumes nothing.
 use Prim.Native.Nat.{ℕ, ◌^◌, ◌<◌}
 use mathlib.Core.Bool.{true, false}
 use mathlib.Core.Path.{◌≡◌, refl, subst}
@@ -19,13 +20,11 @@ use Rattle.commands.specs.declared.request.Request.{Request}
 use Rattle.bits.proofs.Tests.{cond_cases}
 use Rattle.registers.specs.Registers.{read, store}
 use Rattle.channels.specs.Rows.{is_enabled, is_busy}
-use Rattle.channels.specs.Errors.{error_of, first_error, decoded}
-use Rattle.channels.specs.Perform.{told, reply_to, left, left_by, with_invcom, marked, replied, performed}
+use Rattle.channels.specs.Perform.{told, reply_to, left, left_by, with_invcom, marked}
 use Rattle.channels.specs.declared.errors.Decoded.{Decoded}
-use Rattle.channels.proofs.Laws.{Refused, decoded_cases}
+use Rattle.channels.proofs.Laws.{Refused}
 use Rattle.channels.proofs.Owners.{below_16}
 use Rattle.numbers.specs.Numbers.{no_frame}
-use Rattle.packets.specs.Packets.{request_of}
 use Rattle.link.specs.Link.{receive_number, number_in, in_loopback, is_connect, is_reset, is_test}
 use Rattle.state.specs.State.{Adapter, with_registers}
 use Rattle.chip.specs.Answer.{Reaction, gives}
@@ -56,10 +55,10 @@ pub record Ruled (a : Adapter) (q : Request) (n : ℕ) (r : Reaction) : Type 0 w
 
 module _ (a : Adapter) (q : Request) where
   -- what a request decoded so comes to
-  abbrev comes_to : Decoded → Reaction
+  abbrev pub comes_to : Decoded → Reaction
   comes_to d = finished (with_registers a (left_by a.registers q d)) q.trn q.ch (reply_to a.registers d)
 
-  granted : (given : ℕ) (does : Does) → NoError q (finished (with_registers a (left a.registers q does)) q.trn q.ch (told a.registers given does))
+  pub granted : (given : ℕ) (does : Does) → NoError q (finished (with_registers a (left a.registers q does)) q.trn q.ch (told a.registers given does))
   granted given (Write r) = reply _ _ _
   granted given (Switch c) = reply _ _ _
   granted given (Read r) = reply _ _ _
@@ -67,7 +66,7 @@ module _ (a : Adapter) (q : Request) where
   granted given (Start r) = later _
   granted given (Transact i t) = later _
 
-  one_change : (e : ℕ) → Refused a.registers q e → OneChange a.registers q e (marked a.registers q.ch e)
+  pub one_change : (e : ℕ) → Refused a.registers q e → OneChange a.registers q e (marked a.registers q.ch e)
   unfolding marked
   one_change e r =
       cond_cases (OneChange a.registers q e) (eqb e cmd_unknown)
@@ -85,16 +84,6 @@ module _ (a : Adapter) (q : Request) where
       by channel.Id n k on idle = none
       by channel.Dac n k on idle = none
       by channel.Unknown n k on idle = none
-
-  ruled : Ruled a q (error_of (decoded a.registers q)) (comes_to (decoded a.registers q))
-  ruled =
-      decoded_cases a.registers q (λ d. Ruled a q (error_of d) (comes_to d))
-      (λ e b. record { error = λ _. refl; change = λ _. one_change e b; none = λ z. absurd (b.bit.set z) })
-      (λ given does _. record { error = λ h. absurd (h refl); change = λ h. absurd (h refl); none = λ _. granted given does })
-
-requested_ruled : (a : Adapter) (info : List ℕ) → Ruled a (request_of info) (first_error a.registers (request_of info)) (requested a info)
-unfolding requested replied performed
-requested_ruled a info = ruled a (request_of info)
 
 -- ---- the frame
 
@@ -114,9 +103,3 @@ pub in_order_lem : (a : Adapter) (port : ℕ) (body : List ℕ) → InOrder a po
 unfolding reaction on_frame addressed carried numbered
 in_order_lem a port body i =
     simp (i.addressed, i.no_connect, i.no_reset, i.no_test, i.even, i.not_looped, eq-eqb _ _ i.active, i.eight, eq-eqb _ _ i.number)
-
--- THE FIRST ERROR: in whatever state, every request is answered with the ERR that `first_error` says, no register changed but for the one, and with
--- no error where it is 0. `counted` is check 8's "the receive number goes up by one".
-pub first_error_lem : (a : Adapter) (port : ℕ) (body : List ℕ) → InOrder a port body
-    → Ruled (counted a) (request_of (information_of body)) (first_error a.registers (request_of (information_of body))) (reaction a (frame port body))
-first_error_lem a port body i = rw (in_order_lem a port body i) (requested_ruled (counted a) (information_of body))

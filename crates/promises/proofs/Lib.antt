@@ -7,6 +7,7 @@ pub mod Tables
 pub mod Conversation
 pub mod RoomExamples
 pub mod Errors
+pub mod FirstError
 pub mod Sentences
 pub mod Lines
 pub mod Text
