@@ -97,6 +97,7 @@ pub fn is_well_formed(j: &[u8]) -> bool
 }
 
 // A journal of the small size, well formed.
+#[tactic(auto, unfolding(crate::specs::Layout::is_small))]
 pub fn is_small(j: &[u8]) -> bool
     ensures { result ≡ is_small j.now }
 {
