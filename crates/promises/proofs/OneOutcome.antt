@@ -33,7 +33,7 @@ transmit_one κs a x y s t p q = both (p.0 ∙ sym q.0) (p.1 ∙ sym q.1)
 pub receive_one : One {B = Received × List ℕ} 2 receiver.receive.Kinds.ps receiver.receive.Kinds.r receiver.receive.Reads.Post (λ κs x s. (x, s.1.1.1.0.now))
 receive_one κs a x y s t p q = both (p.0 ∙ sym q.0) (p.1 ∙ sym q.1)
 
--- ---- what C and Rust link
+-- ---- what the exports call, and have the clauses of
 
 pub sca_transmit_one : One {B = ℕ × List ℕ} 2 sca.sca_transmit.Kinds.ps sca.sca_transmit.Kinds.r sca.sca_transmit.Reads.Post (λ κs x s. (x, s.1.0.now))
 sca_transmit_one κs a x y s t p q = both (p.0 ∙ sym q.0) (p.1 ∙ sym q.1)
