@@ -21,7 +21,8 @@ no_edit_is_bad() {
 # A must-fail edit shows something only where a fact was refused. Where its first error says that the proof no longer fits
 # the code, any edit of that shape would be refused, a right one too. rt says so itself where a proof names what the edit took away.
 each_edit_shows_a_fact() {
-    unfit='only because a proof file names|which was rejected|has no field|that can be named from here|expected type .(tie\.Need|[^ ]*Lts\.Closed)|on the face .κs|no occurrence of the path'
+    unfit='only because a proof file names|which was rejected|has no field|that can be named from here'
+    unfit=$unfit'|expected type .(tie\.Need|[^ ]*Lts\.Closed)|on the face .κs|no occurrence of the path'
     for edit in crates/*/must-fail/*.edit; do
         [ -f "$edit" ] || continue
         label=$(basename "$edit") crate=$(basename "$(dirname "$(dirname "$edit")")")

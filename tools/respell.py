@@ -3,7 +3,7 @@
 
 usage: python3 tools/respell.py [--list] [FOLDER]
 
-Run once, right after port.py, which spells only some of them anew. It goes by whole words in .antt files, and in the contracts and 'ghost use' items of .rt files.
+Run once, right after port.py, which spells only some of them anew. It goes by whole words, in .antt and .rt files.
 Turned: a name in lower camel case or with a dash that a text of crates/ declares, as portAt to port_at and send-raised to send_raised.
 Types and modules keep their camel case, functions of src/ their names, and so do the labels that the check makes, behind 'tie.' and 'c.'.
 A lemma that would fall together with a definition or with another name of a file that has it gets _lem behind it. --list writes nothing and prints every pair.
@@ -16,9 +16,9 @@ import sys
 WORD = re.compile(r'[^\s(){}.;,@"«»\[\]`]+')
 DECLARED = re.compile(r"^\s*(?:abbrev |unfoldable |opaque )?(?:pub )?(?:abbrev |unfoldable )?([^\s:(){}.,;]+) : ?", re.M)
 LOWER_CAMEL = re.compile(r"^[a-z0-9][^A-Z]*[a-z0-9][A-Z]")
-# Words of the check's own that a proof file must declare under the name that the check looks for.
 # Lemmas that port.py spelled like a definition is to be spelled, each with its crate.
 LEMMAS = {"promises": ("fields_fit", "in_order", "one_by_one"), "journal": ("kept_for",)}
+# Words of the check's own that a proof file must declare under the name that the check looks for.
 MADE = re.compile(r"^(invariant|decreases|measure)-")
 
 
@@ -37,7 +37,7 @@ def snake(name):
 
 
 def code_of(text, path):
-    """The text with each comment, which keeps its words, cut out for the count of what stands in it."""
+    """The text without its lines of comment, for what stands in it."""
     mark = "--" if path.endswith(".antt") else "//"
     return "\n".join(l for l in text.split("\n") if not l.lstrip().startswith(mark))
 

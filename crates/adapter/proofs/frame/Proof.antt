@@ -13,8 +13,7 @@ cast_frame c = record { fits = passed_byte 1 (lit< tt) _ _ c.in-Passed.is _ _ _ 
 
 frame_requires : tie.Need-frame-requires
 frame_requires c κs =
-    let t = c in
-    let p = unrefused _ _ _ _ _ _ t.in-Passed.is t.judge-verdict.ensures in
+    let p = unrefused _ _ _ _ _ _ c.in-Passed.is c.judge-verdict.ensures in
     ((not-false _ p.1, its_length _ (not-false _ p.0)), (body_bounds _ p.4, ltb-false _ 16 p.2))
 
 pub frame_spec : {M : Type 1} → statement M

@@ -9,10 +9,9 @@ use Rattle.adapter.proofs.i2c_completion.Tie as tie
 
 i2c_completion_requires : tie.Need-i2c_completion-requires
 i2c_completion_requires c κs =
-    let t = c in
-    let p = unrefused _ _ _ _ _ _ t.in-Passed.is t.judge-verdict.ensures in (
+    let p = unrefused _ _ _ _ _ _ c.in-Passed.is c.judge-verdict.ensures in (
       (not-false _ p.1, its_length _ (not-false _ p.0)),
-      (passed_first _ _ t.in-Passed.is _ _ _ _ _ t.judge-verdict.ensures, ltb-false _ 16 p.2),
+      (passed_first _ _ c.in-Passed.is _ _ _ _ _ c.judge-verdict.ensures, ltb-false _ 16 p.2),
     )
 
 pub i2c_completion_spec : {M : Type 1} → statement M

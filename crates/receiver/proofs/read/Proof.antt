@@ -11,8 +11,7 @@ conclude_requires c κs =
 
 returns : tie.Need-returns
 returns c =
-    let s = c in
-    rw (read_from_lem s.args.rx _ _ s.requires.0 c.scan_from-stop.ensures) at c.conclude.ensures
+    rw (read_from_lem c.args.rx _ _ c.requires.0 c.scan_from-stop.ensures) at c.conclude.ensures
 
 pub read_spec : {M : Type 1} → statement M
 read_spec = tie.close (tie.spec (λ c κs. search rules) conclude_requires (λ c. search rules) returns)

@@ -7,31 +7,23 @@ use Rattle.sca.specs.Adapter.{left, packed_batch}
 use Rattle.sca.proofs.sca_samples.Goals as goal
 
 -- the batch on its way, where the loop stands
-abbrev ran : (s₀ j₀ o₀ : List ℕ) (list : List Sample) (s j o : List ℕ) (p : Pass)
+abbrev ran : {s₀ j₀ o₀ : List ℕ} {list : List Sample} {s j o : List ℕ} {p : Pass}
     → Phase s₀ j₀ o₀ list s j o p × (length s ≡ length s₀) × (length j ≡ length j₀) × (length o ≡ length o₀) → Ran s₀ j₀ o₀ list
-ran s₀ j₀ o₀ list s j o p i = record { s = s; j = j; o = o; p = p; phase = i.0; same_s = i.1; same_j = i.2; same_o = i.3 }
+ran {s = s} {j = j} {o = o} {p = p} i = record { s = s; j = j; o = o; p = p; phase = i.0; same_s = i.1; same_j = i.2; same_o = i.3 }
 
 pub loop-pass-init : goal.loop-pass-init
 loop-pass-init c = ((start _ _ _ _ _ c.begin-pass.ensures).phase, refl, refl, refl)
 
 pub step-pass-requires : goal.step-pass-requires
-step-pass-requires c =
-    let a = c.args in
-    let l = c.loop-pass in
-    ready a.state.now a.journal.now a.output.now a.list.now (ran _ _ _ _ l.state l.journal l.output l.pass l.invariant) c.loop-pass-test.true
+step-pass-requires c = ready _ _ _ _ (ran c.loop-pass.invariant) c.loop-pass-test.true
 
 pub loop-pass-smaller : goal.loop-pass-smaller
-loop-pass-smaller c =
-    let a = c.args in
-    let l = c.loop-pass in
-    nearer a.state.now a.journal.now a.output.now a.list.now (ran _ _ _ _ l.state l.journal l.output l.pass l.invariant) c.loop-pass-test.true _ _ _ _ c.step-pass.ensures
+loop-pass-smaller c = nearer _ _ _ _ (ran c.loop-pass.invariant) c.loop-pass-test.true _ _ _ _ c.step-pass.ensures
 
 pub loop-pass-preserved : goal.loop-pass-preserved
 loop-pass-preserved c =
-    let a = c.args in
-    let l = c.loop-pass in
-    let i = l.invariant in (
-      (moves a.state.now a.journal.now a.output.now a.list.now (ran _ _ _ _ l.state l.journal l.output l.pass i) c.loop-pass-test.true _ _ _ _ c.step-pass.ensures).0,
+    let i = c.loop-pass.invariant in (
+      (moves _ _ _ _ (ran i) c.loop-pass-test.true _ _ _ _ c.step-pass.ensures).0,
       c.step-pass.auto.state ∙ i.1,
       c.step-pass.auto.journal ∙ i.2,
       c.step-pass.auto.output ∙ i.3,
@@ -39,7 +31,6 @@ loop-pass-preserved c =
 
 pub returns : goal.returns
 returns c =
-    let a = c.args in
     let l = c.loop-pass in
     ap (λ (v : ℕ). left v l.state l.journal l.output) c.batch_result.ensures
-    ∙ ap packed_batch (all a.state.now a.journal.now a.output.now a.list.now (ran _ _ _ _ l.state l.journal l.output l.pass l.invariant) c.loop-pass-test.false)
+    ∙ ap packed_batch (all _ _ _ _ (ran l.invariant) c.loop-pass-test.false)

@@ -8,7 +8,7 @@ use Rattle.journal.proofs.records.core_at.Statement.{statement}
 use Rattle.journal.proofs.records.core_at.Tie as tie
 
 returns : tie.Need-returns
-returns c = let a = c.before.before.before.before.before.args in c.before.over.ensures ∙ lent_part a.at core_bytes a.b.now
+returns c = let a = c.args in c.over.ensures ∙ lent_part a.at core_bytes a.b.now
 
 pub core_at_spec : {M : Type 1} → statement M
 core_at_spec {M} = tie.close (six (tie.spec {M = M}) (search rules) returns)

@@ -7,19 +7,13 @@ use Rattle.journal.proofs.records.exchange.Tie as tie
 
 returns : tie.Need-returns
 returns c =
-    let groups = c in
-    let over = groups in
-    let under = over in
-    let core = under in
-    let was = core in
-    let start = was in
-    let a = start.args in
-    let p = start.requires in
-    let e = was.core_at-was.ensures in
-    let g = core.core_at-core.ensures in
-    let h = under.store.ensures in
-    let k = over.store-2.ensures in
-    let i = groups.exchange.ensures in (
+    let a = c.args in
+    let p = c.requires in
+    let e = c.core_at-was.ensures in
+    let g = c.core_at-core.ensures in
+    let h = c.store.ensures in
+    let k = c.store-2.ensures in
+    let i = c.exchange.ensures in (
       state_exchanged a.r.now a.s.now a.first a.many p.0 p.1.0 p.1.1 _ _ _ _ e g h k _ _ i.0 i.1,
       record_exchanged a.r.now a.s.now a.first a.many p.0 p.1.0 p.1.1 _ _ _ _ e g h k _ _ i.0 i.1,
     )

@@ -26,17 +26,15 @@ clear_from_spec =
     (λ c. search rules)
     (λ c. search rules)
     (λ c.
-    let s = c in
-    let h : AreBytes s.args.bytes.now = λ i. omega (arith, c.shared_slice_known-1.given i) in
-    (own_set s.args.bytes.now s.args.count s.requires.1 s.requires.0 h c.if-top-count-ne0.true, h))
+    let h : AreBytes c.args.bytes.now = λ i. omega (arith, c.shared_slice_known-1.given i) in
+    (own_set c.args.bytes.now c.args.count c.requires.1 c.requires.0 h c.if-top-count-ne0.true, h))
     (λ c. search rules)
     (λ c. (omega arith, omega (arith, c.requires.0), λ m h k. absurd (omega arith)))
     (λ c. search rules)
     (λ c.
     let l = c.loop-j in
-    let s = c in
-    let h : AreBytes s.args.bytes.now = λ i. omega (arith, c.shared_slice_known-1.given i) in
-    (later_set s.args.bytes.now s.args.count s.requires.1 s.requires.0 h l.j l.invariant.0 c.if-bytes-j-ne0.true, h))
+    let h : AreBytes c.args.bytes.now = λ i. omega (arith, c.shared_slice_known-1.given i) in
+    (later_set c.args.bytes.now c.args.count c.requires.1 c.requires.0 h l.j l.invariant.0 c.if-bytes-j-ne0.true, h))
     (λ c. search rules)
     (λ c. search rules)
     (λ c.
@@ -44,9 +42,8 @@ clear_from_spec =
     (omega (arith, l.invariant.0), omega arith, below_more _ _ l.invariant.2 (λ k. c.if-bytes-j-ne0.false)))
     (λ c.
     let l = c.loop-j in
-    let s = c in
-    let h : AreBytes s.args.bytes.now = λ i. omega (arith, c.shared_slice_known-1.given i) in (
-      all_clear s.args.bytes.now s.args.count s.requires.1 s.requires.0 h c.if-top-count-ne0.false
+    let h : AreBytes c.args.bytes.now = λ i. omega (arith, c.shared_slice_known-1.given i) in (
+      all_clear c.args.bytes.now c.args.count c.requires.1 c.requires.0 h c.if-top-count-ne0.false
           (λ j k q. l.invariant.2 j (omega (arith, c.loop-j-test.false)) k),
       h,
     )))

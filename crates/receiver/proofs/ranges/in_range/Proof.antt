@@ -9,15 +9,13 @@ use Rattle.receiver.proofs.ranges.in_range.Tie as tie
 
 clear_from_requires : tie.Need-clear_from-requires
 clear_from_requires c κs =
-    let s = c in
-    ((fields _ _ _ _ (sym s.fields_fit.ensures ∙ c.if-fields_fit.true)).count_most, search rules)
+    ((fields _ _ _ _ (sym c.fields_fit.ensures ∙ c.if-fields_fit.true)).count_most, search rules)
 
 returns : tie.Need-returns-then-fields_fit
 unfolding in_range
 returns c =
-    let s = c in
-    let e : c.clear_from.result ≡ in_range s.args.rx = rw (sym s.fields_fit.ensures, c.if-fields_fit.true) c.clear_from.ensures.0 in
-    (e, λ h. good s.args.rx (search rules) c.clear_from.ensures.1 (sym e ∙ h))
+    let e : c.clear_from.result ≡ in_range c.args.rx = rw (sym c.fields_fit.ensures, c.if-fields_fit.true) c.clear_from.ensures.0 in
+    (e, λ h. good c.args.rx (search rules) c.clear_from.ensures.1 (sym e ∙ h))
 
 returns_2 : tie.Need-returns
 unfolding in_range

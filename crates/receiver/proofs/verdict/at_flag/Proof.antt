@@ -10,27 +10,23 @@ use Rattle.receiver.proofs.verdict.at_flag.Tie as tie
 
 returns : tie.Need-returns-then-bits-gt-CONTENT_MOST
 returns c =
-    let s = c in
-    bare_flag _ _ (flag_long s.args.kept s.args.bits s.requires.0 s.requires.1 s.requires.2 c.if-bits-gt-CONTENT_MOST.true) c.at_opening.ensures c.bare.ensures
+    bare_flag _ _ (flag_long c.args.kept c.args.bits c.requires.0 c.requires.1 c.requires.2 c.if-bits-gt-CONTENT_MOST.true) c.at_opening.ensures c.bare.ensures
 
 returns_2 : tie.Need-returns-then-bits-ne0
 returns_2 c =
-    let s = c in
-    bare_flag _ _ (flag_broken s.args.kept s.args.bits s.requires.0 s.requires.1 s.requires.2 c.if-bits-gt-CONTENT_MOST.false c.if-bits-ne0.true)
+    bare_flag _ _ (flag_broken c.args.kept c.args.bits c.requires.0 c.requires.1 c.requires.2 c.if-bits-gt-CONTENT_MOST.false c.if-bits-ne0.true)
     c.at_opening-then-bits-ne0.ensures c.bare-then-bits-ne0.ensures
 
 returns_3 : tie.Need-returns-then-register
 returns_3 c =
-    let s = c in
-    bare_flag _ _ (flag_wrong s.args.kept s.args.bits s.requires.0 s.requires.1 s.requires.2 c.if-bits-gt-CONTENT_MOST.false c.if-bits-ne0.false (λ z. c.if-register.true (c.register.ensures ∙ z)))
+    bare_flag _ _ (flag_wrong c.args.kept c.args.bits c.requires.0 c.requires.1 c.requires.2 c.if-bits-gt-CONTENT_MOST.false c.if-bits-ne0.false (λ z. c.if-register.true (c.register.ensures ∙ z)))
     c.at_opening-then-register.ensures c.bare-then-register.ensures
 
 returns_4 : tie.Need-returns
 returns_4 c =
-    let s = c in
-    let n = length_front s.args.kept (s.args.bits / 8 - 2) s.requires.2 (omega (arith, s.requires.1)) in
-    let g = flag_good s.args.kept s.args.bits s.requires.0 s.requires.1 s.requires.2 c.if-bits-gt-CONTENT_MOST.false c.if-bits-ne0.false s.requires.3 (sym c.register.ensures ∙ c.if-register.false) in
-    rw n at (body_flag {used = s.args.used} _ _ _ g c.at_opening-rx.ensures c.store.ensures)
+    let n = length_front c.args.kept (c.args.bits / 8 - 2) c.requires.2 (omega (arith, c.requires.1)) in
+    let g = flag_good c.args.kept c.args.bits c.requires.0 c.requires.1 c.requires.2 c.if-bits-gt-CONTENT_MOST.false c.if-bits-ne0.false c.requires.3 (sym c.register.ensures ∙ c.if-register.false) in
+    rw n at (body_flag {used = c.args.used} _ _ _ g c.at_opening-rx.ensures c.store.ensures)
 
 pub at_flag_spec : {M : Type 1} → statement M
 at_flag_spec =

@@ -8,25 +8,21 @@ use Rattle.receiver.proofs.verdict.conclude.Tie as tie
 
 returns : tie.Need-returns-then-hit-eq0
 returns c =
-    let s = c in
-    conclude_out s.args.stop s.requires.0 _ c.if-hit-eq0.true refl c.bare.ensures
+    conclude_out c.args.stop c.requires.0 _ c.if-hit-eq0.true refl c.bare.ensures
 
 at_flag_requires : tie.Need-at_flag-requires
 at_flag_requires c κs =
-    let s = c in
-    let g = s.requires.0 in
-    (omega (arith, s.requires.1.0 c.if-hit-eq1.true), omega (arith, g.count), g.size, g.small, s.requires.1.1)
+    let g = c.requires.0 in
+    (omega (arith, c.requires.1.0 c.if-hit-eq1.true), omega (arith, g.count), g.size, g.small, c.requires.1.1)
 
 returns_2 : tie.Need-returns-then-hit-eq1
 returns_2 c =
-    let s = c in
     let a = c.at_flag.ensures in
-    conclude_flag s.args.stop s.requires.0 _ _ _ refl c.if-hit-eq1.true a.0 a.1
+    conclude_flag c.args.stop c.requires.0 _ _ _ refl c.if-hit-eq1.true a.0 a.1
 
 returns_3 : tie.Need-returns
 returns_3 c =
-    let s = c in
-    conclude_abort s.args.stop s.requires.0 _ c.if-hit-eq0.false c.if-hit-eq1.false c.new.ensures c.bare-2.ensures
+    conclude_abort c.args.stop c.requires.0 _ c.if-hit-eq0.false c.if-hit-eq1.false c.new.ensures c.bare-2.ensures
 
 pub conclude_spec : {M : Type 1} → statement M
 conclude_spec =
