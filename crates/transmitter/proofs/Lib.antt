@@ -1,3 +1,3 @@
 pub mod Written
-pub mod Calls
+pub mod Same
 pub mod Bounds
