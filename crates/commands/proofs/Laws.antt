@@ -4,7 +4,7 @@ use mathlib.Core.Bool.{true}
 use mathlib.Core.Path.{◌≡◌, refl, ap}
 use native.Mathlib.Omega.{arith}
 use borrow.Author.Tests.{le-leb, lt-leb}
-use Rattle.std.specs.Prelude.{None, option_and_then}
+use Rattle.std.specs.Prelude.{Option, Some, None, option_and_then}
 use Rattle.bits.proofs.Rows.{codes_below, look_beyond}
 use Rattle.commands.specs.declared.channel.Channel.{Channel}
 use Rattle.commands.specs.declared.channel.Channel.TheVariants.{Controller, Spi, Gpio, Master, Seu, Id, Dac}
@@ -35,3 +35,11 @@ none_beyond ch cmd h = ap (option_and_then (λ (c : Channel). command_of c cmd))
 pub no_zero : command_at 0 0 ≡ None
 unfolding channel_of code_of
 no_zero = refl
+
+-- and no channel has a code over a byte
+pub code_at_beyond : (ch cmd : ℕ) → 0x100 ≤ cmd → command_at ch cmd ≡ None
+code_at_beyond ch cmd h = by (channel_of ch)
+  where
+    by : (o : Option Channel) → option_and_then (λ (c : Channel). command_of c cmd) o ≡ None
+    by None = refl
+    by (Some c) = code_beyond c cmd h
