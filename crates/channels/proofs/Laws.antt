@@ -906,6 +906,8 @@ module _ (rs : List ℕ) (i : ℕ) (on : Bool) (o : on ≡ is_enabled rs (channe
 pub bank_in : (rs : List ℕ) (i first : ℕ) → length rs ≡ size → first ≡ bank i → first + 21 ≤ length rs
 bank_in rs i first n e = rw (n, e) (bank_to i)
 
+pub ruleset one_master = (sound_on, bank_in, zero_at)
+
 -- ---- no master is enabled
 
 bit_on : (n k : ℕ) → not (eqb (bit_and n (2 ^ k)) 0) ≡ bit_of n k
@@ -949,9 +951,6 @@ none_enabled rs h i = by (ltb (i % 16) 5) (ltb (i % 16) 13) refl refl
     by false true e f = rw c refl
     by false false e f = bit_off (read rs Crd) (i % 16 - 13) (low_three (i % 16 - 13) (read rs Crd) (omega arith) d)
 
-pub none_is_on_lem : (rs : List ℕ) (b c d : ℕ) → b ≡ read rs Crb → c ≡ read rs Crc → d ≡ read rs Crd → (ltb b 8 && eqb c 0 && eqb (d % 8) 0) ≡ none_on rs
-none_is_on_lem rs b c d e f g = simp (e, f, g)
-
 -- ---- bit by bit
 
 pub by_crb : (rs : List ℕ) (v : ℕ) → v ≡ read rs Crb → Enables rs (v / 8) 0 5
@@ -982,21 +981,14 @@ by_crd rs v e k l =
     bit_on (v % 8) k ∙ ap (λ (b : ℕ). eqb b 1) (low_same k v l) ∙ sym (bit_on v k)
     ∙ simp (m, n, le-ltb (13 + k) 5 (omega arith), le-ltb (13 + k) 13 (omega arith), e)
 
+pub ruleset bit_by_bit = (by_crb, by_crc, by_crd)
+
 module _ (rs : List ℕ) (bits first many k : ℕ) (l : k < many) (u : first + many ≤ 16) where
   pub enabled_bit : Enables rs bits first many → not (eqb (bit_and bits (1 * 2 ^ k % 2 ^ 32)) 0) ≡ is_enabled rs (channel.Master (first + k))
   enabled_bit h =
       let e : 1 * 2 ^ k ≡ 2 ^ k = omega arith in
       let s : 1 * 2 ^ k % 2 ^ 32 ≡ 2 ^ k = rw e (mod-eq_of_lt (pow-lt {i = k} {j = 32} (omega arith))) in
       subst (λ (m : ℕ). not (eqb (bit_and bits m) 0) ≡ is_enabled rs (channel.Master (first + k))) (sym s) (h k l)
-
-  pub first_fits : first + k < 256
-  first_fits = omega arith
-
-  pub wide_fits : k < 2 ^ 32
-  wide_fits = omega arith
-
-  pub shift_fits : k < 32
-  shift_fits = omega arith
 
 each_split : (m n k : ℕ) (f : ℕ → Bool) → each (m + n) k f ≡ (each m k f && each n (k + m) f)
 each_split zero n k f =
@@ -1052,10 +1044,14 @@ not_one n k f j l h = by (each n k f) refl
     by true e = absurd (true≢false (sym (each_at n k f e (k + j) (omega arith) (omega arith)) ∙ h))
     by false e = refl
 
+pub ruleset part_of_them = (part_off, enabled_bit, every_one, not_one)
+
 pub all_off : (rs : List ℕ) (none z : Bool) → none ≡ none_on rs → none ≡ true → z ≡ are_zero 70 336 rs → z ≡ each_master (master_sound rs)
 all_off rs none z n t e =
     e ∙ sym (each_zero 16 0 rs)
     ∙ each_same 16 0 _ _ (λ i l. zero_off rs i false (sym (none_enabled rs (sym n ∙ t) i)) _ refl (ap (λ (p : ℕ). are_zero p 21 rs) (sym (bank_at i l))))
+
+pub ruleset all_of_them = (all_off, three_parts)
 
 each_three : (n k : ℕ) (f g h : ℕ → Bool) → each n k (λ (i : ℕ). f i && (g i && h i)) ≡ (each n k f && (each n k g && each n k h))
 each_three zero k f g h = refl

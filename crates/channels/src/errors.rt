@@ -28,10 +28,7 @@ pub(crate) fn decode(registers: &[u8], q: Request) -> Result<Command, Fault>
     requires { length registers.now ≡ size }
     ensures { result ≡ decoded registers.now q }
 {
-    if q.trn == NO_TRANSACTION {
-        return Err(Fault::TrnWrong);
-    }
-    if q.trn == INTERRUPT {
+    if q.trn == NO_TRANSACTION || q.trn == INTERRUPT {
         return Err(Fault::TrnWrong);
     }
     let which = channel::channel_of(q.ch).ok_or(Fault::ChUnknown)?;
@@ -42,10 +39,7 @@ pub(crate) fn decode(registers: &[u8], q: Request) -> Result<Command, Fault>
         return Err(Fault::Busy);
     }
     let command = channel::command_of(which, q.cmd).ok_or(Fault::CmdUnknown)?;
-    if q.len != command.lengths.asked {
-        return Err(Fault::LenWrong);
-    }
-    if !can_move(registers, command.does) {
+    if q.len != command.lengths.asked || !can_move(registers, command.does) {
         return Err(Fault::LenWrong);
     }
     Ok(command)

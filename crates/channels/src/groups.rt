@@ -1,12 +1,12 @@
 // A group is the registers that are held at 0 while CRB, CRC or CRD disables their channel, and goes by what switches them; all others are the
 // core's. A request may change the core, and the registers of one group or of none.
 ghost use Rattle.std.specs.Prelude.{◌≡◌};
-ghost use Rattle.channels.specs.Groups.{span_of, by_command, group_for};
+ghost use Rattle.channels.specs.Groups.{span_of, by_does, group_for};
 
 use crate::rows;
 use commands::channel;
 use commands::channel::Channel;
-use commands::command::{Command, Control, Does};
+use commands::command::{Control, Does};
 use commands::request::Request;
 
 // So many bytes among the registers, from a place on.
@@ -43,16 +43,11 @@ pub fn span_of(group: Option<Control>) -> Span
     }
 }
 
-fn by_command(group: Option<Control>, command: Option<Command>) -> Option<Control>
-    ensures { result ≡ by_command group command }
+fn by_does(group: Option<Control>, does: Does) -> Option<Control>
+    ensures { result ≡ by_does group does }
 {
-    match command {
-        Some(
-            Command {
-                does: Does::Switch(control),
-                ..
-            },
-        ) => Some(control),
+    match does {
+        Does::Switch(control) => Some(control),
         _ => group,
     }
 }
@@ -63,9 +58,9 @@ pub fn group_for(q: Request) -> Option<Control>
     ensures { result ≡ group_for q }
 {
     let which = channel::channel_of(q.ch)?;
-    let group = rows::row_of(which).group;
+    let own = rows::row_of(which).group;
     match which {
-        Channel::Controller => by_command(group, channel::command_of(Channel::Controller, q.cmd)),
-        _ => group,
+        Channel::Controller => by_does(own, channel::command_of(which, q.cmd)?.does),
+        _ => own,
     }
 }

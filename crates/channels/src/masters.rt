@@ -3,24 +3,19 @@ ghost use Rattle.std.specs.Prelude.{◌≡◌, length, ◌+◌, ◌≤◌};
 ghost use Rattle.commands.specs.declared.channel.Channel.TheVariants as Channel;
 ghost use Rattle.registers.specs.Registers.{size, each, each_master};
 ghost use Rattle.channels.specs.Rows.{is_enabled};
-ghost use Rattle.channels.specs.Starts.{is_start, open_sound};
+ghost use Rattle.channels.specs.Starts.{start_does, open_sound};
 ghost use Rattle.channels.specs.Inner.{master_sound, none_on, first_by, many_by, Enables};
 
 use commands::channel;
 use commands::channel::Channel;
-use commands::command::{Command, Control, Does, Register};
+use commands::command::{Control, Does, Register};
 use registers::{FIRST_MASTER, MASTER_BYTES, SIZE, are_zero, bank, i2c, read};
 
-fn is_start(control: u32, command: Option<Command>) -> bool
-    ensures { result ≡ is_start control command }
+fn start_does(control: u32, does: Does) -> bool
+    ensures { result ≡ start_does control does }
 {
-    match command {
-        Some(
-            Command {
-                does: Does::Transact(_, transaction),
-                ..
-            },
-        ) => i2c::allows(control, transaction),
+    match does {
+        Does::Transact(_, transaction) => i2c::allows(control, transaction),
         _ => false,
     }
 }
@@ -39,11 +34,14 @@ fn is_open_sound(registers: &[u8], index: u8) -> bool
     }
     let control = read(registers, Register::I2cCtrl(index));
     let code = ((open / 0x100) % 0x100) as u8;
-    is_start(control, channel::command_of(Channel::Master(index), code))
+    channel::command_of(Channel::Master(index), code).is_some_and(|command| start_does(
+        control,
+        command.does,
+    ))
 }
 
 // A disabled master that holds zeros has nothing else to be looked at.
-#[tactic(auto, using(crate::proofs::Laws::sound_on, crate::proofs::Laws::bank_in, crate::proofs::Laws::zero_at))]
+#[tactic(auto, using(crate::proofs::Laws::one_master))]
 fn is_sound(registers: &[u8], index: u8, on: bool) -> bool
     requires registers_len { length registers.now ≡ size }
     requires on_value { on ≡ is_enabled registers.now (Channel.Master index) }
@@ -65,7 +63,7 @@ struct Switched {
 }
 
 // CRB bits 3 to 7 are masters 0 to 4, CRC bits 0 to 7 are 5 to 12, CRD bits 0 to 2 are 13 to 15.
-#[tactic(auto, using(crate::proofs::Laws::by_crb, crate::proofs::Laws::by_crc, crate::proofs::Laws::by_crd))]
+#[tactic(auto, using(crate::proofs::Laws::bit_by_bit))]
 fn switched_by(registers: &[u8], control: Control) -> Switched
     requires { length registers.now ≡ size }
     ensures first { result.first ≡ first_by control }
@@ -93,7 +91,7 @@ fn switched_by(registers: &[u8], control: Control) -> Switched
 }
 
 // Where none of them is enabled, one look at all their bytes tells.
-#[tactic(auto, using(crate::proofs::Laws::part_inside, crate::proofs::Laws::part_off, crate::proofs::Laws::enabled_bit, crate::proofs::Laws::every_one, crate::proofs::Laws::not_one))]
+#[tactic(auto, using(crate::proofs::Laws::part_of_them))]
 fn some_are_sound(registers: &[u8], control: Control) -> bool
     requires { length registers.now ≡ size }
     ensures { result ≡ each (many_by control) (first_by control) (master_sound registers.now) }
@@ -114,17 +112,6 @@ fn some_are_sound(registers: &[u8], control: Control) -> bool
     true
 }
 
-#[tactic(auto, using(crate::proofs::Laws::three_parts))]
-fn each_is_sound(registers: &[u8]) -> bool
-    requires { length registers.now ≡ size }
-    ensures { result ≡ each_master (master_sound registers.now) }
-{
-    let b = some_are_sound(registers, Control::B);
-    let c = some_are_sound(registers, Control::C);
-    let d = some_are_sound(registers, Control::D);
-    b & c & d
-}
-
 // CRB bits 3 to 7, CRC, and CRD bits 0 to 2 enable the masters.
 fn none_is_on(registers: &[u8]) -> bool
     requires { length registers.now ≡ size }
@@ -137,7 +124,7 @@ fn none_is_on(registers: &[u8]) -> bool
 }
 
 // Whether each master is in range. Where none is enabled, one look at all their bytes tells.
-#[tactic(auto, using(crate::proofs::Laws::all_off))]
+#[tactic(auto, using(crate::proofs::Laws::all_of_them))]
 pub(crate) fn are_sound(registers: &[u8]) -> bool
     requires { length registers.now ≡ size }
     ensures { result ≡ each_master (master_sound registers.now) }
@@ -145,5 +132,8 @@ pub(crate) fn are_sound(registers: &[u8]) -> bool
     if none_is_on(registers) {
         return are_zero(registers, FIRST_MASTER, SIZE - FIRST_MASTER);
     }
-    each_is_sound(registers)
+    let b = some_are_sound(registers, Control::B);
+    let c = some_are_sound(registers, Control::C);
+    let d = some_are_sound(registers, Control::D);
+    b & c & d
 }

@@ -2,7 +2,7 @@
 // follows from it: what a disabled channel holds.
 ghost use Rattle.std.specs.Prelude.{◌≡◌, length};
 ghost use Rattle.registers.specs.Registers.{size, written};
-ghost use Rattle.channels.specs.Rows.{by_bit, row_of, master_control, master_bit, master_group, master_row, dropping, register_of, is_on, is_at_work, is_enabled, is_busy, held, held_all, settled, still_held};
+ghost use Rattle.channels.specs.Rows.{by_bit, row, row_of, master_control, master_bit, master_group, master_row, dropping, register_of, is_enabled, is_busy, held, held_all, settled, still_held};
 
 use commands::channel::Channel;
 use commands::command::{Control, Register};
@@ -24,6 +24,24 @@ pub struct Row {
     pub group: Option<Control>,
     pub first: usize,
     pub many: usize,
+}
+
+fn row_with(
+    switch: Option<Switch>,
+    busy: Option<Register>,
+    group: Option<Control>,
+    first: usize,
+    many: usize,
+) -> Row
+    ensures { result ≡ row switch busy group first many }
+{
+    Row {
+        switch,
+        busy,
+        group,
+        first,
+        many,
+    }
 }
 
 fn by_bit(control: Control, bit: u32) -> Option<Switch>
@@ -66,62 +84,32 @@ pub fn master_group(index: u8) -> Option<Control>
 fn master_row(index: u8) -> Row
     ensures { result ≡ master_row index }
 {
-    Row {
-        switch: by_bit(master_control(index), master_bit(index)),
-        busy: Some(Register::I2cOpen(index)),
-        group: master_group(index),
-        first: registers::bank(index),
-        many: MASTER_BYTES,
-    }
+    row_with(
+        by_bit(master_control(index), master_bit(index)),
+        Some(Register::I2cOpen(index)),
+        master_group(index),
+        registers::bank(index),
+        MASTER_BYTES,
+    )
 }
 
 pub(crate) fn row_of(which: Channel) -> Row
     ensures { result ≡ row_of which }
 {
     match which {
-        Channel::Controller => Row {
-            switch: None,
-            busy: None,
-            group: None,
-            first: 0,
-            many: 3,
-        },
-        Channel::Spi => Row {
-            switch: by_bit(Control::B, 0x02),
-            busy: Some(Register::SpiGo),
-            group: Some(Control::B),
-            first: 15,
-            many: 22,
-        },
-        Channel::Gpio => Row {
-            switch: by_bit(Control::B, 0x04),
-            busy: None,
-            group: Some(Control::B),
-            first: 37,
-            many: 33,
-        },
+        Channel::Controller => row_with(None, None, None, 0, 3),
+        Channel::Spi => row_with(
+            by_bit(Control::B, 0x02),
+            Some(Register::SpiGo),
+            Some(Control::B),
+            15,
+            22,
+        ),
+        Channel::Gpio => row_with(by_bit(Control::B, 0x04), None, Some(Control::B), 37, 33),
         Channel::Master(index) => master_row(index),
-        Channel::Seu => Row {
-            switch: by_bit(Control::D, 0x08),
-            busy: None,
-            group: None,
-            first: 3,
-            many: 4,
-        },
-        Channel::Id => Row {
-            switch: by_bit(Control::D, 0x10),
-            busy: None,
-            group: None,
-            first: 11,
-            many: 4,
-        },
-        Channel::Dac => Row {
-            switch: None,
-            busy: None,
-            group: None,
-            first: 7,
-            many: 4,
-        },
+        Channel::Seu => row_with(by_bit(Control::D, 0x08), None, None, 3, 4),
+        Channel::Id => row_with(by_bit(Control::D, 0x10), None, None, 11, 4),
+        Channel::Dac => row_with(None, None, None, 7, 4),
     }
 }
 
@@ -135,38 +123,20 @@ fn register_of(control: Control) -> Register
     }
 }
 
-fn is_on(registers: &[u8], switch: Option<Switch>) -> bool
-    requires { length registers.now ≡ size }
-    ensures { result ≡ is_on registers.now switch }
-{
-    match switch {
-        None => true,
-        Some(Switch { control, bit }) => read(registers, register_of(control)) & bit != 0,
-    }
-}
-
-fn is_at_work(registers: &[u8], busy: Option<Register>) -> bool
-    requires { length registers.now ≡ size }
-    ensures { result ≡ is_at_work registers.now busy }
-{
-    match busy {
-        None => false,
-        Some(which) => read(registers, which) != 0,
-    }
-}
-
 pub fn is_enabled(registers: &[u8], which: Channel) -> bool
     requires { length registers.now ≡ size }
     ensures { result ≡ is_enabled registers.now which }
 {
-    is_on(registers, row_of(which).switch)
+    let switch = row_of(which).switch;
+    switch.is_none_or(|by| read(registers, register_of(by.control)) & by.bit != 0)
 }
 
 pub fn is_busy(registers: &[u8], which: Channel) -> bool
     requires { length registers.now ≡ size }
     ensures { result ≡ is_busy registers.now which }
 {
-    is_at_work(registers, row_of(which).busy)
+    let busy = row_of(which).busy;
+    busy.is_some_and(|open| read(registers, open) != 0)
 }
 
 #[tactic(auto, using(crate::proofs::Owners::own_inside), unfolding(crate::specs::Rows::held))]
@@ -182,40 +152,34 @@ fn hold(registers: &mut [u8], which: Channel)
 }
 
 // The channels that hold their registers at 0 while they are disabled, by what switches them: SPI, GPIO, the masters.
-const DROPPING_B: [Channel; 7] = [
-    Channel::Spi,
-    Channel::Gpio,
-    Channel::Master(0),
-    Channel::Master(1),
-    Channel::Master(2),
-    Channel::Master(3),
-    Channel::Master(4),
-];
-
-const DROPPING_C: [Channel; 8] = [
-    Channel::Master(5),
-    Channel::Master(6),
-    Channel::Master(7),
-    Channel::Master(8),
-    Channel::Master(9),
-    Channel::Master(10),
-    Channel::Master(11),
-    Channel::Master(12),
-];
-
-const DROPPING_D: [Channel; 3] = [
-    Channel::Master(13),
-    Channel::Master(14),
-    Channel::Master(15),
-];
-
 fn dropping(control: Control) -> &'static [Channel]
     ensures { result.now ≡ dropping control }
 {
     match control {
-        Control::B => &DROPPING_B,
-        Control::C => &DROPPING_C,
-        Control::D => &DROPPING_D,
+        Control::B => &[
+            Channel::Spi,
+            Channel::Gpio,
+            Channel::Master(0),
+            Channel::Master(1),
+            Channel::Master(2),
+            Channel::Master(3),
+            Channel::Master(4),
+        ],
+        Control::C => &[
+            Channel::Master(5),
+            Channel::Master(6),
+            Channel::Master(7),
+            Channel::Master(8),
+            Channel::Master(9),
+            Channel::Master(10),
+            Channel::Master(11),
+            Channel::Master(12),
+        ],
+        Control::D => &[
+            Channel::Master(13),
+            Channel::Master(14),
+            Channel::Master(15),
+        ],
     }
 }
 
