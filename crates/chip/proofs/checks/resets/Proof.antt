@@ -1,9 +1,9 @@
--- `frame::resets` meets its contract. Assumes nothing.
+-- `checks::resets` meets its contract. Assumes nothing.
 use Rattle.std.proofs.Common.{rules}
 use Rattle.bits.proofs.Answered.{two}
 use Rattle.chip.proofs.Cases.{other_address_lem, other_command, reset_command}
-use Rattle.chip.proofs.frame.resets.Statement.{statement}
-use Rattle.chip.proofs.frame.resets.Tie as tie
+use Rattle.chip.proofs.checks.resets.Statement.{statement}
+use Rattle.chip.proofs.checks.resets.Tie as tie
 
 pub resets_spec : {M : Type 1} → statement M
 resets_spec {M} =

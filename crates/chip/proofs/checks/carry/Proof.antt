@@ -1,10 +1,10 @@
--- `frame::carry` meets its contract. Assumes nothing.
+-- `checks::carry` meets its contract. Assumes nothing.
 use Rattle.std.proofs.Common.{rules}
 use Rattle.bits.proofs.Answered.{two, four, seven}
 use Rattle.chip.specs.Frame.{carried}
 use Rattle.chip.proofs.Cases.{echoed, choices, misfit, fitting}
-use Rattle.chip.proofs.frame.carry.Statement.{statement}
-use Rattle.chip.proofs.frame.carry.Tie as tie
+use Rattle.chip.proofs.checks.carry.Statement.{statement}
+use Rattle.chip.proofs.checks.carry.Tie as tie
 
 pub carry_spec : {M : Type 1} → statement M
 unfolding carried

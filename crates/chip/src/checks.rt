@@ -9,6 +9,7 @@ ghost use Rattle.chip.specs.Frame.{is_reset_frame, reset, acknowledges, commande
 use crate::{Response, answer, request};
 use commands::command::Register;
 use link::Link;
+use numbers::Silence;
 
 // Bit 0 of a control that carries no request.
 const UNNUMBERED: u8 = 0x01;
@@ -52,7 +53,7 @@ fn command(link: Link, after: Link, port: u8, body: &[u8], output: &mut [u8]) ->
     if body.len() == 2 {
         acknowledge(after, port, body[1], output)
     } else {
-        answer::give(link, numbers::BAD_INFORMATION)
+        answer::give(link, Silence::BadInformation)
     }
 }
 
@@ -68,7 +69,7 @@ fn reset(link: Link, registers: &mut [u8], port: u8, body: &[u8], output: &mut [
         state::power_on(registers, id);
         acknowledge(link::fresh(port), port, body[1], output)
     } else {
-        answer::give(link, numbers::BAD_INFORMATION)
+        answer::give(link, Silence::BadInformation)
     }
 }
 
@@ -106,10 +107,10 @@ fn carry(link: Link, registers: &mut [u8], port: u8, body: &[u8], output: &mut [
         return answer::send(link, port, body.len());
     }
     if port != link.port {
-        return answer::give(link, numbers::OTHER_PORT);
+        return answer::give(link, Silence::OtherPort);
     }
     if body.len() - 2 != INFORMATION {
-        return answer::give(link, numbers::BAD_INFORMATION);
+        return answer::give(link, Silence::BadInformation);
     }
     in_order(link, registers, port, body[1], &body[2..], output)
 }
@@ -138,7 +139,7 @@ fn check_control(
         return command(link, link::loop_back(link, port), port, body, output);
     }
     if control & UNNUMBERED != 0 {
-        return answer::give(link, numbers::OTHER_CONTROL);
+        return answer::give(link, Silence::OtherControl);
     }
     carry(link, registers, port, body, output)
 }
@@ -157,7 +158,7 @@ pub(crate) fn check(
     ensures { said result registers.new output.new ≡ says (on_frame (adapter link registers.old) port body.now) output.old }
 {
     if body[0] != packets::ADDRESS {
-        return answer::give(link, numbers::OTHER_ADDRESS);
+        return answer::give(link, Silence::OtherAddress);
     }
     check_control(link, registers, port, body, output)
 }
