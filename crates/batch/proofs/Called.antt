@@ -4,7 +4,8 @@ use mathlib.Core.Path.{◌≡◌, refl, sym, subst}
 use mathlib.Core.Bool.{Bool, true, false, not, ◌||◌}
 use mathlib.Core.List.{List, flatten}
 use native.Mathlib.Omega.{arith}
-use borrow.Author.Tests.{ltb-false, eq-eqb, ne_eqb}
+use lib.Dec.{eqb}
+use borrow.Author.Tests.{ltb-false, eqb-false}
 use Rattle.std.specs.List.{fold}
 use Rattle.parts.proofs.Laws.{put_none}
 use Rattle.state.specs.Bytes.{link_of}
@@ -12,8 +13,8 @@ use Rattle.state.proofs.Spelling.{its_length}
 use Rattle.adapter.specs.declared.Verdict.TheVariants.{Refused, Passed}
 use Rattle.adapter.specs.Refusals.{in_order}
 use Rattle.batch.specs.declared.Sample.{Sample}
-use Rattle.batch.specs.declared.Batch.{Batch}
-use Rattle.batch.specs.Batch.{outset, one_by_one, lines_in, reported, bare, verdict, outcome, called}
+use Rattle.batch.specs.declared.Batch as sent
+use Rattle.batch.specs.Batch.{Batch, outset, one_by_one, lines_in, reported, bare, verdict, outcome, called}
 use Rattle.batch.specs.Inner.{Fine, nothing_sent, going, given}
 use Rattle.batch.proofs.Course.{Stands, stands}
 
@@ -53,20 +54,18 @@ module _ (s j : List ℕ) (list : List Sample) (o : List ℕ) where
         let f = by_order _ _ _ _ _ e in
         record { spelled = its_length s f.0; formed = f.1; roomy = ltb-false _ _ f.2; few = ltb-false _ _ f.3; kinds = f.4 }
 
-    module _ (s' j' o' : List ℕ) (b : Batch) (g : going s' j' o' b ≡ fold given (going s j o nothing_sent) list) where
-      abbrev port : ℕ
-      port = (link_of s).port
+    module _ (s' j' o' : List ℕ) (b : sent.Batch) (g : going s' j' o' b ≡ fold given (going s j o nothing_sent) list) where
+      abbrev active : ℕ
+      active = (link_of s).port
 
-      end : Stands port o (one_by_one s j list) (going s' j' o' b)
-      end = subst (Stands port o (one_by_one s j list)) (sym g) (stands port o (outset s j) (going s j o nothing_sent) list (at_outset s j o) (omega (arith, fine)))
+      end : Stands active o (one_by_one s j list) (going s' j' o' b)
+      end = subst (Stands active o (one_by_one s j list)) (sym g) (stands active o (outset s j) (going s j o nothing_sent) list (at_outset s j o) (omega (arith, fine)))
 
-      ends : outcome (reported port b.frames b.sum) s' j' o' ≡ called s j list o
+      -- the port is told only with a frame
+      told : (t : Bool) → eqb b.frames 0 ≡ t → reported b.port b.frames b.sum ≡ reported active b.frames b.sum
+      told true e = rw e refl
+      told false e = rw (e, end.port (eqb-false _ _ e)) refl
+
+      pub given_all : (a : Batch) → a ≡ reported b.port b.frames b.sum → outcome a s' j' o' ≡ called s j list o
       unfolding called
-      ends = rw (e, end.state, end.journal, end.output, end.frames, end.sum) refl
-
-      pub silent : b.frames ≡ 0 → outcome (bare 17) s' j' o' ≡ called s j list o
-      silent n = rw (eq-eqb _ _ n) at ends
-
-      pub sent : (b.frames ≡ 0 → ⊥)
-          → outcome (record { number = 0; port = b.port; length = 10; frames = b.frames; sum = b.sum }) s' j' o' ≡ called s j list o
-      sent n = rw (ne_eqb _ _ n, ← end.port n) at ends
+      given_all a q = rw (q, told _ refl, e, end.state, end.journal, end.output, end.frames, end.sum) refl

@@ -6,7 +6,7 @@ ghost use Rattle.std.specs.Int.Count.{ones};
 ghost use Rattle.std.specs.List.{fold};
 ghost use Rattle.numbers.specs.Numbers.{reply_bytes};
 ghost use Rattle.packets.specs.Packets.{data_of};
-ghost use Rattle.batch.specs.Batch.{wrong_list, answer_of, outcome, called};
+ghost use Rattle.batch.specs.Batch.{some_wrong, wrong_list, reported, answer_of, outcome, called};
 ghost use Rattle.batch.specs.Inner.{nothing_sent, going, given, Fine, Ready, Given};
 
 use adapter::{Verdict, events};
@@ -28,11 +28,18 @@ pub struct Batch {
     pub sum: u16,
 }
 
+// Whether a sample's kind is over 2.
+fn has_wrong_kind(list: &[Sample]) -> bool
+    ensures { result ≡ some_wrong list.now }
+{
+    list.iter().any(|s| 2 < s.kind)
+}
+
 // A list over 256 samples, or a kind over 2.
 fn is_wrong(list: &[Sample]) -> bool
     ensures { result ≡ wrong_list list.now }
 {
-    SAMPLES_MOST < list.len() || list.iter().any(|s| 2 < s.kind)
+    SAMPLES_MOST < list.len() || has_wrong_kind(list)
 }
 
 // How many lines an interrupt names: the ones in its data, which is INTS.
@@ -77,6 +84,16 @@ fn give(state: &mut [u8], journal: &mut [u8], list: &[Sample], output: &mut [u8]
     sent
 }
 
+// A batch that sent no frame gives 17.
+fn finished(sent: Batch) -> Result<Batch, u8>
+    ensures { answer_of result ≡ reported sent.port sent.frames sent.sum }
+{
+    if sent.frames == 0 {
+        return Err(NO_FRAME);
+    }
+    Ok(sent)
+}
+
 // Pin samples by the batch: refused before anything is done, or given one by one, with the bodies that they send in order in one output.
 pub fn samples(
     state: &mut [u8],
@@ -94,12 +111,7 @@ pub fn samples(
         false,
     );
     match verdict {
-        Verdict::Refused(number) => return Err(number),
-        Verdict::Passed => (),
+        Verdict::Refused(number) => Err(number),
+        Verdict::Passed => finished(give(state, journal, list, output)),
     }
-    let sent = give(state, journal, list, output);
-    if sent.frames == 0 {
-        return Err(NO_FRAME);
-    }
-    Ok(sent)
 }
