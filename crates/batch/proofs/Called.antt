@@ -10,7 +10,7 @@ use Rattle.std.specs.List.{fold}
 use Rattle.parts.proofs.Laws.{put_none}
 use Rattle.state.specs.Bytes.{link_of}
 use Rattle.state.proofs.Spelling.{its_length}
-use Rattle.adapter.specs.declared.Verdict.TheVariants.{Refused, Passed}
+use Rattle.adapter.specs.Answers.{Refused, Passed}
 use Rattle.adapter.specs.Refusals.{in_order}
 use Rattle.batch.specs.declared.Sample.{Sample}
 use Rattle.batch.specs.declared.Batch as sent

@@ -9,8 +9,8 @@ use Rattle.state.specs.Bytes.{state_bytes, link_of, state_in, is_state}
 use Rattle.chip.specs.Event.{Event, sample}
 use Rattle.chip.specs.Chip.{reaction}
 use Rattle.journal.specs.Layout.{well_formed}
-use Rattle.adapter.specs.declared.Verdict.{Verdict}
-use Rattle.adapter.specs.declared.Verdict.TheVariants.{Refused, Passed}
+use Rattle.adapter.specs.declared.NoFrame.{NoFrame}
+use Rattle.adapter.specs.Answers.{Verdict, Refused, Passed, no_frame_number}
 use Rattle.adapter.specs.Refusals.{wrong_argument, in_order}
 use Rattle.adapter.specs.Calls.{recorded}
 use Rattle.batch.specs.declared.Sample.{Sample}
@@ -73,9 +73,9 @@ abbrev pub answered : ℕ → List (List ℕ) → Batch
 answered port bodies = reported port (length bodies) (lines_in bodies)
 
 -- of what code gives: a batch that sent frames, or the number of the refusal or silence
-abbrev pub answer_of : Result code.Batch ℕ → Batch
+abbrev pub answer_of : Result code.Batch NoFrame → Batch
 answer_of (Ok b) = record { number = has_frame; port = b.port; length = reply_bytes; frames = b.frames; sum = b.sum }
-answer_of (Err number) = bare number
+answer_of (Err e) = bare (no_frame_number e)
 
 -- ---- the call
 

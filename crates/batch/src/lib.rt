@@ -9,8 +9,8 @@ ghost use Rattle.packets.specs.Packets.{data_of};
 ghost use Rattle.batch.specs.Batch.{some_wrong, wrong_list, reported, answer_of, outcome, called};
 ghost use Rattle.batch.specs.Inner.{nothing_sent, going, given, Fine, Ready, Given};
 
-use adapter::{Verdict, events};
-use numbers::{BATCH_LEAST, HAS_FRAME, NO_FRAME, REPLY_BYTES, SAMPLES_MOST};
+use adapter::{NoFrame, events};
+use numbers::{BATCH_LEAST, REPLY_BYTES, SAMPLES_MOST, Silence};
 
 // What a logic probe saw: the levels of the 32 lines, and the edge kind.
 #[repr(C)]
@@ -57,14 +57,13 @@ fn step(state: &mut [u8], journal: &mut [u8], output: &mut [u8], sent: Batch, s:
 {
     let first = REPLY_BYTES * usize::from(sent.frames);
     let body = &mut output[first..first + REPLY_BYTES];
-    let answer = events::sample(state, journal, s.levels, s.kind as u8, body);
-    if answer.number != HAS_FRAME {
-        return sent;
-    }
-    Batch {
-        port: answer.port,
-        frames: sent.frames + 1,
-        sum: sent.sum + lines_of(body),
+    match events::sample(state, journal, s.levels, s.kind as u8, body) {
+        Ok(frame) => Batch {
+            port: frame.port,
+            frames: sent.frames + 1,
+            sum: sent.sum + lines_of(body),
+        },
+        Err(_) => sent,
     }
 }
 
@@ -85,11 +84,11 @@ fn give(state: &mut [u8], journal: &mut [u8], list: &[Sample], output: &mut [u8]
 }
 
 // A batch that sent no frame gives 17.
-fn finished(sent: Batch) -> Result<Batch, u8>
+fn finished(sent: Batch) -> Result<Batch, NoFrame>
     ensures { answer_of result ≡ reported sent.port sent.frames sent.sum }
 {
     if sent.frames == 0 {
-        return Err(NO_FRAME);
+        return Err(Silence::NoFrame.into());
     }
     Ok(sent)
 }
@@ -100,18 +99,15 @@ pub fn samples(
     journal: &mut [u8],
     list: &[Sample],
     output: &mut [u8],
-) -> Result<Batch, u8>
+) -> Result<Batch, NoFrame>
     ensures { outcome (answer_of result) state.new journal.new output.new ≡ called state.old journal.old list.now output.old }
 {
-    let verdict = adapter::judge(
+    adapter::judge(
         state,
         journal,
         output.len() < BATCH_LEAST,
         is_wrong(list),
         false,
-    );
-    match verdict {
-        Verdict::Refused(number) => Err(number),
-        Verdict::Passed => finished(give(state, journal, list, output)),
-    }
+    )?;
+    finished(give(state, journal, list, output))
 }

@@ -9,16 +9,15 @@ ghost use Rattle.chip.specs.Event.{Completion, Event};
 ghost use Rattle.sca.specs.Link as calls;
 ghost use Rattle.adapter.specs.Calls as adapters;
 ghost use Rattle.batch.specs.Batch as batches;
-ghost use Rattle.batch.specs.Inner.{finished};
 ghost use Rattle.sca.specs.Adapter.{pack_answer, pack_kept, pack_batch, is_set, left, packed, packed_batch};
 ghost use Rattle.control_room.specs.Calls as rooms;
 ghost use Rattle.sca.specs.ControlRoom as room;
 ghost use Rattle.sca.specs.Version.{version};
 
 use adapter::{Answer, KeptNumber};
-use batch::{Batch, Pass, Sample};
+use batch::{Batch, Sample};
 use control_room::Given;
-use numbers::{BAD_STATE, NO_FRAME};
+use numbers::{BAD_STATE, HAS_FRAME, NO_FRAME, REPLY_BYTES};
 use receiver::Received;
 use transmitter::Sent;
 
@@ -97,14 +96,19 @@ fn pack_kept(k: KeptNumber) -> u64
 
 // The number in bits 7 to 0, the length of each frame in bits 15 to 8, their port in bits 23 to 16, how many they are in bits 39 to 24, the sum
 // above.
-fn pack_batch(b: Batch) -> u64
-    ensures { result ≡ pack_batch b }
+fn pack_batch(answer: Result<Batch, u8>) -> u64
+    ensures { result ≡ pack_batch (batches.answer_of answer) }
 {
-    wide(b.number)
-        + 256 * wide(b.length)
-        + 65536 * wide(b.port)
-        + 16777216 * (b.frames as u64)
-        + 1099511627776 * (b.sum as u64)
+    match answer {
+        Ok(sent) => {
+            wide(HAS_FRAME)
+                + 256 * wide(REPLY_BYTES as u8)
+                + 65536 * wide(sent.port)
+                + 16777216 * (sent.frames as u64)
+                + 1099511627776 * (sent.sum as u64)
+        }
+        Err(number) => wide(number),
+    }
 }
 
 // A new adapter for a chip of this ID.
@@ -196,23 +200,11 @@ pub fn sca_sample(
     pack_answer(adapter::sample(state, journal, levels, kind, output))
 }
 
-// What a batch gives that has come to its end.
-fn batch_result(p: Pass) -> u64
-    ensures { result ≡ pack_batch (finished p) }
-{
-    pack_batch(batch::finish(p))
-}
-
-// Pin samples by the batch: the list is walked here, once to look at it and once to do it.
+// Pin samples by the batch.
 pub fn sca_samples(state: &mut [u8], journal: &mut [u8], list: &[Sample], output: &mut [u8]) -> u64
     ensures { left result state.new journal.new output.new ≡ packed_batch (batches.called state.old journal.old list.now output.old) }
 {
-    let many = list.len();
-    let mut pass = batch::begin(state, journal, many, output.len());
-    while pass.at < many {
-        pass = batch::step(state, journal, output, many, pass, list[pass.at]);
-    }
-    batch_result(pass)
+    pack_batch(batch::samples(state, journal, list, output))
 }
 
 // An upset.

@@ -1,14 +1,12 @@
 use Rattle.batch.proofs.Given.{silent, counted}
 use Rattle.batch.proofs.step.Goals as goal
 
-pub returns-then-answer-ne-HAS_FRAME : goal.returns-then-answer-ne-HAS_FRAME
-returns-then-answer-ne-HAS_FRAME c =
+pub returns-in-Ok : goal.returns-in-Ok
+returns-in-Ok c =
     let r = c.requires.0 in
-    silent _ _ _ _ _ _ _ _ _ _ c.from-first.ensures r.formed r.room c.sample-answer.auto.output c.sample-answer.ensures c.if-answer-ne-HAS_FRAME.true
+    counted _ _ _ _ _ _ _ _ _ _ c.from-first.ensures r.formed r.room c.sample.auto.output c.sample.ensures _ _ c.in-Ok.is c.lines_of.ensures
 
-pub returns : goal.returns
-returns c =
+pub returns-in-Err : goal.returns-in-Err
+returns-in-Err c =
     let r = c.requires.0 in
-    let lines = c.lines_of.ensures in
-    counted _ _ _ _ _ _ _ _ _ _ c.from-first.ensures r.formed r.room c.sample-answer.auto.output c.sample-answer.ensures _ c.if-answer-ne-HAS_FRAME.false
-    lines.0 lines.1
+    silent _ _ _ _ _ _ _ _ _ _ c.from-first.ensures r.formed r.room c.sample.auto.output c.sample.ensures _ c.in-Err.is
