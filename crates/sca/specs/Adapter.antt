@@ -1,8 +1,7 @@
 -- The adapter's calls as C and Rust programs link them: the call of crate `adapter`, or a batch of crate `batch`, with what it gives packed into one
 -- number.
 use Rattle.std.specs.Prelude.{ℕ, ◌+◌, ◌*◌, Bool, not, List, eqb}
-use Rattle.adapter.specs.declared.Answer.{Answer}
-use Rattle.adapter.specs.declared.KeptNumber.{KeptNumber}
+use Rattle.adapter.specs.Answers.{Answer, KeptNumber}
 use Rattle.adapter.specs.Calls.{Outcome}
 use Rattle.batch.specs.Batch.{Batch}
 use Rattle.batch.specs.Batch as batches
