@@ -1,9 +1,10 @@
--- The second pass gives what the samples give one by one: `stands` along the list. Assumes nothing.
+-- A batch gives what its samples give one by one: `stands` along the list. Assumes nothing.
 use Prim.Native.Nat.{ℕ, ◌+◌, ◌*◌, ◌≤◌}
 use mathlib.Core.Path.{◌≡◌, refl, sym, ap, ap₂, ◌∙◌, subst}
 use mathlib.Core.Bool.{Bool, true, false, not, cond}
 use mathlib.Core.List.{List, [], ◌∷◌, ◌++◌, foldl, flatten, append-nil, append_assoc}
 use native.Mathlib.Omega.{arith}
+use Rattle.std.specs.List.{fold}
 use lib.ListN.{length, take, drop, length-append, take-append-drop}
 use lib.Seq.{drop-drop}
 use lib.Count.{ones}
@@ -16,7 +17,7 @@ use Rattle.registers.specs.Registers.{read}
 use Rattle.registers.specs.Pins.{sampled, interrupts}
 use Rattle.channels.specs.Rows.{is_enabled}
 use Rattle.parts.specs.Parts.{part, put}
-use Rattle.parts.proofs.Laws.{put_put, put_all, part_put_same, length_part, length_put}
+use Rattle.parts.proofs.Laws.{put_put, put_all, length_part, length_put}
 use Rattle.packets.specs.Packets.{data_of, reply_body}
 use Rattle.state.specs.State.{Adapter, with_registers}
 use Rattle.state.specs.Bytes.{state_bytes, link_of, state_in}
@@ -27,9 +28,9 @@ use Rattle.chip.specs.Request.{replies}
 use Rattle.chip.specs.Chip.{reaction, on_sample}
 use Rattle.adapter.specs.Calls.{done}
 use Rattle.batch.specs.declared.Sample.{Sample}
-use Rattle.batch.specs.declared.Pass.{Pass}
+use Rattle.batch.specs.declared.Batch.{Batch}
 use Rattle.batch.specs.Batch.{event_of, Course, onward, lines_in}
-use Rattle.batch.specs.Inner.{Going, going, sampled_at, given}
+use Rattle.batch.specs.Inner.{Going, going, given}
 
 -- ---- what a sample comes to: a number without a frame, or an interrupt on the active port, which stays
 
@@ -84,7 +85,7 @@ put_same a n d h =
     ∙ ap (λ (t : List ℕ). take a d ++ t) (take-append-drop n (drop a d))
     ∙ take-append-drop a d
 
--- ---- where the second pass stands, by the samples given one by one
+-- ---- where a batch stands, by the samples given one by one
 
 pub record Stands (active : ℕ) (out : List ℕ) (c : Course) (g : Going) : Type 0 where
   pub state : g.state ≡ c.state
@@ -92,51 +93,50 @@ pub record Stands (active : ℕ) (out : List ℕ) (c : Course) (g : Going) : Typ
   pub output : g.output ≡ put 0 (flatten c.bodies) out
   pub long : length (flatten c.bodies) ≡ 10 * length c.bodies
   pub stays : (link_of c.state).port ≡ active
-  pub port : (g.pass.frames ≡ 0 → ⊥) → g.pass.port ≡ active
-  pub frames : g.pass.frames ≡ length c.bodies
-  pub sum : g.pass.sum ≡ lines_in c.bodies
+  pub port : (g.sent.frames ≡ 0 → ⊥) → g.sent.port ≡ active
+  pub frames : g.sent.frames ≡ length c.bodies
+  pub sum : g.sent.sum ≡ lines_in c.bodies
 
-module _ (active : ℕ) (out s j o : List ℕ) (p : Pass) (bodies : List (List ℕ)) (x : Sample) where
+module _ (active : ℕ) (out s j o : List ℕ) (b : Batch) (bodies : List (List ℕ)) (x : Sample) where
   abbrev course : Course
   course = record { state = s; journal = j; bodies = bodies }
 
   abbrev before : Going
-  before = going s j o p
+  before = going s j o b
 
   module _ (h : Stands active out course before) (room : 10 * length bodies + 10 ≤ length out) where
-    first : 10 * p.frames ≡ 0 + length (flatten bodies)
+    first : 10 * b.frames ≡ 0 + length (flatten bodies)
     first = omega (arith, h.frames, h.long)
 
-    roomy : 10 * p.frames + 10 ≤ length o
+    roomy : 10 * b.frames + 10 ≤ length o
     roomy = let l = ap length h.output ∙ length_put 0 (flatten bodies) out (omega (arith, h.long)) in omega (arith, l, h.frames)
 
     along : (r : Reaction) → Shape active r → reaction (state_in s) (event_of x) ≡ r → Stands active out (onward course x) (given before x)
-    unfolding onward given sampled_at done
-    along r (quiet b n z q) e =
-        rw (e, ne_eqb _ _ z, append-nil bodies, put_same (10 * p.frames) 10 o roomy)
+    unfolding onward given done
+    along r (quiet a n z q) e =
+        rw (e, ne_eqb _ _ z, append-nil bodies, put_same (10 * b.frames) 10 o roomy)
         (record {
           state = refl;
           journal = refl;
           output = h.output;
           long = h.long;
-          stays = port_back b ∙ q;
+          stays = port_back a ∙ q;
           port = h.port;
           frames = h.frames;
           sum = h.sum;
         })
-    along r (interrupt b control trn ch err len d q) e =
+    along r (interrupt a control trn ch err len d q) e =
         let body : List ℕ = reply_body control trn ch err len d in
-        let whole : put 0 body (part (10 * p.frames) 10 o) ≡ body = put_all body _ (sym (length_part (10 * p.frames) 10 o roomy)) in
-        let there : part (10 * p.frames) 10 (put (10 * p.frames) body o) ≡ body = part_put_same (10 * p.frames) body o (omega (arith, roomy)) in
-        rw (e, whole, there)
+        let whole : put 0 body (part (10 * b.frames) 10 o) ≡ body = put_all body _ (sym (length_part (10 * b.frames) 10 o roomy)) in
+        rw (e, whole)
         (record {
           state = refl;
           journal = refl;
-          output = ap (put (10 * p.frames) body) h.output ∙ put_put 0 (flatten bodies) body out (10 * p.frames) first (omega (arith, h.long))
+          output = ap (put (10 * b.frames) body) h.output ∙ put_put 0 (flatten bodies) body out (10 * b.frames) first (omega (arith, h.long))
               ∙ ap (λ (l : List ℕ). put 0 l out) (sym (flat_more bodies body));
           long = ap length (flat_more bodies body) ∙ length-append (flatten bodies) body
               ∙ omega (arith, h.long, length-append bodies (body ∷ []));
-          stays = port_back b ∙ q;
+          stays = port_back a ∙ q;
           port = λ some. refl;
           frames = omega (arith, h.frames, length-append bodies (body ∷ []));
           sum = ap (λ (n : ℕ). n + ones (data_of body)) h.sum ∙ sym (lines_more bodies body);
@@ -160,14 +160,14 @@ one_more c x =
 stands_at : (active : ℕ) (out : List ℕ) (c : Course) (g : Going) (x : Sample) → Stands active out c g → 10 * length c.bodies + 10 ≤ length out
     → Stands active out (onward c x) (given g x)
 stands_at active out c g x h room =
-    let same : g ≡ going c.state c.journal g.output g.pass =
-    ap₂ (λ (s j : List ℕ). going s j g.output g.pass) h.state h.journal in
+    let same : g ≡ going c.state c.journal g.output g.sent =
+    ap₂ (λ (s j : List ℕ). going s j g.output g.sent) h.state h.journal in
     subst (λ (k : Going). Stands active out (onward c x) (given k x)) (sym same)
-    (stands_on active out c.state c.journal g.output g.pass c.bodies x (subst (Stands active out c) same h) room)
+    (stands_on active out c.state c.journal g.output g.sent c.bodies x (subst (Stands active out c) same h) room)
 
 -- along a list that has room
 pub stands : (active : ℕ) (out : List ℕ) (c : Course) (g : Going) (l : List Sample) → Stands active out c g
-    → 10 * (length c.bodies + length l) ≤ length out → Stands active out (foldl onward c l) (foldl given g l)
+    → 10 * (length c.bodies + length l) ≤ length out → Stands active out (foldl onward c l) (fold given g l)
 stands active out c g [] h room = h
 stands active out c g (x ∷ l) h room =
     stands active out (onward c x) (given g x) l (stands_at active out c g x h (omega (arith, room))) (omega (arith, room, one_more c x))

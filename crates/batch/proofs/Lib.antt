@@ -1,4 +1,4 @@
-pub mod Laws
 pub mod Course
-pub mod Ran
+pub mod Given
+pub mod Called
 pub mod OneOutcome

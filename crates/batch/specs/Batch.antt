@@ -1,5 +1,5 @@
 -- A batch of pin samples: document 02, request 2026-03. Each sample is an event of its own, given after the one before it.
-use Rattle.std.specs.Prelude.{ℕ, ◌+◌, Bool, false, not, cond, ◌||◌, length, eqb, ltb}
+use Rattle.std.specs.Prelude.{ℕ, ◌+◌, Bool, false, not, cond, ◌||◌, length, eqb, ltb, Result, Ok, Err}
 use mathlib.Core.List.{List, [], ◌∷◌, ◌++◌, foldl, flatten}
 use Rattle.std.specs.Int.Count.{ones}
 use Rattle.numbers.specs.Numbers.{has_frame, no_frame, reply_bytes, samples_most, batch_least}
@@ -9,12 +9,12 @@ use Rattle.state.specs.Bytes.{state_bytes, link_of, state_in, is_state}
 use Rattle.chip.specs.Event.{Event, sample}
 use Rattle.chip.specs.Chip.{reaction}
 use Rattle.journal.specs.Layout.{well_formed}
-use Rattle.adapter.specs.declared.Verdict.{Verdict}
-use Rattle.adapter.specs.declared.Verdict.TheVariants.{Refused, Passed}
+use Rattle.adapter.specs.declared.NoFrame.{NoFrame}
+use Rattle.adapter.specs.Answers.{Verdict, Refused, Passed, no_frame_number}
 use Rattle.adapter.specs.Refusals.{wrong_argument, in_order}
 use Rattle.adapter.specs.Calls.{recorded}
 use Rattle.batch.specs.declared.Sample.{Sample}
-use Rattle.batch.specs.declared.Batch.{Batch}
+use Rattle.batch.specs.declared.Batch as code
 
 abbrev pub event_of : Sample → Event
 event_of x = sample x.levels x.kind
@@ -50,6 +50,14 @@ unfoldable pub lines_in : List (List ℕ) → ℕ
 lines_in [] = 0
 lines_in (body ∷ more) = ones (data_of body) + lines_in more
 
+-- document 01's number, and with number 0 the port and the length of each frame, their number, and the sum of the lines that they name
+pub record Batch : Type 0 where
+  pub number : ℕ
+  pub port : ℕ
+  pub length : ℕ
+  pub frames : ℕ
+  pub sum : ℕ
+
 -- a number alone
 abbrev pub bare : ℕ → Batch
 bare number = record { number = number; port = 0; length = 0; frames = 0; sum = 0 }
@@ -63,6 +71,11 @@ reported port frames sum =
 -- for these bodies; they leave on the active port, which no sample changes
 abbrev pub answered : ℕ → List (List ℕ) → Batch
 answered port bodies = reported port (length bodies) (lines_in bodies)
+
+-- of what code gives: a batch that sent frames, or the number of the refusal or silence
+abbrev pub answer_of : Result code.Batch NoFrame → Batch
+answer_of (Ok b) = record { number = has_frame; port = b.port; length = reply_bytes; frames = b.frames; sum = b.sum }
+answer_of (Err e) = bare (no_frame_number e)
 
 -- ---- the call
 

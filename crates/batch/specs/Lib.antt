@@ -1,3 +1,3 @@
--- A batch of pin samples: what it is, and the two passes that do it.
+-- A batch of pin samples: what it is, and how code walks it.
 pub mod Batch
 pub mod Inner

@@ -1,10 +1,9 @@
 -- The adapter's calls as C and Rust programs link them: the call of crate `adapter`, or a batch of crate `batch`, with what it gives packed into one
 -- number.
 use Rattle.std.specs.Prelude.{ℕ, ◌+◌, ◌*◌, Bool, not, List, eqb}
-use Rattle.adapter.specs.declared.Answer.{Answer}
-use Rattle.adapter.specs.declared.KeptNumber.{KeptNumber}
+use Rattle.adapter.specs.Answers.{Answer, KeptNumber}
 use Rattle.adapter.specs.Calls.{Outcome}
-use Rattle.batch.specs.declared.Batch.{Batch}
+use Rattle.batch.specs.Batch.{Batch}
 use Rattle.batch.specs.Batch as batches
 
 -- the number in bits 7 to 0, the frame's length in bits 15 to 8, its port in bits 23 to 16

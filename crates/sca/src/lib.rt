@@ -4,31 +4,50 @@
 
 mod receiving;
 
-ghost use Rattle.std.specs.Prelude.{◌≡◌, ◌≤◌, ◌<◌};
+ghost use Rattle.std.specs.Prelude.{◌≡◌, ◌+◌, ◌*◌, ◌^◌, ◌≤◌, ◌<◌};
 ghost use Rattle.chip.specs.Event.{Completion, Event};
 ghost use Rattle.sca.specs.Link as calls;
+ghost use Rattle.adapter.specs.Answers.{answer_of, kept_number, number_after};
 ghost use Rattle.adapter.specs.Calls as adapters;
 ghost use Rattle.batch.specs.Batch as batches;
-ghost use Rattle.batch.specs.Inner.{finished};
 ghost use Rattle.sca.specs.Adapter.{pack_answer, pack_kept, pack_batch, is_set, left, packed, packed_batch};
 ghost use Rattle.control_room.specs.Calls as rooms;
 ghost use Rattle.sca.specs.ControlRoom as room;
 ghost use Rattle.sca.specs.Version.{version};
 
-use adapter::{Answer, KeptNumber};
-use batch::{Batch, Pass, Sample};
+use adapter::NoFrame;
+use batch::{Batch, Sample};
+use chip::Frame;
 use control_room::Given;
-use numbers::{BAD_STATE, NO_FRAME};
-use receiver::Received;
+use numbers::{HAS_FRAME, REPLY_BYTES, Refusal, Silence};
+use receiver::{Received, Receiver};
 use transmitter::Sent;
 
 const VERSION: u64 = 0x010500;
 
-// A number, in a result of 64 bits.
-fn wide(number: u8) -> u64
-    ensures { (result ≡ number) × (result < 256) }
+// What every result has: document 01's number in bits 7 to 0, a length in bits 15 to 8, and what else there is above.
+fn pack(number: u8, length: u8, above: u64) -> u64
+    requires { above < 2 ^ 48 }
+    ensures { result ≡ number + 256 * length + 65536 * above }
 {
-    number as u64
+    u64::from(number) + (u64::from(length) << 8) + (above << 16)
+}
+
+// A number alone.
+fn alone(number: u8) -> u64
+    ensures { result ≡ number }
+{
+    u64::from(number)
+}
+
+// 17 where it is done, or the refusal's number.
+fn pack_done(answer: Result<(), Refusal>) -> u64
+    ensures { result ≡ number_after answer }
+{
+    match answer {
+        Ok(()) => alone(Silence::NoFrame.into()),
+        Err(refusal) => alone(refusal.into()),
+    }
 }
 
 // The number in bits 7 to 0, the count of bytes written above.
@@ -36,7 +55,7 @@ fn pack_sent(s: Sent) -> u64
     requires { s.count ≤ 38 }
     ensures { result ≡ calls.pack_sent s }
 {
-    wide(s.number) + 256 * (s.count as u64)
+    alone(s.number) + 256 * (s.count as u64)
 }
 
 // The number in bits 7 to 0, the body's length in bits 15 to 8, the bits consumed above.
@@ -44,10 +63,11 @@ fn pack_received(r: Received) -> u64
     requires { (r.length ≤ 16) × (r.consumed ≤ 524288) }
     ensures { result ≡ calls.pack_received r }
 {
-    wide(r.number) + 256 * (r.length as u64) + 65536 * (r.consumed as u64)
+    alone(r.number) + 256 * (r.length as u64) + 65536 * (r.consumed as u64)
 }
 
 // Frames a body.
+#[tactic(auto, using(transmitter::proofs::Bounds::sent_small))]
 pub fn sca_transmit(body: &[u8], output: &mut [u8]) -> u64
     ensures value { result ≡ calls.transmit_result body.now output.old }
     ensures output_after { output.new ≡ calls.transmit_output body.now output.old }
@@ -60,65 +80,77 @@ pub fn sca_receiver_new(rx: &mut [u8]) -> u64
     ensures value { result ≡ calls.new_result rx.old }
     ensures rx_after { rx.new ≡ calls.new_receiver rx.old }
 {
-    if rx.len() == receiving::BYTES {
-        receiving::spell(receiver::Receiver::new(), rx);
-        return wide(NO_FRAME);
-    }
-    wide(BAD_STATE)
+    let Some(bytes) = rx.as_mut_array() else {
+        return alone(Refusal::BadState.into());
+    };
+    *bytes = receiving::bytes_of(Receiver::new());
+    alone(Silence::NoFrame.into())
 }
 
 // Reads cable bits from a start bit on, up to the first answer.
+#[tactic(auto, using(receiver::proofs::Bounds::received_small))]
 pub fn sca_receive(rx: &mut [u8], input: &[u8], start: usize, output: &mut [u8]) -> u64
     ensures value { result ≡ calls.receive_result rx.old input.now start output.old }
     ensures rx_after { rx.new ≡ calls.receive_receiver rx.old input.now start output.old }
     ensures output_after { output.new ≡ calls.receive_output rx.old input.now start output.old }
 {
-    if rx.len() == receiving::BYTES {
-        let got = receiver::receive(receiving::spelled_by(rx), input, start, output);
-        receiving::spell(got.rx, rx);
-        return pack_received(got);
+    let Some(bytes) = rx.as_mut_array() else {
+        return alone(Refusal::BadState.into());
+    };
+    let got = receiver::receive(receiving::spelled_by(bytes), input, start, output);
+    *bytes = receiving::bytes_of(got.rx);
+    pack_received(got)
+}
+
+// The frame's length in bits 15 to 8, its port in bits 23 to 16.
+fn pack_answer(answer: Result<Frame, NoFrame>) -> u64
+    ensures { result ≡ pack_answer (answer_of answer) }
+{
+    match answer {
+        Ok(frame) => pack(HAS_FRAME, frame.length, frame.port.into()),
+        Err(why) => alone(why.into()),
     }
-    wide(BAD_STATE)
 }
 
-// The number in bits 7 to 0, the frame's length in bits 15 to 8, its port in bits 23 to 16.
-fn pack_answer(a: Answer) -> u64
-    ensures { result ≡ pack_answer a }
+// The kept number in bits 15 to 8.
+fn pack_kept(answer: Result<u8, Refusal>) -> u64
+    ensures { result ≡ pack_kept (kept_number answer) }
 {
-    wide(a.number) + 256 * wide(a.length) + 65536 * wide(a.port)
+    match answer {
+        Ok(kept) => pack(Silence::NoFrame.into(), kept, 0),
+        Err(refusal) => alone(refusal.into()),
+    }
 }
 
-// The number in bits 7 to 0, the kept number in bits 15 to 8.
-fn pack_kept(k: KeptNumber) -> u64
-    ensures { result ≡ pack_kept k }
+// The length of each frame in bits 15 to 8, their port in bits 23 to 16, how many they are in bits 39 to 24, the sum above.
+fn pack_batch(answer: Result<Batch, NoFrame>) -> u64
+    ensures { result ≡ pack_batch (batches.answer_of answer) }
 {
-    wide(k.number) + 256 * wide(k.kept)
-}
-
-// The number in bits 7 to 0, the length of each frame in bits 15 to 8, their port in bits 23 to 16, how many they are in bits 39 to 24, the sum
-// above.
-fn pack_batch(b: Batch) -> u64
-    ensures { result ≡ pack_batch b }
-{
-    wide(b.number)
-        + 256 * wide(b.length)
-        + 65536 * wide(b.port)
-        + 16777216 * (b.frames as u64)
-        + 1099511627776 * (b.sum as u64)
+    match answer {
+        Ok(sent) => {
+            let counts = u64::from(sent.frames) + (u64::from(sent.sum) << 16);
+            pack(
+                HAS_FRAME,
+                REPLY_BYTES as u8,
+                u64::from(sent.port) + (counts << 8),
+            )
+        }
+        Err(why) => alone(why.into()),
+    }
 }
 
 // A new adapter for a chip of this ID.
 pub fn sca_create(state: &mut [u8], id: u32) -> u64
     ensures { adapters.made result state.new ≡ adapters.created state.old id }
 {
-    wide(adapter::create(state, id))
+    pack_done(adapter::create(state, id))
 }
 
 // Makes a journal empty.
 pub fn sca_empty(journal: &mut [u8]) -> u64
     ensures { adapters.made result journal.new ≡ adapters.made_empty journal.old }
 {
-    wide(adapter::empty(journal))
+    pack_done(adapter::empty(journal))
 }
 
 // How many events a journal can take back.
@@ -132,7 +164,7 @@ pub fn sca_kept(journal: &[u8]) -> u64
 pub fn sca_enlarge(journal: &[u8], second: &mut [u8]) -> u64
     ensures { adapters.copied result journal.now second.new ≡ adapters.made_large journal.now second.old }
 {
-    wide(adapter::enlarge(journal, second))
+    pack_done(adapter::enlarge(journal, second))
 }
 
 // A frame body on a port.
@@ -196,23 +228,11 @@ pub fn sca_sample(
     pack_answer(adapter::sample(state, journal, levels, kind, output))
 }
 
-// What a batch gives that has come to its end.
-fn batch_result(p: Pass) -> u64
-    ensures { result ≡ pack_batch (finished p) }
-{
-    pack_batch(batch::finish(p))
-}
-
-// Pin samples by the batch: the list is walked here, once to look at it and once to do it.
+// Pin samples by the batch.
 pub fn sca_samples(state: &mut [u8], journal: &mut [u8], list: &[Sample], output: &mut [u8]) -> u64
     ensures { left result state.new journal.new output.new ≡ packed_batch (batches.called state.old journal.old list.now output.old) }
 {
-    let many = list.len();
-    let mut pass = batch::begin(state, journal, many, output.len());
-    while pass.at < many {
-        pass = batch::step(state, journal, output, many, pass, list[pass.at]);
-    }
-    batch_result(pass)
+    pack_batch(batch::samples(state, journal, list, output))
 }
 
 // An upset.
@@ -226,14 +246,14 @@ pub fn sca_upset(state: &mut [u8], journal: &mut [u8], output: &mut [u8]) -> u64
 pub fn sca_step_back(state: &mut [u8], journal: &mut [u8]) -> u64
     ensures { adapters.stepped result state.new journal.new ≡ adapters.stepped_back state.old journal.old }
 {
-    wide(adapter::step_back(state, journal))
+    pack_done(adapter::step_back(state, journal))
 }
 
 // The number in bits 7 to 0, the bytes written in bits 15 to 8, 1 in bit 16 where an interrupt was read.
 fn pack_given(g: Given) -> u64
     ensures { result ≡ room.pack_given g }
 {
-    let written = wide(g.number) + 256 * wide(g.length);
+    let written = alone(g.number) + 256 * alone(g.length);
     if g.interrupt {
         written + 65536
     } else {
@@ -245,7 +265,7 @@ fn pack_given(g: Given) -> u64
 pub fn sca_record_new(transactions: &mut [u8]) -> u64
     ensures { rooms.made result transactions.new ≡ rooms.record_made transactions.old }
 {
-    wide(control_room::new_record(transactions))
+    alone(control_room::new_record(transactions))
 }
 
 // Writes the body of a request.

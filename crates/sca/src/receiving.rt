@@ -1,5 +1,5 @@
 // A receiver as bytes: mode, ones, lead, count, then the content's 20 bytes.
-ghost use Rattle.std.specs.Prelude.{◌≡◌, length};
+ghost use Rattle.std.specs.Prelude.{◌≡◌};
 ghost use Rattle.sca.specs.Link.{receiver_of, receiver_bytes};
 
 use receiver::Receiver;
@@ -11,12 +11,12 @@ const CONTENT: usize = 20;
 pub const BYTES: usize = HEAD + CONTENT;
 
 // The receiver that bytes spell.
-pub(crate) fn spelled_by(s: &[u8]) -> Receiver
-    requires { length s.now ≡ 24 }
+#[tactic(auto, unfolding(parts::specs::Parts::part))]
+pub(crate) fn spelled_by(s: &[u8; BYTES]) -> Receiver
     ensures { result ≡ receiver_of s.now }
 {
-    let mut bytes = [0u8; CONTENT];
-    parts::over(&mut bytes, &s[HEAD..BYTES]);
+    let mut bytes = [0; CONTENT];
+    bytes.copy_from_slice(&s[HEAD..]);
     Receiver {
         mode: s[0],
         ones: s[1],
@@ -26,13 +26,12 @@ pub(crate) fn spelled_by(s: &[u8]) -> Receiver
     }
 }
 
-// Spells a receiver.
-pub(crate) fn spell(rx: Receiver, s: &mut [u8])
-    requires { length s.old ≡ 24 }
-    ensures { s.new ≡ receiver_bytes rx }
+// The bytes that spell a receiver.
+pub(crate) fn bytes_of(rx: Receiver) -> [u8; BYTES]
+    ensures { result ≡ receiver_bytes rx }
 {
-    let head = [rx.mode, rx.ones, rx.lead, rx.count];
-    let bytes = rx.bytes;
-    parts::store(s, 0, &head);
-    parts::store(s, HEAD, &bytes);
+    let mut s = [0; BYTES];
+    s[..HEAD].copy_from_slice(&[rx.mode, rx.ones, rx.lead, rx.count]);
+    s[HEAD..].copy_from_slice(&rx.bytes);
+    s
 }

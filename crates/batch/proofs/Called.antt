@@ -1,0 +1,71 @@
+-- A batch's call, by its verdict: what refuses it, or what the samples leave that are given one by one. Assumes nothing.
+use Prim.Native.Nat.{ℕ}
+use mathlib.Core.Path.{◌≡◌, refl, sym, subst}
+use mathlib.Core.Bool.{Bool, true, false, not, ◌||◌}
+use mathlib.Core.List.{List, flatten}
+use native.Mathlib.Omega.{arith}
+use lib.Dec.{eqb}
+use borrow.Author.Tests.{ltb-false, eqb-false}
+use Rattle.std.specs.List.{fold}
+use Rattle.parts.proofs.Laws.{put_none}
+use Rattle.state.specs.Bytes.{link_of}
+use Rattle.state.proofs.Spelling.{its_length}
+use Rattle.adapter.specs.Answers.{Refused, Passed}
+use Rattle.adapter.specs.Refusals.{in_order}
+use Rattle.batch.specs.declared.Sample.{Sample}
+use Rattle.batch.specs.declared.Batch as sent
+use Rattle.batch.specs.Batch.{Batch, outset, one_by_one, lines_in, reported, bare, verdict, outcome, called}
+use Rattle.batch.specs.Inner.{Fine, nothing_sent, going, given}
+use Rattle.batch.proofs.Course.{Stands, stands}
+
+by_order : (x y u v w : Bool) → in_order (not x) (not y) u (v || w) false ≡ Passed
+    → (x ≡ true) × (y ≡ true) × (u ≡ false) × (v ≡ false) × (w ≡ false)
+unfolding in_order
+by_order true true false false false e = (refl, refl, refl, refl, refl)
+by_order false y u v w e = absurd cc
+by_order true false u v w e = absurd cc
+by_order true true true v w e = absurd cc
+by_order true true false true w e = absurd cc
+by_order true true false false true e = absurd cc
+
+-- before the first sample
+at_outset : (s j o : List ℕ) → Stands (link_of s).port o (outset s j) (going s j o nothing_sent)
+unfolding flatten lines_in
+at_outset s j o =
+    record {
+      state = refl;
+      journal = refl;
+      output = put_none 0 o;
+      long = refl;
+      stays = refl;
+      port = λ some. absurd (some refl);
+      frames = refl;
+      sum = refl;
+    }
+
+module _ (s j : List ℕ) (list : List Sample) (o : List ℕ) where
+  pub refused : (n : ℕ) → verdict s j list o ≡ Refused n → outcome (bare n) s j o ≡ called s j list o
+  unfolding called
+  refused n e = rw e refl
+
+  module _ (e : verdict s j list o ≡ Passed) where
+    pub fine : Fine s j list o
+    fine =
+        let f = by_order _ _ _ _ _ e in
+        record { spelled = its_length s f.0; formed = f.1; roomy = ltb-false _ _ f.2; few = ltb-false _ _ f.3; kinds = f.4 }
+
+    module _ (s' j' o' : List ℕ) (b : sent.Batch) (g : going s' j' o' b ≡ fold given (going s j o nothing_sent) list) where
+      abbrev active : ℕ
+      active = (link_of s).port
+
+      end : Stands active o (one_by_one s j list) (going s' j' o' b)
+      end = subst (Stands active o (one_by_one s j list)) (sym g) (stands active o (outset s j) (going s j o nothing_sent) list (at_outset s j o) (omega (arith, fine)))
+
+      -- the port is told only with a frame
+      told : (t : Bool) → eqb b.frames 0 ≡ t → reported b.port b.frames b.sum ≡ reported active b.frames b.sum
+      told true e = rw e refl
+      told false e = rw (e, end.port (eqb-false _ _ e)) refl
+
+      pub given_all : (a : Batch) → a ≡ reported b.port b.frames b.sum → outcome a s' j' o' ≡ called s j list o
+      unfolding called
+      given_all a q = rw (q, told _ refl, e, end.state, end.journal, end.output, end.frames, end.sum) refl

@@ -1,9 +1,0 @@
--- What the control room's call gives, packed.
-use borrow.Author.Rules.{rules}
-use Rattle.bits.proofs.Answered.{four}
-use Rattle.sca.proofs.Packing.{room_packs}
-use Rattle.sca.proofs.sca_command.Statement.{statement}
-use Rattle.sca.proofs.sca_command.Tie as tie
-
-pub sca_command_spec : {M : Type 1} → statement M
-sca_command_spec = tie.close (four tie.spec (search rules) (λ c. search room_packs))
