@@ -1,5 +1,5 @@
 -- Two results that stand for one transmission are one.
-use Rattle.std.proofs.Common.{◌≡◌, ℕ, Result, Ok, Err, sym, ap, arith}
+use Rattle.std.proofs.Common.{◌≡◌, ℕ, Result, Ok, Err, ap, arith}
 use Rattle.numbers.specs.declared.Refusal.{Refusal}
 use Rattle.numbers.proofs.Same.{refusal_same, refusal_some}
 use Rattle.transmitter.specs.Transmit.{Sent, sent_of}

@@ -2,6 +2,7 @@
 #![tactic(auto)]
 
 mod framing;
+mod stuffing;
 
 ghost use Rattle.std.specs.Prelude.{◌≡◌};
 ghost use Rattle.transmitter.specs.Transmit as transmit;
@@ -9,10 +10,7 @@ ghost use Rattle.transmitter.specs.Transmit as transmit;
 use numbers::{BODY_LEAST, BODY_MOST, CABLE_MOST, Refusal};
 
 // Frames a body: how many bytes were written.
-#[tactic(
-    auto,
-    unfolding(crate::specs::Transmit::transmitted, crate::specs::Transmit::output_after)
-)]
+#[tactic(auto, unfolding(crate::specs::Transmit::transmitted, crate::specs::Transmit::output_after))]
 pub fn transmit(body: &[u8], output: &mut [u8]) -> Result<usize, Refusal>
     ensures value { transmit.sent_of result ≡ transmit.transmitted body.now output.old }
     ensures output_after { output.new ≡ transmit.output_after body.now output.old }
