@@ -1,44 +1,20 @@
 -- The laws of characters: hex digits, pairs in and out. Assumes nothing.
-use Prim.Native.Nat.{ℕ, zero, suc, ◌+◌, ◌*◌, ◌-◌, ◌/◌, ◌%◌, ◌≤◌, ◌<◌}
+use Prim.Native.Nat.{ℕ, zero, suc, ◌+◌, ◌*◌, ◌/◌, ◌%◌, ◌<◌}
 use mathlib.Core.Path.{◌≡◌, refl, sym, ap, ◌∙◌}
-use mathlib.Core.Bool.{Bool, true, false, cond, or_assoc}
+use mathlib.Core.Bool.{or_assoc}
 use mathlib.Core.List.{List, [], ◌∷◌, ◌++◌}
 use native.Mathlib.Numerals.{add-one}
 use native.Mathlib.Omega.{arith}
 use lib.ListN.{length, take, drop, set}
 use lib.Seq.{take-suc-set, take_all, drop-drop}
-use lib.Dec.{leb}
-use borrow.Author.Tests.{leb-true}
+use Rattle.std.proofs.lemmas.Grind.{common_steps}
 use Rattle.std.specs.List.{list_all}
 use Rattle.std.specs.Char.{is_ascii_hexdigit}
-use Rattle.bits.proofs.Tests.{and_left, and_right}
-use Rattle.listing.specs.Characters.{between, is_hex, hex_value, all_hex, front_pair, pair_bytes, hex_digit, hex_text}
-
--- ---- ranges of characters
-
-pub low_end : (low high c : ℕ) (t : Bool) → t ≡ between low high c → t ≡ true → low ≤ c
-low_end low high c t e h = leb-true low c (and_left _ (leb c high) (sym e ∙ h))
-
-pub high_end : (low high c : ℕ) (t : Bool) → t ≡ between low high c → t ≡ true → c ≤ high
-high_end low high c t e h = leb-true c high (and_right (leb low c) _ (sym e ∙ h))
-
--- ---- the value of a digit
+use Rattle.listing.specs.Characters.{is_hex, hex_value, all_hex, front_pair, pair_bytes, hex_digit, hex_text}
 
 pub value_small : (c : ℕ) → hex_value c < 16
 unfolding hex_value
-value_small c = by_digit (between 48 57 c) refl
-  where
-    by_lower : (v : Bool) → v ≡ between 97 102 c → cond v (c - 87) 0 < 16
-    by_lower true e = let h = high_end 97 102 c true e refl in omega arith
-    by_lower false e = omega arith
-
-    by_upper : (u : Bool) → u ≡ between 65 70 c → cond u (c - 55) (cond (between 97 102 c) (c - 87) 0) < 16
-    by_upper true e = let h = high_end 65 70 c true e refl in omega arith
-    by_upper false e = by_lower (between 97 102 c) refl
-
-    by_digit : (t : Bool) → t ≡ between 48 57 c → cond t (c - 48) (cond (between 65 70 c) (c - 55) (cond (between 97 102 c) (c - 87) 0)) < 16
-    by_digit true e = let h = high_end 48 57 c true e refl in omega arith
-    by_digit false e = by_upper (between 65 70 c) refl
+value_small c = grind (arith, common_steps)
 
 -- ---- hex digits alone
 
@@ -49,16 +25,10 @@ hex_all (c ∷ s) = let h = hex_all s in grind (arith, or_assoc)
 
 -- ---- pairs in
 
-two_more : (n : ℕ) → 2 + 2 * n ≡ 2 * suc n
-two_more n = omega arith
-
 pairs_snoc : (n : ℕ) (s : List ℕ) → pair_bytes (suc n) s ≡ pair_bytes n s ++ (front_pair (drop (2 * n) s) ∷ [])
 unfolding pair_bytes
 pairs_snoc zero s = refl
-pairs_snoc (suc n) s =
-    ap (λ (l : List ℕ). front_pair s ∷ l)
-    (pairs_snoc n (drop 2 s)
-    ∙ ap (λ (l : List ℕ). pair_bytes n (drop 2 s) ++ (front_pair l ∷ [])) (drop-drop (2 * n) 2 s ∙ ap (λ (m : ℕ). drop m s) (two_more n)))
+pairs_snoc (suc n) s = rw (pairs_snoc n (drop 2 s), drop-drop (2 * n) 2 s) (let h : 2 + 2 * n ≡ 2 * suc n = omega arith in rw h refl)
 
 pub pair_none : (s : List ℕ) → pair_bytes 0 s ≡ []
 unfolding pair_bytes

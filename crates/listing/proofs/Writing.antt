@@ -1,10 +1,11 @@
 -- Texts written one behind the other into a lent buffer are one text. Assumes nothing.
 use Prim.Native.Nat.{ℕ, ◌+◌, ◌*◌, ◌/◌, ◌%◌, ◌≤◌, ◌<◌}
 use mathlib.Core.Path.{◌≡◌, refl, sym, ap, ◌∙◌}
-use mathlib.Core.Bool.{Bool, true, false, cond}
+use mathlib.Core.Bool.{Bool, cond}
 use mathlib.Core.List.{List, [], ◌∷◌, ◌++◌, append_assoc}
 use native.Mathlib.Numerals.{add-one}
 use native.Mathlib.Omega.{arith}
+use Rattle.std.proofs.lemmas.Grind.{common_steps}
 use lib.ListN.{length, take, get_or, set, length-append}
 use lib.Seq.{set_split, take-suc, take_all, length-take-le}
 use lib.Dec.{eqb, leb}
@@ -22,8 +23,7 @@ pub nothing_put : (at : ℕ) (o : List ℕ) → put at [] o ≡ o
 nothing_put at o = sym (put_none at o)
 
 pub length_optional : (w : Bool) (b : ℕ) → length (optional w b) ≤ 1
-length_optional true b = omega arith
-length_optional false b = omega arith
+length_optional w b = grind (arith, common_steps)
 
 -- ---- each text as its parts, in the order of writing
 
@@ -32,10 +32,7 @@ unfolding decimal
 decimal_parts n = simp append_assoc
 
 pub length_decimal : (n : ℕ) → length (decimal n) ≤ 3
-length_decimal n =
-    rw decimal_parts
-    (simp (length-append)
-    (omega (arith, length_optional (leb 100 n) (48 + n / 100), length_optional (leb 10 n) (48 + n / 10 % 10))))
+length_decimal n = grind (arith, common_steps, decimal_parts, length_optional)
 
 pub hex_none : hex_text [] ≡ []
 unfolding hex_text
@@ -60,8 +57,7 @@ frame_parts port body = ap (λ (l : List ℕ). space ∷ l) (sym (append_assoc (
 
 pub length_frame : (w : Bool) (port : ℕ) (body : List ℕ) → length (cond w (frame_text port body) []) ≤ 5 + 2 * length body
 unfolding frame_text
-length_frame true port body = simp (length-append, length_hex) (let d = length_decimal port in omega arith)
-length_frame false port body = omega arith
+length_frame w port body = grind (arith, common_steps, length_decimal, length_hex)
 
 pub answer_parts : (number kept port : ℕ) (body : List ℕ)
     → answer_text number kept port body
