@@ -37,9 +37,8 @@ pub struct Given {
 pub fn new_record(transactions: &mut [u8]) -> Result<(), Refusal>
     ensures { made (number_after result) transactions.new ≡ record_made transactions.old }
 {
-    let Some(record) = transactions.as_mut_array::<{ record::BYTES }>() else {
-        return Err(Refusal::BadState);
-    };
+    let record: &mut [u8; record::BYTES] =
+        transactions.as_mut_array().ok_or(Refusal::BadState)?;
     record.fill(0);
     Ok(())
 }
@@ -95,9 +94,7 @@ pub fn request(
 ) -> Result<Given, Refusal>
     ensures { outcome (given_of result) transactions.new output.new ≡ request_written transactions.old channel command value output.old }
 {
-    let Some(record) = transactions.as_mut_array() else {
-        return Err(Refusal::BadState);
-    };
+    let record = transactions.as_mut_array().ok_or(Refusal::BadState)?;
     judge(record, output)?;
     write(record, channel, command, value, output)
 }
@@ -118,9 +115,7 @@ fn read(record: &mut [u8; record::BYTES], body: &[u8], output: &mut [u8]) -> Res
     requires { output_least ≤ length output.old }
     ensures { outcome (given_of result) record.new output.new ≡ read record.old body.now output.old }
 {
-    let Some(body) = body.as_array() else {
-        return Err(Refusal::BadReply);
-    };
+    let body = body.as_array().ok_or(Refusal::BadReply)?;
     let interrupt = body[2] == INTERRUPT && body[3] == INTERRUPT_CHANNEL;
     let cmd = if interrupt {
         0
@@ -139,9 +134,7 @@ fn read(record: &mut [u8; record::BYTES], body: &[u8], output: &mut [u8]) -> Res
 pub fn reply(transactions: &mut [u8], body: &[u8], output: &mut [u8]) -> Result<Given, Refusal>
     ensures { outcome (given_of result) transactions.new output.new ≡ reply_read transactions.old body.now output.old }
 {
-    let Some(record) = transactions.as_mut_array() else {
-        return Err(Refusal::BadState);
-    };
+    let record = transactions.as_mut_array().ok_or(Refusal::BadState)?;
     judge(record, output)?;
     read(record, body, output)
 }
@@ -173,9 +166,7 @@ fn write_command(
 pub fn command(transactions: &mut [u8], control: u32, output: &mut [u8]) -> Result<Given, Refusal>
     ensures { outcome (given_of result) transactions.new output.new ≡ command_written transactions.old control output.old }
 {
-    let Some(record) = transactions.as_mut_array() else {
-        return Err(Refusal::BadState);
-    };
+    let record = transactions.as_mut_array().ok_or(Refusal::BadState)?;
     judge(record, output)?;
     write_command(record, control, output)
 }
