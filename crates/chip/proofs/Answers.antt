@@ -3,7 +3,8 @@ use Rattle.std.proofs.Common.{◌≡◌, ℕ, List, length, refl, ◌∙◌, ap�
 use Rattle.commands.specs.declared.request.Request.{Request}
 use Rattle.commands.specs.declared.request.Reply.{Reply}
 use Rattle.commands.specs.declared.request.Reply.TheVariants.{Sent, Later}
-use Rattle.numbers.specs.Numbers.{no_frame, reply_bytes}
+use Rattle.numbers.specs.Numbers.{reply_bytes}
+use Rattle.numbers.specs.declared.Silence.TheVariants.{NoFrame}
 use Rattle.parts.specs.Parts.{put}
 use Rattle.packets.specs.Packets.{request_of, reply_body}
 use Rattle.channels.specs.Perform as channels
@@ -34,7 +35,7 @@ module _ (l : Link) (trn ch : ℕ) (t : Reply) (o : List ℕ) (r : Response) whe
       → (rs : List ℕ) → said r rs p ≡ says (finished (adapter l rs) trn ch t) o
   told p err len d e f rs = simp (e, f rs)
 
-  pub later : t ≡ Later → r ≡ given l no_frame → (rs : List ℕ) → said r rs o ≡ says (finished (adapter l rs) trn ch t) o
+  pub later : t ≡ Later → r ≡ given l NoFrame → (rs : List ℕ) → said r rs o ≡ says (finished (adapter l rs) trn ch t) o
   later e f rs = simp (e, f)
 
 module _ (l : Link) (rs s o : List ℕ) where

@@ -2,7 +2,9 @@
 use Rattle.std.proofs.Common.{◌≡◌, ℕ, suc, ◌-◌, ◌≤◌, Bool, true, false, cond, not, eqb, List, [], ◌∷◌, length, get_or, take, drop, sym, refl, ◌∙◌, le_of_eq, arith, length-drop, take_all, eq-eqb, ne_eqb}
 use lib.Dec.{eqb-suc-suc}
 use Rattle.bits.proofs.Bits.{bit_set, bit_clear}
-use Rattle.numbers.specs.Numbers.{bad_information}
+use Rattle.numbers.specs.Answers.{silence_number}
+use Rattle.numbers.specs.declared.Silence.{Silence}
+use Rattle.numbers.specs.declared.Silence.TheVariants.{BadInformation}
 use Rattle.parts.specs.Parts.{put}
 use Rattle.packets.specs.Packets.{request_of}
 use Rattle.commands.specs.declared.command.Register.TheVariants.{ChipId}
@@ -49,8 +51,9 @@ pub tested : (b t u : Bool) → b ≡ t → b ≡ u → t ≡ u
 tested b t u e h = sym e ∙ h
 
 -- no frame
-pub gives_none : (l : Link) (rs : List ℕ) (n : ℕ) (o : List ℕ) (r : Response) → r ≡ given l n → said r rs o ≡ says (gives (adapter l rs) n) o
-gives_none l rs n o r e = simp e
+pub gives_none : (l : Link) (rs : List ℕ) (n : ℕ) (o : List ℕ) (r : Response) (s : Silence) → r ≡ given l s → silence_number s ≡ n
+    → said r rs o ≡ says (gives (adapter l rs) n) o
+gives_none l rs n o r s e f = rw (e, f) refl
 
 pub ruleset choices = (says_first, says_else, off, on, tested, eq-eqb, ne_eqb, bit_set, bit_clear, gives_none)
 
@@ -81,7 +84,7 @@ module _ (l : Link) (rs : List ℕ) (port : ℕ) (s o : List ℕ) (r : Response)
   reset_done m id ss p n e f g h = h ss ∙ simp (empty s n, f, e, g)
 
   -- whatever the command is
-  pub informed : (b : Adapter) → (length s ≡ 2 → ⊥) → 2 ≤ length s → r ≡ given l bad_information → said r rs o ≡ says (commanded (adapter l rs) b port s) o
+  pub informed : (b : Adapter) → (length s ≡ 2 → ⊥) → 2 ≤ length s → r ≡ given l BadInformation → said r rs o ≡ says (commanded (adapter l rs) b port s) o
   unfolding commanded
   informed b n h e = simp (full s n h, e)
 
@@ -104,7 +107,7 @@ module _ (l : Link) (rs : List ℕ) (port : ℕ) (s o : List ℕ) (t : Bool) (q 
   unfolding carried
   echoed r p e g h = simp (sym q ∙ e, g, h)
 
-  pub misfit : (r : Response) → t ≡ false → port ≡ l.port → (length s - 2 ≡ 8 → ⊥) → r ≡ given l bad_information
+  pub misfit : (r : Response) → t ≡ false → port ≡ l.port → (length s - 2 ≡ 8 → ⊥) → r ≡ given l BadInformation
       → said r rs o ≡ says (carried (adapter l rs) port s) o
   unfolding carried
   misfit r e h n g = simp (sym q ∙ e, eq-eqb _ _ h, ne_eqb (length (drop 2 s)) 8 (λ x. n (sym (length-drop 2 s) ∙ x)), g)

@@ -1,6 +1,6 @@
 -- What frames, completions, pin samples and upsets come to. `search` finds the premises in what a need knows, wherever they stand.
 use Rattle.std.proofs.Common.{◌≡◌, ℕ, ◌+◌, ◌-◌, ◌/◌, ◌%◌, ◌^◌, Bool, true, false, List, sym, ◌∙◌}
-use Rattle.numbers.specs.Numbers.{no_frame}
+use Rattle.numbers.specs.declared.Silence.TheVariants.{NoFrame}
 use Rattle.commands.specs.declared.channel.Channel.TheVariants as channels
 use Rattle.commands.specs.declared.command.Command.{Command}
 use Rattle.commands.specs.declared.command.Command.TheVariants.{Known}
@@ -54,11 +54,11 @@ module _ (l : Link) (rs : List ℕ) (levels kind : ℕ) (o : List ℕ) (on : Boo
   unfolding reaction on_sample
   interrupted r p d i v g = simp (sym e ∙ h, ← k, sym f ∙ i, g after, v)
 
-  pub taken : (r : Response) → t ≡ false → r ≡ given l no_frame → said r after o ≡ says (reaction (adapter l rs) (sample levels kind)) o
+  pub taken : (r : Response) → t ≡ false → r ≡ given l NoFrame → said r after o ≡ says (reaction (adapter l rs) (sample levels kind)) o
   unfolding reaction on_sample
   taken r i g = simp (sym e ∙ h, ← k, sym f ∙ i, g)
 
 pub upsets : (l : Link) (rs : List ℕ) (r : Response) (was n : ℕ) (after : List ℕ) → was ≡ read rs Seu → n ≡ (was + 1) % 2 ^ 32
-    → after ≡ store rs Seu n → r ≡ given l no_frame → (o : List ℕ) → said r after o ≡ says (reaction (adapter l rs) upset) o
+    → after ≡ store rs Seu n → r ≡ given l NoFrame → (o : List ℕ) → said r after o ≡ says (reaction (adapter l rs) upset) o
 unfolding reaction on_upset
 upsets l rs r was n after w e s g o = simp (g, s, e, w)

@@ -10,7 +10,7 @@ ghost use Rattle.chip.specs.Inner.{said, says};
 ghost use Rattle.chip.specs.Chip.{transferred, transaction_of, started_by, given_by, transacted, reaction, accepted_reset};
 ghost use Rattle.chip.specs.Group.{group_of};
 
-use crate::{Response, answer, frame, request};
+use crate::{Response, answer, checks, request};
 use channels::groups;
 use channels::groups::Group;
 use commands::channel;
@@ -19,6 +19,7 @@ use commands::command::{Command, Does, Register, Transaction};
 use commands::request::INTERRUPT;
 use commands::spi::GO;
 use link::Link;
+use numbers::Silence;
 use registers::{gpio, i2c, spi};
 
 // The channels of a GO's reply and of an interrupt; an interrupt's LEN.
@@ -47,7 +48,7 @@ pub fn on_frame(
     requires output_least_in_bounds { output_least ≤ length output.old }
     ensures { said result registers.new output.new ≡ says (reaction (adapter link registers.old) (Event.frame port body.now)) output.old }
 {
-    frame::check(link, registers, port, body, output)
+    checks::check(link, registers, port, body, output)
 }
 
 // Whether a frame body is a RESET that every state accepts.
@@ -55,7 +56,7 @@ pub fn is_reset(body: &[u8]) -> bool
     requires { body_least ≤ length body.now }
     ensures { result ≡ accepted_reset (Event.frame 0 body.now) }
 {
-    frame::resets(body)
+    checks::resets(body)
 }
 
 // What a frame body may change besides the core.
@@ -91,7 +92,7 @@ pub fn on_spi(link: Link, registers: &mut [u8], received: &[u8], output: &mut [u
     if channels::is_busy(registers, Channel::Spi) {
         transfer(link, registers, received, output)
     } else {
-        answer::give(link, numbers::NOT_BUSY)
+        answer::give(link, Silence::NotBusy)
     }
 }
 
@@ -176,7 +177,7 @@ pub fn on_i2c(
     if channels::is_busy(registers, Channel::Master(channel - FIRST_MASTER)) {
         transact(link, registers, channel, acknowledge, low, received, output)
     } else {
-        answer::give(link, numbers::NOT_BUSY)
+        answer::give(link, Silence::NotBusy)
     }
 }
 
@@ -213,10 +214,10 @@ pub fn on_sample(
                 output,
             )
         } else {
-            answer::give(link, numbers::NO_FRAME)
+            answer::give(link, Silence::NoFrame)
         }
     } else {
-        answer::give(link, numbers::LINES_DISABLED)
+        answer::give(link, Silence::LinesDisabled)
     }
 }
 
@@ -227,5 +228,5 @@ pub fn on_upset(link: Link, registers: &mut [u8]) -> Response
 {
     let count = std::num::wrapping_add_u32(registers::read(registers, Register::Seu), 1);
     registers::store(registers, Register::Seu, count);
-    answer::give(link, numbers::NO_FRAME)
+    answer::give(link, Silence::NoFrame)
 }

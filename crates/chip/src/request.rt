@@ -9,6 +9,7 @@ ghost use Rattle.chip.specs.Request.{replies, finished, requested};
 use crate::{Response, answer};
 use commands::request::Reply;
 use link::Link;
+use numbers::Silence;
 
 // A reply or an interrupt, on the active port; the send number then goes up. It is the same whatever the registers are.
 pub(crate) fn reply(
@@ -38,7 +39,7 @@ fn finish(link: Link, trn: u8, ch: u8, told: Reply, output: &mut [u8]) -> Respon
             length,
             value,
         } => reply(link, trn, ch, error, length, value, output),
-        Reply::Later => answer::give(link, numbers::NO_FRAME),
+        Reply::Later => answer::give(link, Silence::NoFrame),
     }
 }
 
