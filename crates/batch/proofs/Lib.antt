@@ -1,3 +1,4 @@
+pub mod Wrong
 pub mod Course
 pub mod Given
 pub mod Called

@@ -81,10 +81,10 @@ pub fn sca_receiver_new(rx: &mut [u8]) -> u64
     ensures rx_after { rx.new ≡ calls.new_receiver rx.old }
 {
     let Some(bytes) = rx.as_mut_array() else {
-        return alone(Refusal::BadState.into());
+        return pack_done(Err(Refusal::BadState));
     };
     *bytes = receiving::bytes_of(Receiver::new());
-    alone(Silence::NoFrame.into())
+    pack_done(Ok(()))
 }
 
 // Reads cable bits from a start bit on, up to the first answer.
@@ -95,7 +95,7 @@ pub fn sca_receive(rx: &mut [u8], input: &[u8], start: usize, output: &mut [u8])
     ensures output_after { output.new ≡ calls.receive_output rx.old input.now start output.old }
 {
     let Some(bytes) = rx.as_mut_array() else {
-        return alone(Refusal::BadState.into());
+        return pack_done(Err(Refusal::BadState));
     };
     let got = receiver::receive(receiving::spelled_by(bytes), input, start, output);
     *bytes = receiving::bytes_of(got.rx);
@@ -127,14 +127,11 @@ fn pack_batch(answer: Result<Batch, NoFrame>) -> u64
     ensures { result ≡ pack_batch (batches.answer_of answer) }
 {
     match answer {
-        Ok(sent) => {
-            let counts = u64::from(sent.frames) + (u64::from(sent.sum) << 16);
-            pack(
-                HAS_FRAME,
-                REPLY_BYTES as u8,
-                u64::from(sent.port) + (counts << 8),
-            )
-        }
+        Ok(sent) => pack(
+            HAS_FRAME,
+            REPLY_BYTES as u8,
+            u64::from(sent.port) + (u64::from(sent.frames) << 8) + (u64::from(sent.sum) << 24),
+        ),
         Err(why) => alone(why.into()),
     }
 }

@@ -1,23 +1,8 @@
-use Rattle.std.proofs.Common.{◌≡◌, ℕ, ◌<◌, ◌≤◌, ltb, List, length, get_or, Bool, true, false, refl, arith, ap, sym, ◌∙◌}
-use Rattle.std.proofs.lemmas.List.Recursion.{or_at}
+use Rattle.std.proofs.Common.{get_or, refl, arith, ap, sym, ◌∙◌}
 use Rattle.std.proofs.lemmas.List.Sums.{fold_more}
-use borrow.Author.Tests.{ltb-false}
-use Rattle.batch.specs.declared.Sample.{Sample}
-use Rattle.batch.specs.Batch.{some_wrong}
 use Rattle.batch.specs.Inner.{Going, given}
+use Rattle.batch.proofs.Wrong.{dark, right_one}
 use Rattle.batch.proofs.give.Goals as goal
-
--- a sample of no list
-abbrev dark : Sample
-dark = record { levels = 0; kind = 0 }
-
-right_one : (l : List Sample) (i : ℕ) → i < length l → some_wrong l ≡ false → (get_or l i dark).kind ≤ 2
-unfolding some_wrong
-right_one l i h g = by (ltb 2 (get_or l i dark).kind) refl
-  where
-    by : (t : Bool) → ltb 2 (get_or l i dark).kind ≡ t → (get_or l i dark).kind ≤ 2
-    by true e = let z : true ≡ false = sym (or_at some_wrong (λ x. ltb 2 x.kind) refl (λ _ _. refl) l i dark h e) ∙ g in absurd cc
-    by false e = ltb-false _ _ e
 
 pub loop-s-init : goal.loop-s-init
 loop-s-init c = (refl, c.requires.formed, omega arith, omega arith)
