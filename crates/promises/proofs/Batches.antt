@@ -25,8 +25,8 @@ use Rattle.chip.specs.Chip.{reaction, on_sample}
 use Rattle.chip.proofs.Laws.{sample_good}
 use Rattle.journal.specs.Layout.{well_formed}
 use Rattle.journal.proofs.Ring.{Well, of_well, well_of}
-use Rattle.adapter.specs.declared.Answer.{Answer}
-use Rattle.adapter.specs.declared.Verdict.TheVariants.{Passed}
+use Rattle.adapter.specs.Answers.{Answer}
+use Rattle.adapter.specs.Answers.{Passed}
 use Rattle.adapter.specs.Refusals.{in_order}
 use Rattle.adapter.specs.Calls.{Outcome, shown, recorded, called as single-called}
 use Rattle.adapter.proofs.Laws.{recorded_well}

@@ -12,11 +12,11 @@ use borrow.Author.Tests.{eqb-true, leb-true, ltb-false, not-false}
 use Rattle.numbers.specs.Numbers as number
 use Rattle.bits.proofs.Tests.{and_left, and_right, or_second, cond_cases, either}
 use Rattle.parts.specs.Parts.{put}
-use Rattle.transmitter.specs.declared.Sent.{Sent}
+use Rattle.transmitter.specs.Transmit.{Sent}
 use Rattle.transmitter.specs.Frame.{framed}
 use Rattle.transmitter.specs.Transmit as transmit
 use Rattle.receiver.specs.declared.Receiver.{Receiver}
-use Rattle.receiver.specs.declared.Received.{Received}
+use Rattle.receiver.specs.Received.{Received}
 use Rattle.receiver.specs.Receiver.{in_range}
 use Rattle.receiver.specs.Receive as receive
 use Rattle.state.specs.State.{power_on}
@@ -24,10 +24,11 @@ use Rattle.state.specs.Bytes.{state_size, state_bytes, is_state}
 use Rattle.chip.specs.Event.{Event}
 use Rattle.journal.specs.Layout.{wrong_length, well_formed, is_small, kept_of, past, emptied, lowered, enlarged}
 use Rattle.journal.specs.Record.{restored, sound}
-use Rattle.adapter.specs.declared.Verdict.{Verdict}
-use Rattle.adapter.specs.declared.Verdict.TheVariants.{Refused, Passed}
+use Rattle.adapter.specs.Answers.{Verdict}
+use Rattle.adapter.specs.Answers.{Refused, Passed}
 use Rattle.adapter.specs.Refusals.{wrong_argument, wrong_body, in_order, verdict, back_verdict}
-use Rattle.adapter.specs.Calls.{Made, made, created, made_empty, Copied, copied, made_large, Outcome, outcome, plain, done, judged, called, Stepped, stepped, judged_back, stepped_back}
+use Rattle.adapter.specs.Calls.{Made, made, created, made_empty, Copied, copied, made_large, Outcome, outcome, done, judged, called, Stepped, stepped, judged_back, stepped_back}
+use Rattle.adapter.specs.Answers.{plain}
 use Rattle.adapter.proofs.Cases.{unrefused}
 use Rattle.batch.specs.declared.Sample.{Sample}
 use Rattle.batch.specs.Batch as batches

@@ -21,7 +21,7 @@ use Rattle.parts.specs.Digits.{word, digits}
 use Rattle.parts.specs.Digits.{number as number_of}
 use Rattle.parts.proofs.Laws.{AreBytes, bytes_append, part_put_same}
 use Rattle.parts.proofs.Digits.{digits_number}
-use Rattle.receiver.specs.declared.Received.{Received}
+use Rattle.receiver.specs.Received.{Received}
 use Rattle.receiver.specs.Receiver.{hunting, image}
 use Rattle.receiver.specs.Receive.{received}
 use Rattle.receiver.specs.Receive as receive
@@ -71,15 +71,15 @@ use Rattle.chip.proofs.EventFits.{EventFits}
 use Rattle.chip.proofs.Bodies.{each_byte, Every, Framable, frame_bytes}
 use Rattle.journal.specs.Layout.{wrong_length, well_formed, emptied}
 use Rattle.journal.proofs.Ring.{of_well, well_of, emptied_well}
-use Rattle.adapter.specs.declared.Answer.{Answer}
-use Rattle.adapter.specs.declared.Verdict.TheVariants.{Passed}
+use Rattle.adapter.specs.Answers.{Answer}
+use Rattle.adapter.specs.Answers.{Passed}
 use Rattle.adapter.specs.Refusals.{wrong_completion, in_order, verdict}
 use Rattle.adapter.specs.Calls as adapter
 use Rattle.adapter.specs.Calls.{created, made_empty, called, done}
 use Rattle.adapter.proofs.Laws.{called_done, recorded_well}
 use Rattle.control_room.specs.Record.{record_size, number_at, frame_number, counted_up, command_at, is_listed, len_of, channel_in, command_in, is_open_to, closed, free_trn, is_record}
 use Rattle.control_room.specs.Calls.{Outcome, outcome, gives, taken, written, request_written, trn_of, ch_of, told, answered, matched, read, reply_read, command_written, record_made}
-use Rattle.control_room.specs.declared.Given.{Given}
+use Rattle.control_room.specs.Given.{Given}
 use Rattle.control_room.proofs.Laws.{Among, its_length, its_frame, length_with, number_other, stored_and_back}
 use Rattle.promises.specs.Runs.{CompletionOfTypes}
 use Rattle.promises.specs.ControlRoom.{request, command}

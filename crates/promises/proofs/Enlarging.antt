@@ -19,8 +19,8 @@ use Rattle.journal.specs.Record.{restored, sound}
 use Rattle.journal.proofs.Ring.{Well, well_of, of_well, emptied_well, emptied_kept, headed_size}
 use Rattle.journal.proofs.Enlarged.{small_well, small_length, large_size, large_room, enlarged_well, enlarged_kept, enlarged_past, enlarged_length}
 use Rattle.adapter.specs.Refusals.{in_order, verdict, back_verdict}
-use Rattle.adapter.specs.declared.Verdict.{Verdict}
-use Rattle.adapter.specs.declared.Verdict.TheVariants.{Refused}
+use Rattle.adapter.specs.Answers.{Verdict}
+use Rattle.adapter.specs.Answers.{Refused}
 use Rattle.adapter.specs.Calls.{made, made_empty, kept_in, made_large, stepped_back}
 use Rattle.adapter.proofs.Laws.{called_refused, empty_done}
 use Rattle.batch.specs.declared.Sample.{Sample}

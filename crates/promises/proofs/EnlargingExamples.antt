@@ -13,7 +13,7 @@ use Rattle.chip.specs.Event.{upset}
 use Rattle.chip.specs.Chip.{reaction, on_upset}
 use Rattle.journal.specs.Layout.{wrong_length, well_formed}
 use Rattle.journal.proofs.Ring.{well_of, emptied_well, emptied_kept}
-use Rattle.adapter.specs.declared.KeptNumber.{KeptNumber}
+use Rattle.adapter.specs.Answers.{KeptNumber}
 use Rattle.adapter.specs.Calls.{made_empty, kept_in, made_large}
 use Rattle.promises.specs.Runs.{Call, event, batch, back, empty, enlarge, Given, Calls, AllOfTheirTypes, Run, left, Standing, at_start, keeps}
 use Rattle.promises.specs.Runs.{standing, due_enlarging, is_refusal, Demand3}

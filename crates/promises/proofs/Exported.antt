@@ -22,14 +22,14 @@ use Rattle.chip.proofs.Steps.{Shape, dropped, acknowledged, echoed, rejected, re
 use Rattle.journal.specs.Layout.{slots_of, well_formed, kept_of}
 use Rattle.journal.proofs.Formats.{slots_small}
 use Rattle.journal.proofs.Ring.{of_well}
-use Rattle.adapter.specs.declared.Answer.{Answer}
-use Rattle.adapter.specs.declared.KeptNumber.{KeptNumber}
-use Rattle.adapter.specs.declared.Verdict.TheVariants.{Passed}
+use Rattle.adapter.specs.Answers.{Answer}
+use Rattle.adapter.specs.Answers.{KeptNumber}
+use Rattle.adapter.specs.Answers.{Passed}
 use Rattle.adapter.specs.Refusals.{wrong_argument, wrong_body, verdict}
 use Rattle.adapter.specs.Calls.{created, made_empty, kept_in, made_large, called, done, stepped_back}
 use Rattle.adapter.proofs.Cases.{passing, body_short}
 use Rattle.batch.specs.declared.Sample.{Sample}
-use Rattle.batch.specs.declared.Batch.{Batch}
+use Rattle.batch.specs.Batch.{Batch}
 use Rattle.batch.specs.Batch.{Course, onward, one_by_one}
 use Rattle.batch.specs.Batch as batches
 use Rattle.batch.proofs.Course.{port_in, one_more}

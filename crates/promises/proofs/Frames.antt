@@ -11,7 +11,7 @@ use Rattle.wire.specs.Bits.{wire}
 use Rattle.wire.specs.Frame.{flag, stuff, content_of}
 use Rattle.transmitter.specs.Frame.{frame, framed}
 use Rattle.receiver.specs.declared.Receiver.{Receiver}
-use Rattle.receiver.specs.declared.Received.{Received}
+use Rattle.receiver.specs.Received.{Received}
 use Rattle.receiver.specs.Receiver.{State, hunting, opened, runs, view, image}
 use Rattle.receiver.specs.Receive.{Answer, bare, Reading, concluded, reading, received}
 use Rattle.promises.specs.Wire.{after, found, Body, Bodies, filling, cable, brought_back}

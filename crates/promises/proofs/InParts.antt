@@ -10,7 +10,7 @@ use Rattle.numbers.specs.Numbers as number
 use Rattle.parts.specs.Parts.{put}
 use Rattle.wire.specs.Bits.{wire}
 use Rattle.receiver.specs.declared.Receiver.{Receiver}
-use Rattle.receiver.specs.declared.Received.{Received}
+use Rattle.receiver.specs.Received.{Received}
 use Rattle.receiver.specs.Receiver.{State, view}
 use Rattle.receiver.specs.Receive.{Answer, Reading, reading, read_from, received, received_as, output_after}
 use Rattle.promises.specs.Wire.{after}

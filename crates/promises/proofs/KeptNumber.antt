@@ -13,7 +13,7 @@ use Rattle.numbers.specs.Numbers as number
 use Rattle.chip.specs.Event.{Event}
 use Rattle.chip.specs.Chip.{accepted_reset}
 use Rattle.journal.specs.Layout.{slots_of}
-use Rattle.adapter.specs.declared.KeptNumber.{KeptNumber}
+use Rattle.adapter.specs.Answers.{KeptNumber}
 use Rattle.batch.specs.declared.Sample.{Sample}
 use Rattle.promises.specs.Runs.{Call, event, batch, back, empty, enlarge, is_enlarging, Calls, Given, OfItsTypes, AllOfTheirTypes, Run, left}
 use Rattle.promises.specs.Runs.{refused, batch_refused, enlarge_refusal, enlarge_refused, Standing, at_start, keeps_sample, keeps, standing, Demand3}

@@ -15,7 +15,7 @@ use Rattle.parts.specs.Parts.{part, put}
 use Rattle.parts.proofs.Laws.{AreBytes, put_none, length_put}
 use Rattle.wire.specs.Bits.{wire}
 use Rattle.receiver.specs.declared.Receiver.{Receiver}
-use Rattle.receiver.specs.declared.Received.{Received}
+use Rattle.receiver.specs.Received.{Received}
 use Rattle.receiver.specs.Receiver as receiver
 use Rattle.receiver.specs.Receive.{reading, read_from, received, output_after}
 use Rattle.state.specs.State.{Adapter, power_on}
@@ -32,7 +32,7 @@ use Rattle.journal.specs.Layout.{slots_of, kept_of, past, pushed, lowered}
 use Rattle.journal.specs.Record.{before, restored, sound}
 use Rattle.journal.proofs.Record.{id_restored}
 use Rattle.journal.proofs.Ring.{Well, well_of, of_well, length_past}
-use Rattle.adapter.specs.declared.Verdict.TheVariants.{Passed}
+use Rattle.adapter.specs.Answers.{Passed}
 use Rattle.adapter.specs.Refusals.{verdict}
 use Rattle.adapter.specs.Calls.{created, Outcome, recorded, done, called, kept_in, stepped, stepped_back}
 use Rattle.adapter.proofs.Cases.{Passing, passing}

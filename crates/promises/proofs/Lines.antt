@@ -6,7 +6,7 @@ use mathlib.Core.Bool.{false}
 use lib.Dec.{eqb}
 use borrow.Author.Tests.{eqb-true, eqb-false}
 use Rattle.journal.specs.Layout.{slots_of, wrong_length}
-use Rattle.adapter.specs.declared.KeptNumber.{KeptNumber}
+use Rattle.adapter.specs.Answers.{KeptNumber}
 use Rattle.promises.specs.Runs.{Call, event, batch, back, empty, enlarge, Calls, AllOfTheirTypes, Run, Standing, at_start, keeps, Demand3}
 use Rattle.promises.specs.Table.{line, lines}
 use Rattle.promises.proofs.Runs.{told}

@@ -3,8 +3,8 @@
 use mathlib.Core.Path.{◌≡◌, sym, ap₂, ◌∙◌}
 use mathlib.Core.List.{List}
 use Prim.Native.Nat.{ℕ}
-use Rattle.receiver.specs.declared.Received.{Received}
-use Rattle.transmitter.specs.declared.Sent.{Sent}
+use Rattle.receiver.specs.Received.{Received}
+use Rattle.transmitter.specs.Transmit.{Sent}
 use Rattle.parts.proofs.Outcome.{One, OneBeside}
 use Rattle.transmitter.proofs as transmitter
 use Rattle.receiver.proofs as receiver

@@ -16,9 +16,10 @@ use Rattle.receiver.specs.declared.Receiver.{Receiver}
 use Rattle.state.specs.Bytes.{link_of, state_in}
 use Rattle.chip.specs.Event.{Event}
 use Rattle.chip.proofs.Laws.{number_given}
-use Rattle.adapter.specs.Calls.{created, made_empty, copied, made_large, outcome, plain, done, called, stepped, stepped_back}
+use Rattle.adapter.specs.Calls.{created, made_empty, copied, made_large, outcome, done, called, stepped, stepped_back}
+use Rattle.adapter.specs.Answers.{plain}
 use Rattle.batch.specs.declared.Sample.{Sample}
-use Rattle.batch.specs.declared.Batch.{Batch}
+use Rattle.batch.specs.Batch.{Batch}
 use Rattle.batch.specs.Batch as batches
 use Rattle.bits.proofs.Tests.{either}
 use Rattle.promises.specs.Runs.{is_refusal}

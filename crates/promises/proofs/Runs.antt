@@ -30,11 +30,12 @@ use Rattle.journal.specs.Record.{restored, sound}
 use Rattle.bits.proofs.Tests.{either, both}
 use Rattle.commands.specs.Channels.{is_master}
 use Rattle.journal.proofs.Ring.{Well, well_of, emptied_well, emptied_slots, emptied_kept, lowered_well, lowered_slots, lowered_kept, lowered_past}
-use Rattle.adapter.specs.declared.Verdict.{Verdict}
-use Rattle.adapter.specs.declared.Verdict.TheVariants.{Refused, Passed}
-use Rattle.adapter.specs.declared.KeptNumber.{KeptNumber}
+use Rattle.adapter.specs.Answers.{Verdict}
+use Rattle.adapter.specs.Answers.{Refused, Passed}
+use Rattle.adapter.specs.Answers.{KeptNumber}
 use Rattle.adapter.specs.Refusals.{wrong_argument, wrong_body, in_order, verdict}
-use Rattle.adapter.specs.Calls.{Made, made, created, kept_in, Copied, copied, made_large, Outcome, outcome, plain, shown, recorded, done, called, Stepped, stepped, stepped_back}
+use Rattle.adapter.specs.Calls.{Made, made, created, kept_in, Copied, copied, made_large, Outcome, outcome, shown, recorded, done, called, Stepped, stepped, stepped_back}
+use Rattle.adapter.specs.Answers.{plain}
 use Rattle.adapter.proofs.Laws.{called_refused, called_done, own_refusals, recorded_well, recorded_slots, recorded_kept, newest_restores}
 use Rattle.adapter.proofs.Laws.{newest_sound, older_stay, back_refused, back_done, empty_done, large_told}
 use Rattle.batch.specs.declared.Sample.{Sample}

@@ -38,7 +38,7 @@ use Rattle.journal.proofs.Ring.{Well}
 use Rattle.adapter.specs.Calls.{recorded}
 use Rattle.adapter.proofs.Laws.{recorded_well}
 use Rattle.batch.specs.declared.Sample.{Sample}
-use Rattle.batch.specs.declared.Batch.{Batch}
+use Rattle.batch.specs.Batch.{Batch}
 use Rattle.batch.specs.Batch.{event_of, Course, onward, lines_in, answered}
 use Rattle.batch.proofs.Course.{Shape, quiet, interrupt, sample_shape, few}
 use Rattle.promises.specs.Runs.{due_frames}

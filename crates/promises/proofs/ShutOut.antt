@@ -16,7 +16,7 @@ use Rattle.state.specs.State.{Adapter, powered_on, power_on}
 use Rattle.chip.specs.Event.{Event, frame, upset}
 use Rattle.chip.specs.Frame.{is_reset_frame, commanded, addressed, on_frame}
 use Rattle.chip.specs.Chip.{reaction, on_upset, accepted_reset}
-use Rattle.adapter.specs.declared.KeptNumber.{KeptNumber}
+use Rattle.adapter.specs.Answers.{KeptNumber}
 use Rattle.promises.specs.Runs.{Call, event, batch, back, empty, enlarge, Given, Calls, AllOfTheirTypes, Run, left, Standing, at_start, keeps, standing}
 use Rattle.promises.specs.Runs.{state_after, bare, is_refusal, lent, Demand3}
 use Rattle.promises.specs.Ours.{Handed, handed, gives_ours, leaves_ours, ours}

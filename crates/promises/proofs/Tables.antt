@@ -2,15 +2,17 @@
 use Prim.Native.Nat.{ℕ, ◌-◌, ◌≤◌}
 use mathlib.Core.List.{List, [], ◌∷◌}
 use mathlib.Core.Path.{◌≡◌, refl, sym, subst}
+use Rattle.std.specs.Prelude.{Option, Some, None}
 use borrow.Author.Tests.{eqb-true, leb-true}
 use lib.Dec.{eqb, leb}
 use Rattle.bits.specs.Table.{Row, look}
 use Rattle.bits.proofs.Tests.{and_left, and_right, cond_cases}
 use Rattle.commands.specs.declared.channel.Channel.{Channel}
-use Rattle.commands.specs.declared.channel.Channel.TheVariants.{Controller, Spi, Gpio, Master, Seu, Id, Dac, Unknown}
+use Rattle.commands.specs.declared.channel.Channel.TheVariants.{Controller, Spi, Gpio, Master, Seu, Id, Dac}
 use Rattle.commands.specs.declared.command.Command.{Command}
-use Rattle.commands.specs.declared.command.Command.TheVariants as command
+use Rattle.commands.specs.declared.command.Does.{Does}
 use Rattle.commands.specs.declared.command.Does.TheVariants as does
+use Rattle.commands.specs.declared.command.Lengths.{Lengths}
 use Rattle.commands.specs.declared.command.Register.TheVariants.{SpiGo}
 use Rattle.commands.specs.Command.{code_of}
 use Rattle.commands.specs.Spi.{go}
@@ -30,33 +32,36 @@ rows_keep {A} P (r ∷ rs) other n k o =
 -- ---- the numbers of SPI and of the masters
 
 -- SPI is 0x01 alone, and a master's channel is one of 0x03 to 0x12, its number counted from 0x03 on
-abbrev pub Numbered : ℕ → Channel → Type 0
-Numbered n Controller = Unit
-Numbered n Spi = n ≡ 0x01
-Numbered n Gpio = Unit
-Numbered n (Master i) = (0x03 ≤ n) × (n ≤ 0x12) × (n - 0x03 ≡ i)
-Numbered n Seu = Unit
-Numbered n Id = Unit
-Numbered n Dac = Unit
-Numbered n Unknown = Unit
+abbrev pub Numbered : ℕ → Option Channel → Type 0
+Numbered n (Some Controller) = Unit
+Numbered n (Some Spi) = n ≡ 0x01
+Numbered n (Some Gpio) = Unit
+Numbered n (Some (Master i)) = (0x03 ≤ n) × (n ≤ 0x12) × (n - 0x03 ≡ i)
+Numbered n (Some Seu) = Unit
+Numbered n (Some Id) = Unit
+Numbered n (Some Dac) = Unit
+Numbered n None = Unit
 
 pub numbered : (n : ℕ) → Numbered n (channel_of n)
 unfolding channel_of
 numbered n =
     cond_cases (Numbered n) (is_master n)
     (λ h. (leb-true 0x03 n (and_left (leb 0x03 n) (leb n 0x12) h), leb-true n 0x12 (and_right (leb 0x03 n) (leb n 0x12) h), refl))
-    (λ _. rows_keep Numbered channels Unknown n (tt, (refl, (tt, (tt, (tt, (tt, tt)))))) tt)
+    (λ _. rows_keep Numbered channels None n (tt, (refl, (tt, (tt, (tt, (tt, tt)))))) tt)
 
 -- ---- the starts: GO of SPI, and those of the masters, each of its own
 
-abbrev pub Starting : Channel → Command → Type 0
-Starting ch command.Unknown = Unit
-Starting ch (command.Known l (does.Write r)) = Unit
-Starting ch (command.Known l (does.Switch c)) = Unit
-Starting ch (command.Known l (does.Read r)) = Unit
-Starting ch (command.Known l (does.Clear r)) = Unit
-Starting ch (command.Known l (does.Start r)) = (ch ≡ Spi) × (l ≡ go) × (r ≡ SpiGo)
-Starting ch (command.Known l (does.Transact i t)) = ch ≡ Master i
+abbrev pub StartingBy : Channel → Lengths → Does → Type 0
+StartingBy ch l (does.Write r) = Unit
+StartingBy ch l (does.Switch c) = Unit
+StartingBy ch l (does.Read r) = Unit
+StartingBy ch l (does.Clear r) = Unit
+StartingBy ch l (does.Start r) = (ch ≡ Spi) × (l ≡ go) × (r ≡ SpiGo)
+StartingBy ch l (does.Transact i t) = ch ≡ Master i
+
+abbrev pub Starting : Channel → Option Command → Type 0
+Starting ch None = Unit
+Starting ch (Some command) = StartingBy ch command.lengths command.does
 
 starting_rows : (ch : Channel) → RowsKeep (λ _ k. Starting ch k) (commands_of ch)
 starting_rows Controller = (tt, (tt, (tt, (tt, (tt, (tt, tt))))))
@@ -67,8 +72,7 @@ starting_rows (Master i) =
 starting_rows Seu = (tt, (tt, tt))
 starting_rows Id = (tt, tt)
 starting_rows Dac = (tt, (tt, (tt, (tt, (tt, (tt, (tt, (tt, tt))))))))
-starting_rows Unknown = tt
 
 pub starting : (ch : Channel) (cmd : ℕ) → Starting ch (command_of ch cmd)
 unfolding code_of
-starting ch cmd = rows_keep (λ _ k. Starting ch k) (commands_of ch) command.Unknown cmd (starting_rows ch) tt
+starting ch cmd = rows_keep (λ _ k. Starting ch k) (commands_of ch) None cmd (starting_rows ch) tt

@@ -11,7 +11,7 @@ use Rattle.wire.specs.Bits.{wire}
 use Rattle.wire.specs.Frame.{flag}
 use Rattle.receiver.specs.declared.Receiver.{Receiver}
 use Rattle.receiver.specs.Receiver.{State, hunting, opened, view}
-use Rattle.receiver.specs.declared.Received.{Received}
+use Rattle.receiver.specs.Received.{Received}
 use Rattle.receiver.specs.Receive.{Answer, bare, at_flag, reading, read_from, received}
 use Rattle.wire.proofs.Bits.{bits_wire, bits_drop}
 use Rattle.promises.specs.Wire.{absent, six_ones, seven_ones, destuff, at_abort, after, hunter, seen}

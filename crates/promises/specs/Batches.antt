@@ -8,7 +8,7 @@ use Rattle.registers.specs.Pins.{datain_after, firing_lines, interrupts}
 use Rattle.channels.specs.Rows.{is_enabled}
 use Rattle.state.specs.State.{Adapter}
 use Rattle.chip.specs.Chip.{reaction}
-use Rattle.adapter.specs.declared.Answer.{Answer}
+use Rattle.adapter.specs.Answers.{Answer}
 use Rattle.adapter.specs.Calls.{called}
 use Rattle.batch.specs.declared.Sample.{Sample}
 use Rattle.batch.specs.Batch.{event_of, Course, outset}

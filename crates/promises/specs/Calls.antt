@@ -4,7 +4,7 @@ use Rattle.promises.specs.Wire.{hunter}
 use Rattle.numbers.specs.Numbers as number
 use Rattle.parts.specs.Parts.{put}
 use Rattle.receiver.specs.declared.Receiver.{Receiver}
-use Rattle.receiver.specs.declared.Received.{Received}
+use Rattle.receiver.specs.Received.{Received}
 use Rattle.wire.specs.Bits.{wire}
 use Rattle.receiver.specs.Receiver.{State, next, ended, decides, in_range}
 use Rattle.receiver.specs.Receive.{Answer, bare, at_flag, Reading, received, received_as, output_after}

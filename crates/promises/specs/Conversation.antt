@@ -1,6 +1,6 @@
 -- The words of the promise about both ends: a body on its way, both ends in step, the request as the chip reads it, its answer, a start that waits for
 -- its completion, and what a request comes to.
-use Rattle.std.specs.Prelude.{ℕ, ◌+◌, ◌*◌, ◌≤◌, ◌<◌, true, false, List, [], ◌∷◌, ◌≡◌, length, get_or, take, replicate}
+use Rattle.std.specs.Prelude.{ℕ, ◌+◌, ◌*◌, ◌≤◌, ◌<◌, true, false, Option, Some, None, List, [], ◌∷◌, ◌≡◌, length, get_or, take, replicate}
 use Rattle.numbers.specs.Numbers.{has_frame, no_frame, cable_most, output_least, reply_bytes}
 use Rattle.parts.specs.Parts.{put}
 use Rattle.parts.specs.Digits.{digits}
@@ -8,13 +8,12 @@ use Rattle.transmitter.specs.Transmit as transmit
 use Rattle.receiver.specs.Receiver.{hunting, image}
 use Rattle.receiver.specs.Receive.{received}
 use Rattle.receiver.specs.Receive as receive
+use Rattle.commands.specs.Command.{known}
 use Rattle.commands.specs.Field.{Open, master}
 use Rattle.commands.specs.declared.command.Does.{Does}
 use Rattle.commands.specs.declared.command.Does.TheVariants.{Write, Switch, Read, Clear, Start, Transact}
-use Rattle.commands.specs.declared.command.Command.TheVariants.{Known}
 use Rattle.commands.specs.declared.command.Lengths.{Lengths}
 use Rattle.commands.specs.declared.request.Reply.{Reply}
-use Rattle.commands.specs.declared.request.Reply.TheVariants.{Sent, Later}
 use Rattle.commands.specs.declared.request.Request.{Request}
 use Rattle.registers.specs.Registers.{read}
 use Rattle.link.specs.Link.{receive_number, in_loopback}
@@ -25,7 +24,8 @@ use Rattle.chip.specs.Event.{Completion, spi, i2c, Event, frame, completion}
 use Rattle.chip.specs.Chip.{reaction}
 use Rattle.adapter.specs.Refusals.{wrong_completion}
 use Rattle.adapter.specs.Calls as adapter
-use Rattle.adapter.specs.Calls.{plain, called}
+use Rattle.adapter.specs.Calls.{called}
+use Rattle.adapter.specs.Answers.{plain}
 use Rattle.control_room.specs.Record.{number_at, frame_number, counted_up, command_at, len_of, closed, free_trn, is_record}
 use Rattle.control_room.specs.Calls.{Outcome, outcome, gives, request_written, reply_read}
 use Rattle.promises.specs.Runs.{CompletionOfTypes}
@@ -129,7 +129,7 @@ module _ (way : List ℕ → List ℕ) (r s journal : List ℕ) (port ch cmd d :
   pub record Started : Type 0 where
     pub lengths : Lengths
     pub does : Does
-    pub command : command_at ch cmd ≡ Known lengths does
+    pub command : command_at ch cmd ≡ known lengths does
     pub quiet : (called s journal (frame port b) o₂).answer ≡ plain no_frame
     pub output : (called s journal (frame port b) o₂).output ≡ o₂
     pub waits : Waiting (state_in (called s journal (frame port b) o₂).state).registers (free_trn r) cmd does
@@ -139,6 +139,6 @@ module _ (way : List ℕ → List ℕ) (r s journal : List ℕ) (port ch cmd d :
         → Ends ch does c → wrong_completion c ≡ false → CompletionOfTypes c → output_least ≤ length o₄ → output_least ≤ length o₃
         → Ended way (free_trn r) ch cmd lengths.given s₂ j₂ c o₄ r₂ o₃
 
-  abbrev pub Answered : Reply → Type 0
-  Answered (Sent err len v) = AtOnce err len v
-  Answered Later = Started
+  abbrev pub Answered : Option Reply → Type 0
+  Answered (Some reply) = AtOnce reply.error reply.length reply.value
+  Answered None = Started

@@ -6,7 +6,8 @@ use Rattle.state.specs.State.{Adapter}
 use Rattle.state.specs.Bytes.{is_state}
 use Rattle.chip.specs.Event.{Event}
 use Rattle.journal.specs.Layout.{well_formed, past}
-use Rattle.adapter.specs.Calls.{made_empty, kept_in, copied, made_large, outcome, plain, called, stepped, stepped_back}
+use Rattle.adapter.specs.Calls.{made_empty, kept_in, copied, made_large, outcome, called, stepped, stepped_back}
+use Rattle.adapter.specs.Answers.{plain}
 use Rattle.batch.specs.declared.Sample.{Sample}
 use Rattle.batch.specs.Batch as batches
 use Rattle.promises.specs.Runs.{Call, is_enlarging, Given, Calls}

@@ -3,8 +3,8 @@
 -- differs in what it gives alone: one packed number.
 use Rattle.std.specs.Prelude.{ℕ, ◌/◌, ◌%◌, ◌^◌, cond, List, [], replicate}
 use Rattle.state.specs.Bytes.{state_size, state_in}
-use Rattle.adapter.specs.declared.Answer.{Answer}
-use Rattle.adapter.specs.declared.KeptNumber.{KeptNumber}
+use Rattle.adapter.specs.Answers.{Answer}
+use Rattle.adapter.specs.Answers.{KeptNumber}
 use Rattle.adapter.specs.Calls.{created, made_empty, kept_in, made_large, called, stepped_back}
 use Rattle.batch.specs.Batch as batches
 use Rattle.sca.specs.Adapter.{pack_kept, packed, packed_batch}

@@ -10,10 +10,10 @@ use Rattle.chip.specs.Answer.{Reaction, front_length, laid}
 use Rattle.chip.specs.Event.{Completion, spi, i2c, Event, frame, completion, sample, upset}
 use Rattle.chip.specs.Chip.{reaction, accepted_reset}
 use Rattle.journal.specs.Layout.{slots_of, wrong_length}
-use Rattle.adapter.specs.declared.KeptNumber.{KeptNumber}
+use Rattle.adapter.specs.Answers.{KeptNumber}
 use Rattle.adapter.specs.Refusals.{wrong_argument, wrong_body}
 use Rattle.batch.specs.declared.Sample.{Sample}
-use Rattle.batch.specs.declared.Batch.{Batch}
+use Rattle.batch.specs.Batch.{Batch}
 use Rattle.batch.specs.Batch.{event_of, wrong_list}
 use Rattle.batch.specs.Batch as batches
 
