@@ -4,18 +4,17 @@ use mathlib.Core.Bool.{Bool, true, ◌&&◌}
 use mathlib.Core.List.{List, [], ◌∷◌, ◌++◌}
 use mathlib.Core.Path.{◌≡◌, refl, ap, ap₂, ◌∙◌}
 use native.Mathlib.Nat.{add-zero, div-div-eq-div-mul}
-use native.Mathlib.Numerals.{add-one}
 use native.Mathlib.Omega.{arith}
 use borrow.Author.Tests.{eqb-true}
 use lib.Dec.{eqb}
-use lib.ListN.{length, take, drop, get_or, set, replicate, length-append}
-use lib.Seq.{get_or-drop, set_split}
+use lib.ListN.{length, take, drop, get_or, replicate}
+use lib.Seq.{get_or-drop}
 use Rattle.bits.proofs.Tests.{both, and_true, and_assoc}
 use Rattle.parts.specs.declared.Width.{Width}
 use Rattle.parts.specs.declared.Width.TheVariants.{Byte, Half, Word}
-use Rattle.parts.specs.Parts.{part, put, all_zero}
+use Rattle.parts.specs.Parts.{part, all_zero}
 use Rattle.parts.specs.Digits.{word, number, digits, bytes_in}
-use Rattle.parts.proofs.Laws.{put_put, length_put, AreBytes}
+use Rattle.parts.proofs.Laws.{AreBytes}
 
 pub length_digits : (n v : ℕ) → length (digits n v) ≡ n
 unfolding digits
@@ -139,27 +138,14 @@ module _ (s : List ℕ) (at v : ℕ) (w : Width) where
   unfolding part
   reads_word e f = rw (e, f, ← front_word (drop at s)) (simp (get_or-drop, add-zero))
 
--- ---- one byte after the other
+-- the low bytes, as they are written
+pub digits_byte : (x : ℕ) → digits 1 x ≡ x % 256 ∷ []
+unfolding digits
+digits_byte x = refl
 
-pub set_put : (s : List ℕ) (p x : ℕ) → p < length s → set s p x ≡ put p (x ∷ []) s
-unfolding put
-set_put s p x h = rw add-one (set_split s p x h)
-
--- one more behind those that were put
-pub set_next : (s d : List ℕ) (p q x : ℕ) → q ≡ p + length d → p + length (d ++ (x ∷ [])) ≤ length s → set (put p d s) q x ≡ put p (d ++ (x ∷ [])) s
-set_next s d p q x e h =
-    let n : length (d ++ (x ∷ [])) ≡ length d + 1 = length-append d (x ∷ []) in
-    let l : p + length d ≤ length s = omega arith in
-    let m = length_put p d s l in
-    set_put (put p d s) q x (omega arith) ∙ put_put p d (x ∷ []) s q e l
-
-pub set_two : (s : List ℕ) (p a b : ℕ) → p + 2 ≤ length s → set (set s p a) (p + 1) b ≡ put p (a ∷ b ∷ []) s
-set_two s p a b h = rw (set_put s p a (omega arith)) (set_next s (a ∷ []) p (p + 1) b refl h)
-
-pub set_four : (s : List ℕ) (p a b c d : ℕ) → p + 4 ≤ length s
-    → set (set (set (set s p a) (p + 1) b) (p + 2) c) (p + 3) d ≡ put p (a ∷ b ∷ c ∷ d ∷ []) s
-set_four s p a b c d h =
-    rw (set_two s p a b (omega arith), set_next s (a ∷ b ∷ []) p (p + 2) c refl (omega arith)) (set_next s (a ∷ b ∷ c ∷ []) p (p + 3) d refl h)
+pub digits_half : (x : ℕ) → digits 2 x ≡ x % 256 ∷ x / 256 % 256 ∷ []
+unfolding digits
+digits_half x = refl
 
 thirds : (x : ℕ) → x / 256 / 256 ≡ x / 65536
 thirds x = div-div-eq-div-mul x 256 256
@@ -167,18 +153,8 @@ thirds x = div-div-eq-div-mul x 256 256
 fourths : (x : ℕ) → x / 65536 / 256 ≡ x / 16777216
 fourths x = div-div-eq-div-mul x 65536 256
 
-module _ (s : List ℕ) (at x : ℕ) (w : Width) (h : at + bytes_in w ≤ length s) where
-  pub stores_byte : w ≡ Byte → set s at (x % 256) ≡ put at (digits (bytes_in w) x) s
-  unfolding digits
-  stores_byte e = rw e (set_put s at (x % 256) (room w at _ h))
+pub digits_word : (x : ℕ) → digits 4 x ≡ x % 256 ∷ x / 256 % 256 ∷ x / 65536 % 256 ∷ x / 16777216 % 256 ∷ []
+unfolding digits
+digits_word x = rw (thirds x, fourths x) refl
 
-  pub stores_half : w ≡ Half → set (set s at (x % 256)) (at + 1) (x / 256 % 256) ≡ put at (digits (bytes_in w) x) s
-  unfolding digits
-  stores_half e =
-      let l = rw e at h in
-      rw e (set_two s at (x % 256) (x / 256 % 256) l)
-
-  pub stores_word : (t : List ℕ) → w ≡ Word → t ≡ put at (x % 256 ∷ x / 256 % 256 ∷ x / 65536 % 256 ∷ x / 16777216 % 256 ∷ []) s
-      → t ≡ put at (digits (bytes_in w) x) s
-  unfolding digits
-  stores_word t e f = rw (f, e, thirds x, fourths x) refl
+pub ruleset digits_of = (digits_byte, digits_half, digits_word)
