@@ -8,8 +8,8 @@ use native.Mathlib.Omega.{arith}
 use lib.Arith.{lt-one}
 use lib.Bits.{block_half, block_odd}
 use lib.Pow.{pow_mono, shl_lt, shr-shr}
-use lib.ListN.{length, take, drop, get_or}
-use lib.Seq.{drop-cons, drop-append-le, drop-append-add, drop-nil}
+use lib.ListN.{length, take, drop, get_or, length-drop}
+use lib.Seq.{take_all, drop-cons, drop-append-le, drop-append-add, drop-nil}
 use Rattle.wire.specs.Bits.{low, wire}
 use Rattle.wire.proofs.Bits.{length_low}
 
@@ -65,3 +65,9 @@ drop_wire (suc k) j [] = drop-nil (8 * suc k + j) ∙ sym (drop-nil j)
 drop_wire (suc k) j (x ∷ s) =
     let e : 8 * suc k + j ≡ length (low 8 x) + (8 * k + j) = rw length_low (omega arith) in
     ap (λ (n : ℕ). drop n (low 8 x ++ wire s)) e ∙ drop-append-add (low 8 x) (wire s) (8 * k + j) ∙ drop_wire k j s
+
+-- a slice's bits from any on: its byte's first
+pub from_own : (n : ℕ) (s : List ℕ) → drop n (wire s) ≡ drop (n % 8) (wire (drop (n / 8) s))
+from_own n s = let e : n ≡ 8 * (n / 8) + n % 8 = omega arith in ap (λ (k : ℕ). drop k (wire s)) e ∙ drop_wire (n / 8) (n % 8) s
+
+pub ruleset from_byte = (from_own, take_all, length-drop)

@@ -10,7 +10,7 @@ use Rattle.wire.specs.Fcs.{register, preset, residue}
 use Rattle.receiver.specs.Receiver.{State, Stop, decides, next, runs, view, in_range}
 use Rattle.receiver.specs.Receive.{Answer, Reading, at_flag, reading, read_from, received}
 use Rattle.receiver.specs.declared.Receiver.{Receiver}
-use Rattle.receiver.specs.declared.Received.{Received}
+use Rattle.receiver.specs.Received.{Received}
 use Rattle.wire.proofs.Bits.{length_wire}
 use Rattle.bits.proofs.Tests.{cond_cases}
 

@@ -4,5 +4,6 @@ pub mod Taken
 pub mod Content
 pub mod Fields
 pub mod View
-pub mod Calls
+pub mod Same
 pub mod Bounds
+pub mod Scans

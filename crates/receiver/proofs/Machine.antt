@@ -1,12 +1,16 @@
 -- Laws of the receiver's machine: a bit that goes on, a bit that decides, and the bits at an end.
-use mathlib.Core.Path.{◌≡◌, refl, sym, ap₂, ◌∙◌}
+use mathlib.Core.Path.{◌≡◌, refl, sym, ap, ap₂, ◌∙◌}
 use mathlib.Core.Bool.{true, false}
 use mathlib.Core.List.{List, [], ◌∷◌, ◌++◌}
-use Prim.Native.Nat.{ℕ, ◌+◌, ◌-◌, ◌/◌, ◌%◌, ◌≤◌, ◌<◌}
+use Prim.Native.Nat.{ℕ, ◌+◌, ◌-◌, ◌/◌, ◌%◌, ◌^◌, ◌≤◌, ◌<◌}
+use native.Mathlib.Nat.{div-one}
 use native.Mathlib.Omega.{arith}
-use Rattle.wire.specs.Bits.{low}
+use lib.ListN.{length, drop, get_or}
+use lib.Pow.{shr-shr}
+use Rattle.wire.specs.Bits.{low, wire}
 use Rattle.receiver.specs.Receiver.{State, decides, next, runs}
-use Rattle.receiver.proofs.Bits.{low_pos}
+use Rattle.wire.proofs.Bits.{wire_cons}
+use Rattle.receiver.proofs.Bits.{low_pos, wire_at}
 
 pub runs_go : (s : State) (n b : ℕ) (bs : List ℕ) → decides s b ≡ false → runs s n (b ∷ bs) ≡ runs (next s b) (n + 1) bs
 unfolding runs
@@ -21,23 +25,64 @@ pub runs_end : (s : State) (n : ℕ) → runs s n [] ≡ record { state = s; use
 unfolding runs
 runs_end s n = refl
 
--- a turn of the loop over a byte's bits
-module _ (s : State) (n left w : ℕ) (r : List ℕ) (h : 0 < left) where
-  pub turn_go : decides s (w % 2) ≡ false
-      → runs s n (low left w ++ r) ≡ runs (next s (w % 2)) (n + 1) (low (left - 1) (w / 2) ++ r)
-  turn_go e = rw (low_pos left w h) (runs_go s n (w % 2) (low (left - 1) (w / 2) ++ r) e)
+-- the bits of a byte from a place on
+low_from : (x place : ℕ) → place < 8 → low (8 - place) (x / 2 ^ place) ≡ x / 2 ^ place % 2 ∷ low (8 - (place + 1)) (x / 2 ^ (place + 1))
+low_from x place h =
+    let e : 8 - place - 1 ≡ 8 - (place + 1) = omega arith in
+    low_pos (8 - place) (x / 2 ^ place) (omega arith) ∙ ap₂ (λ (n y : ℕ). x / 2 ^ place % 2 ∷ low n y) e (shr-shr x place 1)
 
-  pub turn_stop : decides s (w % 2) ≡ true → runs s n (low left w ++ r) ≡ record { state = s; used = n + 1; hit = w % 2 + 1 }
-  turn_stop e = rw (low_pos left w h) (runs_stop s n (w % 2) (low (left - 1) (w / 2) ++ r) e)
+-- of a byte x the bits from skip to place are taken: q₀ has become q
+pub record Onward (q₀ : State) (x skip place : ℕ) (q : State) : Type 0 where
+  pub same : (n : ℕ) (r : List ℕ) → runs q₀ n (low (8 - skip) (x / 2 ^ skip) ++ r) ≡ runs q (n + (place - skip)) (low (8 - place) (x / 2 ^ place) ++ r)
 
--- the same, counted from where a byte's bits began
-pub gone_on : (s q : State) (n left₀ left w : ℕ) (r : List ℕ) → left ≤ left₀ → 0 < left → decides s (w % 2) ≡ false → q ≡ next s (w % 2)
-    → runs s (n + (left₀ - left)) (low left w ++ r) ≡ runs q (n + (left₀ - (left - 1))) (low (left - 1) (w / 2) ++ r)
-gone_on s q n left₀ left w r h p e f =
-    let m : n + (left₀ - left) + 1 ≡ n + (left₀ - (left - 1)) = omega arith in
-    turn_go s (n + (left₀ - left)) left w r p e
-    ∙ ap₂ (λ (x : State) (k : ℕ). runs x k (low (left - 1) (w / 2) ++ r)) (sym f) m
+pub onward_none : (q : State) (x skip : ℕ) → Onward q x skip skip q
+onward_none q x skip =
+    record { same = λ n r. let e : n ≡ n + (skip - skip) = omega arith in ap (λ (k : ℕ). runs q k (low (8 - skip) (x / 2 ^ skip) ++ r)) e }
 
-pub stopped_at : (s : State) (n used left₀ left w : ℕ) (r : List ℕ) → used ≡ n + (left₀ - left) → 0 < left → decides s (w % 2) ≡ true
-    → runs s (n + (left₀ - left)) (low left w ++ r) ≡ record { state = s; used = used + 1; hit = w % 2 + 1 }
-stopped_at s n used left₀ left w r u p e = rw (sym u) (turn_stop s used left w r p e)
+module _ {q₀ q : State} {x skip place : ℕ} (h : skip ≤ place) (k : place < 8) (o : Onward q₀ x skip place q) where
+  pub onward_more : {q' : State} → decides q (x / 2 ^ place % 2) ≡ false → q' ≡ next q (x / 2 ^ place % 2) → Onward q₀ x skip (place + 1) q'
+  onward_more d e =
+      record {
+        same =
+            λ n r.
+            let m : n + (place - skip) + 1 ≡ n + (place + 1 - skip) = omega arith in
+            o.same n r
+            ∙ ap (λ (l : List ℕ). runs q (n + (place - skip)) (l ++ r)) (low_from x place k)
+            ∙ runs_go q (n + (place - skip)) (x / 2 ^ place % 2) (low (8 - (place + 1)) (x / 2 ^ (place + 1)) ++ r) d
+            ∙ ap₂ (λ (p : State) (i : ℕ). runs p i (low (8 - (place + 1)) (x / 2 ^ (place + 1)) ++ r)) (sym e) m;
+      }
+
+  -- or the bit decides
+  pub onward_stop : (n : ℕ) (r : List ℕ) → decides q (x / 2 ^ place % 2) ≡ true
+      → runs q₀ n (low (8 - skip) (x / 2 ^ skip) ++ r) ≡ record { state = q; used = n + (place - skip) + 1; hit = x / 2 ^ place % 2 + 1 }
+  onward_stop n r d =
+      o.same n r
+      ∙ ap (λ (l : List ℕ). runs q (n + (place - skip)) (l ++ r)) (low_from x place k)
+      ∙ runs_stop q (n + (place - skip)) (x / 2 ^ place % 2) (low (8 - (place + 1)) (x / 2 ^ (place + 1)) ++ r) d
+
+-- the whole rest of the byte
+pub onward_all : {q₀ q : State} {x skip : ℕ} → Onward q₀ x skip 8 q → (n : ℕ) (r : List ℕ) → runs q₀ n (low (8 - skip) (x / 2 ^ skip) ++ r) ≡ runs q (n + (8 - skip)) r
+unfolding low
+onward_all o n r = o.same n r
+
+-- a byte that leaves a state as it was does so as often as it comes
+pub record Passes (q : State) (x : ℕ) : Type 0 where
+  pub same : (n : ℕ) (r : List ℕ) → runs q n (low 8 x ++ r) ≡ runs q (n + 8) r
+
+pub passes_again : {q₀ q : State} {x skip : ℕ} → Onward q₀ x skip 8 q → skip ≡ 0 → q₀ ≡ q → Passes q x
+passes_again {q₀} {q} {x} {skip} o z e =
+    record {
+      same =
+          λ n r.
+          ap₂ (λ (p : State) (y : ℕ). runs p n (low 8 y ++ r)) (sym e) (sym (div-one x))
+          ∙ (rw z at (onward_all o n r));
+    }
+
+-- the bits of a slice's bytes from a bit of byte i on: i's own, and the rest
+module _ (s : List ℕ) (i : ℕ) (h : i < length s) where
+  pub byte_taken : {q₀ q : State} (skip : ℕ) → skip < 8 → Onward q₀ (get_or s i 0) skip 8 q
+      → (n : ℕ) → runs q₀ n (drop skip (wire (drop i s))) ≡ runs q (n + (8 - skip)) (wire (drop (i + 1) s))
+  byte_taken skip k o n = rw (wire_at s i skip h k) (onward_all o n (wire (drop (i + 1) s)))
+
+  pub byte_passed : {q : State} → Passes q (get_or s i 0) → (n : ℕ) → runs q n (wire (drop i s)) ≡ runs q (n + 8) (wire (drop (i + 1) s))
+  byte_passed p n = rw (wire_cons s i h) (p.same n (wire (drop (i + 1) s)))

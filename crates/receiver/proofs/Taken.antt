@@ -1,25 +1,25 @@
 -- A bit taken into the content: the control's step and the store in the bytes are the machine's step.
-use mathlib.Core.Path.{◌≡◌, refl, sym, ap, ap₂, ◌∙◌}
+use mathlib.Core.Path.{◌≡◌, refl, sym, ap, ◌∙◌}
 use mathlib.Core.Logic.{◌⊎◌, ⊎_elim, inl, inr}
 use mathlib.Core.List.{List, [], ◌∷◌, ◌++◌}
 use mathlib.Core.Bool.{Bool, true, false, cond, ◌&&◌}
 use Prim.Native.Nat.{ℕ, zero, suc, ◌+◌, ◌*◌, ◌-◌, ◌/◌, ◌%◌, ◌^◌, ◌≤◌, ◌<◌, min}
-use native.Mathlib.Nat.{mul_assoc, mul-suc, mul-one, zero-mul, add-zero, mul-le-mul_right, one-mul, not-suc-le-zero, le_of_suc-le-suc, lt_of_mul-lt-mul_right, pow-suc, div-one}
+use native.Mathlib.Nat.{mul_assoc, mul-suc, mul-one, zero-mul, add-zero, mul-le-mul_right, one-mul, not-suc-le-zero, le_of_suc-le-suc, lt_of_mul-lt-mul_right, pow-suc}
 use native.Mathlib.Numerals.{add-one}
 use native.Mathlib.Decide.{dec_lt}
 use native.Mathlib.Omega.{arith}
 use borrow.Author.Tests.{eq-eqb, ne_eqb, lt-ltb, le-ltb, le-leb, lt-leb}
 use lib.Dec.{ltb, eqb, lit<}
 use lib.Pow.{pow-add, pow_mono}
-use lib.ListN.{length, take, drop, get_or, set, length-set, replicate}
+use lib.ListN.{length, take, get_or, set, length-set, replicate}
 use lib.Seq.{set-get_or}
-use Rattle.wire.specs.Bits.{low, wire}
-use Rattle.receiver.specs.Receiver.{State, next, push, decides, runs}
-use Rattle.receiver.specs.Inner.{value, Good, Stepped, state_of, Idle, Same}
+use Rattle.wire.specs.Bits.{low}
+use Rattle.receiver.specs.Receiver.{State, next, push, decides}
+use Rattle.receiver.specs.Inner.{value, Good, Stepped, state_of, Idle}
 use Rattle.receiver.specs.declared.scanning.Control.{Control}
 use Rattle.parts.proofs.Laws.{AreBytes}
-use Rattle.wire.proofs.Bits.{bit_of, length_low, low_cut, wire_cons}
-use Rattle.receiver.proofs.Bits.{low_snoc, take_low, shl_byte, wire_at}
+use Rattle.wire.proofs.Bits.{bit_of, length_low, low_cut}
+use Rattle.receiver.proofs.Bits.{low_snoc, take_low, shl_byte}
 
 -- ---- the number that bytes spell, with a bit more
 
@@ -353,11 +353,6 @@ small (suc x) b v hb h k = omega (arith, k (omega arith))
 
 -- ---- bytes that leave the receiver as it was
 
-pub control_eq : (a b : Control) → a.mode ≡ b.mode → a.ones ≡ b.ones → a.lead ≡ b.lead → a.count ≡ b.count → a ≡ b
-control_eq a b p q r s =
-    ap₂ (λ (x y : ℕ). record { mode = x; ones = y; lead = a.lead; count = a.count }) p q
-    ∙ ap₂ (λ (x y : ℕ). record { mode = b.mode; ones = b.ones; lead = x; count = y }) r s
-
 -- up to 8 bits of content stand in the first byte
 low_first : (l : List ℕ) (n : ℕ) → n ≤ 8 → low n (value l) ≡ low n (get_or l 0 0)
 unfolding value
@@ -367,54 +362,9 @@ low_first (x ∷ l) n h =
     sym (take_low n 8 (x + 256 * value l) h) ∙ ap (take n) (ap (low 8) e ∙ low_cut 8 (value l) x) ∙ take_low n 8 x h
 
 -- the state is the same again
-pub idle_state : {whole : Bool} {before : Control} {first : ℕ} {after : Control} {held : ℕ} (l m : List ℕ)
-    → first ≡ get_or l 0 0 → held ≡ get_or m 0 0 → Idle whole before first after held → state_of before l ≡ state_of after m
+pub idle_state : {before : Control} {first : ℕ} {after : Control} {held : ℕ} (l m : List ℕ)
+    → first ≡ get_or l 0 0 → held ≡ get_or m 0 0 → Idle before first after held → state_of before l ≡ state_of after m
 idle_state {before = b} {after = a} l m e f i =
     rw i.control
     (ap (λ (x : List ℕ). record { mode = a.mode; ones = a.ones; lead = a.lead; content = x })
     (low_first l a.count i.short ∙ ap (low a.count) (sym e ∙ i.content ∙ f) ∙ sym (low_first m a.count i.short)))
-
--- a byte that leaves a state as it was is passed over as often as it comes
-pub passed_over : (s : List ℕ) (q : State) (x : ℕ) → ((n : ℕ) (r : List ℕ) → runs q n (low 8 x ++ r) ≡ runs q (n + 8) r)
-    → (d i n : ℕ) → i + d ≤ length s → ((k : ℕ) → k < i + d → i ≤ k → get_or s k 0 ≡ x)
-    → runs q n (wire (drop i s)) ≡ runs q (n + 8 * d) (wire (drop (i + d) s))
-passed_over s q x fix zero i n h same =
-    ap₂ (λ (a b : ℕ). runs q a (wire (drop b s))) (sym (add-zero n)) (sym (add-zero i))
-passed_over s q x fix (suc d) i n h same =
-    let e : n + 8 + 8 * d ≡ n + 8 * suc d = omega arith in
-    let f : i + 1 + d ≡ i + suc d = omega arith in
-    rw (wire_cons s i (omega arith), same i (omega arith) (omega arith))
-    (fix n (wire (drop (i + 1) s))
-    ∙ passed_over s q x fix d (i + 1) (n + 8) (omega arith) (λ k p r. same k (omega arith) (omega arith))
-    ∙ ap₂ (λ (a b : ℕ). runs q a (wire (drop b s))) e f)
-
--- a byte's bits taken, and the bytes passed over after it
-module _ (s : List ℕ) (i skip left w : ℕ) (q q' : State) (hi : i < length s) (hs : skip < 8) (z : left ≡ 0)
-    (inner : (n : ℕ) (r : List ℕ) → runs q n (low (8 - skip) (get_or s i 0 / 2 ^ skip) ++ r) ≡ runs q' (n + (8 - skip - left)) (low left w ++ r)) where
-  taken_whole : (n : ℕ) (r : List ℕ) → runs q n (low (8 - skip) (get_or s i 0 / 2 ^ skip) ++ r) ≡ runs q' (n + (8 - skip)) r
-  unfolding low
-  taken_whole n r =
-      let e : n + (8 - skip - left) ≡ n + (8 - skip) = omega arith in
-      inner n r ∙ ap₂ (λ (k m : ℕ). runs q' k (low m w ++ r)) e z
-
-  byte_done : (n : ℕ) → runs q n (drop skip (wire (drop i s))) ≡ runs q' (n + (8 - skip)) (wire (drop (i + 1) s))
-  byte_done n = rw (wire_at s i skip hi hs) (taken_whole n (wire (drop (i + 1) s)))
-
-  idle_fix : skip ≡ 0 → q ≡ q' → (n : ℕ) (r : List ℕ) → runs q' n (low 8 (get_or s i 0) ++ r) ≡ runs q' (n + 8) r
-  idle_fix k e n r =
-      let d : get_or s i 0 ≡ get_or s i 0 / 2 ^ 0 = sym (div-one (get_or s i 0)) in
-      ap₂ (λ (a : State) (x : ℕ). runs a n (low 8 x ++ r)) (sym e) d
-      ∙ (rw k at (taken_whole n r))
-
-  pub bytes_done : (passed : Bool) (e : ℕ) → Same s (i + 1) (get_or s i 0) passed e → (passed ≡ true → (skip ≡ 0) × (q ≡ q'))
-      → (n : ℕ) → runs q n (drop skip (wire (drop i s))) ≡ runs q' (n + (8 - skip) + 8 * (e - (i + 1))) (wire (drop e s))
-  bytes_done true e a f n =
-      let d : i + 1 + (e - (i + 1)) ≡ e = omega (arith, a.least) in
-      byte_done n
-      ∙ passed_over s q' (get_or s i 0) (idle_fix (f refl).0 (f refl).1) (e - (i + 1)) (i + 1) (n + (8 - skip)) (omega (arith, a.most))
-      (λ k x y. a.bytes k (omega arith) y)
-      ∙ ap (λ (x : ℕ). runs q' (n + (8 - skip) + 8 * (e - (i + 1))) (wire (drop x s))) d
-  bytes_done false e a f n =
-      let d : e ≡ i + 1 = a.none refl in
-      let m : n + (8 - skip) ≡ n + (8 - skip) + 8 * (e - (i + 1)) = omega arith in
-      byte_done n ∙ ap₂ (λ (x y : ℕ). runs q' x (wire (drop y s))) m (sym d)

@@ -12,11 +12,11 @@ use Rattle.parts.specs.Parts.{put}
 use Rattle.parts.proofs.Laws.{AreBytes, bytes_take, put_none}
 use Rattle.wire.specs.Bits.{low, wire, pack}
 use Rattle.wire.specs.Fcs.{register, preset, residue}
-use Rattle.receiver.specs.Receiver.{State, hunting, opened, ended, runs, view, image}
+use Rattle.receiver.specs.Receiver.{State, opened, runs, view, image}
 use Rattle.receiver.specs.Receive.{bare, at_flag, concluded, received_as, reading}
 use Rattle.receiver.specs.Inner.{value, Good, control_of, state_of, stop_of, receiver_of, barely, Scan}
 use Rattle.receiver.specs.declared.Receiver.{Receiver}
-use Rattle.receiver.specs.declared.Received.{Received}
+use Rattle.receiver.specs.Received.{Received}
 use Rattle.receiver.specs.declared.scanning.Control.{Control}
 use Rattle.receiver.specs.declared.scanning.Scanned.{Scanned}
 use Rattle.wire.proofs.Bits.{length_low, low_add, length_wire, take_wire, pack_wire}
@@ -43,6 +43,14 @@ module _ (c : Control) (bytes : List ℕ) (g : Good c bytes) where
   pub image_state : receiver_of c bytes ≡ image (state_of c bytes)
   image_state = ap₂ (λ (n : ℕ) (l : List ℕ). record { mode = c.mode; ones = c.ones; lead = c.lead; count = n; bytes = l }) (sym (length_low c.count (value bytes))) kept_bytes
 
+-- the content that a flag ends, its zero and the five ones of the run left out
+pub content_kept : (c : Control) (bytes : List ℕ) → Good c bytes
+    → take (length (low c.count (value bytes)) - (5 + c.lead)) (low c.count (value bytes)) ≡ take (c.count - (5 + c.lead)) (wire bytes)
+content_kept c bytes g =
+    rw length_low
+    (take_low (c.count - (5 + c.lead)) c.count (value bytes) (omega arith)
+    ∙ sym (take_value bytes (c.count - (5 + c.lead)) g.small (omega (arith, g.size, g.count))))
+
 pub state_view : (r : Receiver) → Good (control_of r) r.bytes → state_of (control_of r) r.bytes ≡ view r
 state_view r g =
     ap (λ (l : List ℕ). record { mode = r.mode; ones = r.ones; lead = r.lead; content = l })
@@ -50,7 +58,7 @@ state_view r g =
 
 -- ---- the answer of a flag, in document 01's order
 
-length_content : (kept : List ℕ) (bits : ℕ) → length kept ≡ 20 → bits ≤ 152 → length (take bits (wire kept)) ≡ bits
+pub length_content : (kept : List ℕ) (bits : ℕ) → length kept ≡ 20 → bits ≤ 152 → length (take bits (wire kept)) ≡ bits
 length_content kept bits h k = length-take bits (wire kept) ∙ omega (arith, length_wire kept)
 
 module _ (kept : List ℕ) (bits : ℕ) (h32 : 32 ≤ bits) (hm : bits ≤ 152) (hl : length kept ≡ 20) where
@@ -97,46 +105,6 @@ body_flag {used} {rx} {body} content o o' e f g = rw (e, f) (refl, g)
 -- the bytes at the front of those that were kept
 pub length_front : (kept : List ℕ) (n : ℕ) → length kept ≡ 20 → n ≤ 20 → length (take n kept) ≡ n
 length_front kept n h k = length-take n kept ∙ omega arith
-
--- ---- where a scan stopped, and what it concludes
-
-module _ (p : Scanned) (g : Good p.control p.bytes) where
-  ran_out : p.hit ≡ 0 → concluded (stop_of p) ≡ record { answer = bare number.no_frame; state = state_of p.control p.bytes; consumed = p.used }
-  ran_out h = rw (eq-eqb p.hit 0 h) refl
-
-  content_kept : (bits : ℕ) → bits ≡ p.control.count - (5 + p.control.lead)
-      → take (ended (state_of p.control p.bytes) 0) (low p.control.count (value p.bytes)) ≡ take bits (wire p.bytes)
-  content_kept bits e =
-      let n : length (low p.control.count (value p.bytes)) - (5 + p.control.lead) ≡ bits = rw length_low (sym e) in
-      ap (λ (k : ℕ). take k (low p.control.count (value p.bytes))) n
-      ∙ take_low bits p.control.count (value p.bytes) (omega arith)
-      ∙ sym (take_value p.bytes bits g.small (omega (arith, g.size, g.count)))
-
-  at_a_flag : (bits : ℕ) → bits ≡ p.control.count - (5 + p.control.lead) → p.hit ≡ 1
-      → concluded (stop_of p) ≡ record { answer = at_flag (take bits (wire p.bytes)); state = opened; consumed = p.used }
-  at_a_flag bits e h =
-      rw (ne_eqb p.hit 0 (λ q. omega arith), eq-eqb p.hit 1 h)
-      (ap (λ (l : List ℕ). record { answer = at_flag l; state = opened; consumed = p.used }) (content_kept bits e))
-
-  at_abort_lem : (p.hit ≡ 0 → ⊥) → (p.hit ≡ 1 → ⊥) → concluded (stop_of p) ≡ record { answer = bare number.aborted; state = hunting; consumed = p.used }
-  at_abort_lem h k = rw (ne_eqb p.hit 0 h, ne_eqb p.hit 1 k) refl
-
-  pub conclude_out : {rx : Receiver} {r : Received} (o : List ℕ) → p.hit ≡ 0 → rx ≡ receiver_of p.control p.bytes
-      → r ≡ barely rx number.no_frame p.used
-      → (r ≡ received_as (concluded (stop_of p))) × (o ≡ put 0 (concluded (stop_of p)).answer.body o)
-  conclude_out o h f e =
-      rw (ran_out h) (e ∙ ap (λ (x : Receiver). barely x number.no_frame p.used) (f ∙ image_state p.control p.bytes g), put_none 0 o)
-
-  pub conclude_flag : {r : Received} (bits : ℕ) (o o' : List ℕ) → bits ≡ p.control.count - (5 + p.control.lead) → p.hit ≡ 1
-      → r ≡ received_as (record { answer = at_flag (take bits (wire p.bytes)); state = opened; consumed = p.used })
-      → o' ≡ put 0 (at_flag (take bits (wire p.bytes))).body o
-      → (r ≡ received_as (concluded (stop_of p))) × (o' ≡ put 0 (concluded (stop_of p)).answer.body o)
-  conclude_flag bits o o' e h a b = rw (at_a_flag bits e h) (a, b)
-
-  pub conclude_abort : {rx : Receiver} {r : Received} (o : List ℕ) → (p.hit ≡ 0 → ⊥) → (p.hit ≡ 1 → ⊥) → rx ≡ image hunting
-      → r ≡ barely rx number.aborted p.used
-      → (r ≡ received_as (concluded (stop_of p))) × (o ≡ put 0 (concluded (stop_of p)).answer.body o)
-  conclude_abort o h k f e = rw (at_abort_lem h k) (e ∙ ap (λ (x : Receiver). barely x number.aborted p.used) f, put_none 0 o)
 
 -- a scan from a receiver's own control and bytes is the reading from what it stands for
 pub read_from_lem : (rx : Receiver) (bits : List ℕ) (p : Scanned) → Good (control_of rx) rx.bytes → Scan (control_of rx) rx.bytes bits p

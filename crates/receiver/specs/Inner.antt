@@ -1,11 +1,13 @@
 -- What the inner functions of the receiver promise each other. Nobody needs to believe it: the call's contract does not cite it.
-use Rattle.std.specs.Prelude.{Bool, true, false, ◌≡◌, List, [], ◌∷◌, ℕ, ◌+◌, ◌*◌, ◌^◌, ◌≤◌, ◌<◌, min, length, get_or}
+use Rattle.std.specs.Prelude.{◌≡◌, List, [], ◌∷◌, ℕ, ◌+◌, ◌*◌, ◌^◌, ◌≤◌, ◌<◌, min, length, get_or}
 use Rattle.wire.specs.Bits.{low}
 use Rattle.receiver.specs.Receiver.{State, Stop, runs}
 use Rattle.receiver.specs.declared.Receiver.{Receiver}
-use Rattle.receiver.specs.declared.Received.{Received}
+use Rattle.receiver.specs.Received.{Received}
 use Rattle.receiver.specs.declared.scanning.Control.{Control}
 use Rattle.receiver.specs.declared.scanning.Scanned.{Scanned}
+use Rattle.receiver.specs.declared.scanning.End.{End}
+use Rattle.receiver.specs.declared.scanning.End.TheVariants.{OutOfBits, Flag, Abort}
 
 -- the number that bytes spell, byte 0 lowest
 unfoldable pub value : List ℕ → ℕ
@@ -32,8 +34,14 @@ control_of r = record { mode = r.mode; ones = r.ones; lead = r.lead; count = r.c
 abbrev pub state_of : Control → List ℕ → State
 state_of c bytes = record { mode = c.mode; ones = c.ones; lead = c.lead; content = low c.count (value bytes) }
 
+-- the number of each end in a stop
+abbrev pub hit_of : End → ℕ
+hit_of OutOfBits = 0
+hit_of Flag = 1
+hit_of Abort = 2
+
 abbrev pub stop_of : Scanned → Stop
-stop_of p = record { state = state_of p.control p.bytes; used = p.used; hit = p.hit }
+stop_of p = record { state = state_of p.control p.bytes; used = p.used; hit = hit_of p.end }
 
 -- the struct of a control and bytes
 abbrev pub receiver_of : Control → List ℕ → Receiver
@@ -47,21 +55,13 @@ barely rx number consumed = record { rx = rx; number = number; consumed = consum
 pub record Scan (c : Control) (bytes bits : List ℕ) (p : Scanned) : Type 0 where
   pub good : Good p.control p.bytes
   pub stops : stop_of p ≡ runs (state_of c bytes) 0 bits
-  pub ends : p.hit ≡ 1 → 37 + p.control.lead ≤ p.control.count
+  pub ends : p.end ≡ Flag → 37 + p.control.lead ≤ p.control.count
 
--- a whole byte left the control as it was, and the one byte of content
-pub record Idle (whole : Bool) (before : Control) (first : ℕ) (after : Control) (held : ℕ) : Type 0 where
-  pub all : whole ≡ true
+-- a byte left the control as it was, and the one byte of content
+pub record Idle (before : Control) (first : ℕ) (after : Control) (held : ℕ) : Type 0 where
   pub control : before ≡ after
   pub content : first ≡ held
   pub short : after.count ≤ 8
-
--- from place i to place r of s every byte is x; r is i where none is to be passed over
-pub record Same (s : List ℕ) (i x : ℕ) (passed : Bool) (r : ℕ) : Type 0 where
-  pub least : i ≤ r
-  pub most : r ≤ length s
-  pub bytes : (k : ℕ) → k < r → i ≤ k → get_or s k 0 ≡ x
-  pub none : passed ≡ false → r ≡ i
 
 -- the control after a bit that ends no flag and is no seventh one
 pub record Stepped (c : Control) (b : ℕ) (r : Control) : Type 0 where

@@ -1,3 +1,4 @@
 pub mod Receiver
+pub mod Received
 pub mod Receive
 pub mod Inner

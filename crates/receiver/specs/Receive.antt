@@ -6,7 +6,7 @@ use Rattle.wire.specs.Bits.{wire, pack}
 use Rattle.wire.specs.Fcs.{register, preset, residue}
 use Rattle.receiver.specs.Receiver.{State, Stop, hunting, opened, ended, runs, view, image, in_range}
 use Rattle.receiver.specs.declared.Receiver.{Receiver}
-use Rattle.receiver.specs.declared.Received.{Received}
+use Rattle.receiver.specs.Received.{Received}
 
 -- an answer: the number, and the body that comes with 0
 pub record Answer : Type 0 where

@@ -2,10 +2,12 @@
 ghost use Rattle.std.specs.Prelude.{◌≡◌, true, ◌*◌, ◌<◌, ◌≤◌, length, drop};
 ghost use Rattle.numbers.specs.Numbers.{input_most};
 ghost use Rattle.wire.specs.Bits.{wire};
-ghost use Rattle.receiver.specs.Inner.{Good, Stepped, Scan, Idle, Same};
+ghost use Rattle.receiver.specs.Inner.{Good, Stepped, Scan, Idle, control_of, receiver_of};
+
+use crate::Receiver;
 
 // A receiver without its bytes: small enough to go by value with every bit.
-#[derive(Clone, Copy)]
+#[derive(Clone, Copy, PartialEq, Eq)]
 pub struct Control {
     pub mode: u8,
     pub ones: u8,
@@ -13,13 +15,49 @@ pub struct Control {
     pub count: u8,
 }
 
-// Where a scan stopped: hit is 0 where the bits ran out, 1 at a flag, 2 at a seventh one.
+impl From<Receiver> for Control {
+    ghost from_gives = { λ rx c. c ≡ control_of rx };
+
+    fn from(rx: Receiver) -> Control {
+        Control {
+            mode: rx.mode,
+            ones: rx.ones,
+            lead: rx.lead,
+            count: rx.count,
+        }
+    }
+}
+
+impl Control {
+    // The receiver with these bytes.
+    pub(crate) fn with(self, bytes: [u8; 20]) -> Receiver
+        ensures { result ≡ receiver_of self bytes }
+    {
+        Receiver {
+            mode: self.mode,
+            ones: self.ones,
+            lead: self.lead,
+            count: self.count,
+            bytes,
+        }
+    }
+}
+
+// Why a scan stopped: a flag and a seventh one each end enough content.
+#[derive(Clone, Copy)]
+pub enum End {
+    OutOfBits,
+    Flag,
+    Abort,
+}
+
+// Where a scan stopped.
 #[derive(Clone, Copy)]
 pub struct Scanned {
     pub control: Control,
     pub bytes: [u8; 20],
     pub used: usize,
-    pub hit: u8,
+    pub end: End,
 }
 
 // y where x is below k, else 0.
@@ -41,68 +79,25 @@ fn step(c: Control, b: u8) -> Control
     requires { (c.mode ≤ 1) × (c.ones ≤ 7) × (c.lead ≤ 1) × (c.count ≤ 152) × (b < 2) }
     ensures { Stepped c b result }
 {
-    let mode = c.mode;
-    let ones = c.ones;
-    let lead = c.lead;
-    let count = c.count;
-    let counts = under(ones, 5, mode);
-    let pushed = under(count, 152, counts);
-    let up = ones + under(ones, 7, 1);
-    let now_ones = choose(b, 0, up);
-    let now_lead = choose(b, counts, lead);
+    let counts = under(c.ones, 5, c.mode);
+    let pushed = under(c.count, 152, counts);
+    let up = c.ones + under(c.ones, 7, 1);
     Control {
-        mode,
-        ones: now_ones,
-        lead: now_lead,
-        count: count + pushed,
+        mode: c.mode,
+        ones: choose(b, 0, up),
+        lead: choose(b, counts, c.lead),
+        count: c.count + pushed,
     }
 }
 
-// Whether a whole byte left a receiver as it was, its content in one byte: then the same byte does so again.
-fn is_idle(whole: bool, before: Control, first: u8, after: Control, held: u8) -> bool
-    ensures { result ≡ true → Idle whole before first after held }
+// Whether a byte left a receiver as it was, its content in one byte: then the same byte does so again.
+fn is_idle(before: Control, first: u8, after: Control, held: u8) -> bool
+    ensures { result ≡ true → Idle before first after held }
 {
-    if whole {
-        if before.mode != after.mode {
-            return false;
-        }
-        if before.ones != after.ones {
-            return false;
-        }
-        if before.lead != after.lead {
-            return false;
-        }
-        if before.count != after.count {
-            return false;
-        }
-        if first != held {
-            return false;
-        }
-        return after.count <= 8;
-    }
-    false
+    before == after && first == held && after.count <= 8
 }
 
-// Where the bytes end that are x, from place i on; i itself where they are not to be passed over.
-fn same_until(s: &[u8], i: usize, x: u8, passed: bool) -> usize
-    requires { i ≤ length s.now }
-    ensures { Same s.now i x passed result }
-{
-    if passed {
-        let mut j = i;
-        while j < s.len() {
-            if s[j] != x {
-                return j;
-            }
-            j += 1;
-        }
-        return j;
-    }
-    i
-}
-
-// The bits of a slice from one of its first byte's on, up to the deciding one. Bytes that go on as the one before them did, as the
-// fill between frames, are passed over.
+// The bits of a slice from one of its first byte's on, up to the deciding one.
 fn scan(start: Control, kept: [u8; 20], s: &[u8], from: usize) -> Scanned
     requires good { Good start kept }
     requires from_bound { from < 8 }
@@ -112,24 +107,23 @@ fn scan(start: Control, kept: [u8; 20], s: &[u8], from: usize) -> Scanned
     let mut c = start;
     let mut bytes = kept;
     let mut used: usize = 0;
-    let mut hit: u8 = 0;
+    let mut end = End::OutOfBits;
     let mut skip = from;
-    let mut i: usize = 0;
-    'bytes: while i < s.len() {
-        let byte = s[i];
-        let whole = skip == 0;
+    let mut idle: Option<u8> = None;
+    'bytes: for byte in s {
+        // As the fill between frames.
+        if idle == Some(*byte) {
+            used += 8;
+            continue;
+        }
         let before = c;
         let first = bytes[0];
-        let mut w = byte >> skip;
-        let mut left = 8 - skip;
-        while 0 < left {
-            let b = w % 2;
-            w = w / 2;
-            left -= 1;
+        'bits: for place in skip..8 {
+            let b = (*byte >> place) % 2;
             used += 1;
             if c.ones == 6 {
                 if choose(b, 37 + c.lead, 37) <= c.count {
-                    hit = b + 1;
+                    end = if b == 0 { End::Flag } else { End::Abort };
                     break 'bytes;
                 }
                 c = Control {
@@ -141,35 +135,33 @@ fn scan(start: Control, kept: [u8; 20], s: &[u8], from: usize) -> Scanned
                 bytes = [0u8; 20];
             } else {
                 let d = step(c, b);
-                let count = c.count;
-                let at = (count / 8) as usize;
-                let v = choose(d.count - count, 0, b);
-                bytes[at] = bytes[at] + (v << (count % 8));
+                let at = (c.count / 8) as usize;
+                let v = choose(d.count - c.count, 0, b);
+                bytes[at] += v << (c.count % 8);
                 c = d;
             }
         }
-        let idle = is_idle(whole, before, first, c, bytes[0]);
-        let next = i + 1;
-        let end = same_until(s, next, byte, idle);
-        used += 8 * (end - next);
+        idle = if skip == 0 && is_idle(before, first, c, bytes[0]) {
+            Some(*byte)
+        } else {
+            None
+        };
         skip = 0;
-        i = end;
     }
     Scanned {
         control: c,
         bytes,
         used,
-        hit,
+        end,
     }
 }
 
 // The same from any bit of a buffer: the rest of the cable bytes is handed on as a part.
+#[tactic(auto, using(crate::proofs::Bits::from_byte))]
 pub(crate) fn scan_from(start: Control, kept: [u8; 20], input: &[u8], bit: usize) -> Scanned
     requires good { Good start kept }
     requires input_len_bound { (length input.now ≤ input_most) × (bit ≤ 8 * length input.now) }
     ensures { Scan start kept (drop bit (wire input.now)) result }
 {
-    let k = bit / 8;
-    let j = bit % 8;
-    scan(start, kept, &input[k..], j)
+    scan(start, kept, &input[bit / 8..], bit % 8)
 }

@@ -4,12 +4,14 @@ ghost use Rattle.numbers.specs.Numbers.{output_least};
 ghost use Rattle.parts.specs.Parts.{put};
 ghost use Rattle.wire.specs.Bits.{wire};
 ghost use Rattle.receiver.specs.Receiver.{image, opened};
+ghost use Rattle.receiver.specs.Received.{answer_length, answer_number, received_of};
 ghost use Rattle.receiver.specs.Receive.{at_flag, concluded, received_as};
-ghost use Rattle.receiver.specs.Inner.{Good, stop_of, barely};
+ghost use Rattle.receiver.specs.Inner.{Good, stop_of};
+ghost use Rattle.receiver.specs.declared.scanning.End.TheVariants as end;
 
-use crate::scanning::Scanned;
-use crate::{Received, Receiver};
-use numbers::{ABORTED, BROKEN_CONTENT, HAS_FRAME, LONG_CONTENT, NO_FRAME, WRONG_FCS};
+use crate::scanning::{End, Scanned};
+use crate::{NoBody, Receiver, Reception};
+use numbers::Dropped;
 
 // The longest content that is no frame too long: 16 bytes of body, 2 of FCS.
 const CONTENT_MOST: u8 = 144;
@@ -18,6 +20,7 @@ const CONTENT_MOST: u8 = 144;
 const RESIDUE: u16 = 0xF0B8;
 
 // Just after a flag.
+#[tactic(auto, unfolding(wire::specs::Bits::pack, wire::specs::Bits::octets, wire::specs::Bits::num))]
 fn at_opening() -> Receiver
     ensures { result ≡ image opened }
 {
@@ -30,69 +33,56 @@ fn at_opening() -> Receiver
     }
 }
 
-// An answer with no body.
-pub(crate) fn bare(rx: Receiver, number: u8, consumed: usize) -> Received
-    ensures { result ≡ barely rx number consumed }
-{
-    Received {
-        rx,
-        number,
-        consumed,
-        length: 0,
-    }
-}
-
-// The answer of a flag that ends this many bits of content.
-fn at_flag(kept: [u8; 20], bits: u8, used: usize, output: &mut [u8]) -> Received
-    requires { (32 ≤ bits) × (bits ≤ 152) × (length kept ≡ 20) × ((i : ℕ) → get_or kept i 0 < 256) × (output_least ≤ length output.old) }
-    ensures value { result ≡ received_as (record { answer = at_flag (take bits (wire kept)); state = opened; consumed = used }) }
-    ensures output_after { output.new ≡ put 0 (at_flag (take bits (wire kept))).body output.old }
+#[tactic(auto, using(crate::proofs::View::flag_long, crate::proofs::View::flag_broken, crate::proofs::View::flag_wrong, crate::proofs::View::flag_good, parts::proofs::Laws::put_none))]
+// The answer of a flag that ends this many bits of content: the length of the body that is written.
+fn at_flag(kept: &[u8; 20], bits: u8, output: &mut [u8]) -> Result<usize, NoBody>
+    requires { (32 ≤ bits) × (bits ≤ 152) × ((i : ℕ) → get_or kept.now i 0 < 256) × (output_least ≤ length output.old) }
+    ensures number { answer_number result ≡ (at_flag (take bits (wire kept.now))).number }
+    ensures size { answer_length result ≡ length (at_flag (take bits (wire kept.now))).body }
+    ensures output_after { output.new ≡ put 0 (at_flag (take bits (wire kept.now))).body output.old }
 {
     if CONTENT_MOST < bits {
-        return bare(at_opening(), LONG_CONTENT, used);
+        return Err(NoBody::Dropped(Dropped::LongContent));
     }
     if bits % 8 != 0 {
-        return bare(at_opening(), BROKEN_CONTENT, used);
+        return Err(NoBody::Dropped(Dropped::BrokenContent));
     }
     let n = (bits / 8) as usize;
     if wire::register(&kept[..n]) != RESIDUE {
-        return bare(at_opening(), WRONG_FCS, used);
+        return Err(NoBody::Dropped(Dropped::WrongFcs));
     }
     let length = n - 2;
     parts::store(output, 0, &kept[..length]);
-    let rx = at_opening();
-    Received {
-        rx,
-        number: HAS_FRAME,
-        consumed: used,
-        length,
-    }
+    Ok(length)
 }
 
-pub(crate) fn conclude(stop: Scanned, output: &mut [u8]) -> Received
+// What each end of a scan answers.
+#[tactic(auto, using(crate::proofs::View::image_state, crate::proofs::View::content_kept, parts::proofs::Laws::put_none))]
+pub(crate) fn conclude(stop: Scanned, output: &mut [u8]) -> Reception
     requires good { Good stop.control stop.bytes }
-    requires lead_bound { stop.hit ≡ 1 → 37 + stop.control.lead ≤ stop.control.count }
+    requires lead_bound { stop.end ≡ end.Flag → 37 + stop.control.lead ≤ stop.control.count }
     requires output_least_in_bounds { output_least ≤ length output.old }
-    ensures value { result ≡ received_as (concluded (stop_of stop)) }
+    ensures value { received_of result ≡ received_as (concluded (stop_of stop)) }
     ensures output_after { output.new ≡ put 0 (concluded (stop_of stop)).answer.body output.old }
 {
-    let hit = stop.hit;
-    let used = stop.used;
-    let c = stop.control;
-    let kept = stop.bytes;
-    if hit == 0 {
-        let rx = Receiver {
-            mode: c.mode,
-            ones: c.ones,
-            lead: c.lead,
-            count: c.count,
-            bytes: kept,
-        };
-        return bare(rx, NO_FRAME, used);
+    match stop.end {
+        End::OutOfBits => Reception {
+            rx: stop.control.with(stop.bytes),
+            consumed: stop.used,
+            answer: Err(NoBody::NoFrame),
+        },
+        End::Flag => {
+            let bits = stop.control.count - (5 + stop.control.lead);
+            Reception {
+                rx: at_opening(),
+                consumed: stop.used,
+                answer: at_flag(&stop.bytes, bits, output),
+            }
+        }
+        End::Abort => Reception {
+            rx: Receiver::new(),
+            consumed: stop.used,
+            answer: Err(NoBody::Dropped(Dropped::Aborted)),
+        },
     }
-    if hit == 1 {
-        let bits = c.count - (5 + c.lead);
-        return at_flag(kept, bits, used, output);
-    }
-    bare(Receiver::new(), ABORTED, used)
 }

@@ -10,8 +10,7 @@ use lib.ListN.{length, length-append, length-replicate, replicate}
 use Rattle.wire.specs.Fcs.{fcs}
 use Rattle.wire.specs.Frame.{stuff, content_of}
 use Rattle.transmitter.specs.Frame.{frame, filled, framed}
-use Rattle.transmitter.specs.Transmit.{transmitted}
-use Rattle.transmitter.specs.declared.Sent.{Sent}
+use Rattle.transmitter.specs.Transmit.{Sent, transmitted}
 use Rattle.wire.proofs.Bits.{length_wire, length_pack}
 use Rattle.bits.proofs.Tests.{cond_cases, both}
 

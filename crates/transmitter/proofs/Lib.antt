@@ -1,3 +1,4 @@
 pub mod Written
-pub mod Calls
+pub mod Pens
+pub mod Same
 pub mod Bounds

@@ -2,26 +2,24 @@
 use mathlib.Core.Path.{◌≡◌, refl, sym, ap, ap₂, ◌∙◌}
 use mathlib.Core.Bool.{Bool, true, false, cond, ◌&&◌}
 use mathlib.Core.List.{List, [], ◌∷◌, ◌++◌, append_assoc, append-nil}
-use Prim.Native.Nat.{ℕ, zero, suc, ◌+◌, ◌*◌, ◌-◌, ◌/◌, ◌%◌, ◌^◌, ◌≤◌, ◌<◌, min}
+use Prim.Native.Nat.{ℕ, zero, suc, ◌+◌, ◌*◌, ◌-◌, ◌/◌, ◌%◌, ◌^◌, ◌≤◌, ◌<◌}
 use native.Mathlib.Nat.{mod-le, mul-le-mul_right, suc-mul, mul_comm, add_comm, div-one}
 use native.Mathlib.Omega.{arith}
 use borrow.Author.Tests.{eq-eqb, ne_eqb}
 use mir.Val.{bool_byte}
 use lib.Dec.{T, eqb, leb, ltb, eqb→eq, leb→le, ltb→lt, lit≤}
-use lib.Arith.{lt-one}
-use lib.Pow.{pow_pos, pow_mono, pow-add, shl_exact, shr_lt, high}
-use lib.ListN.{length, take, drop, set, replicate, length-append, length-take, length-set, take-append-drop}
+use lib.Pow.{pow_mono, pow-add, shl_exact, shr_lt, high}
+use lib.ListN.{length, take, drop, set, replicate, length-append, length-set, take-append-drop}
 use lib.Seq.{length-take-le, take-set-le, take-suc-set, drop-set-lt, drop-drop}
 use Rattle.parts.specs.Parts.{put}
 use Rattle.parts.proofs.Laws.{AreBytes, bytes_take}
 use Rattle.wire.specs.Bits.{low, wire, pack}
-use Rattle.wire.specs.Fcs.{check_of}
-use Rattle.wire.specs.Frame.{stuff, flag, content_of}
-use Rattle.transmitter.specs.Frame.{frame, filled}
-use Rattle.transmitter.specs.Inner.{tail, inked, Inked, Raw, Stuffs, Written}
-use Rattle.wire.proofs.Bits.{length_low, low_cut, low_mod, low_add, low_bytes, wire_append, length_wire, take_wire, pack_wire}
+use Rattle.wire.specs.Frame.{stuff, flag}
+use Rattle.transmitter.specs.Inner.{tail, inked, Inked, Written}
+use Rattle.transmitter.specs.Stuffing.{Stuffs}
+use Rattle.transmitter.specs.declared.stuffing.Piece.{Piece}
+use Rattle.wire.proofs.Bits.{length_low, low_cut, low_mod, low_add, wire_append, pack_wire}
 use Rattle.wire.proofs.Tests.{and_left, and_right, at_each}
-use Rattle.wire.proofs.Check.{content_bits}
 
 -- ---- some bits
 
@@ -107,15 +105,6 @@ inked_then {o} {r} {t} {n} {h} {n'} {h'} {n''} {h''} {l} {m} a b =
       size = b.size ∙ a.size;
     }
 
--- whole bytes from the front hold nothing back
-pub inked_raw : (o l r : List ℕ) (k h : ℕ) → k ≤ length r → Inked o 0 0 l r (8 * k) h → Raw o 0 l r (8 * k)
-unfolding low wire
-inked_raw o l r k h hk a =
-    let d : (8 * k) / 8 ≡ k = omega arith in
-    let f : (8 * k) % 8 ≡ 0 = omega arith in
-    let e : inked r (8 * k) h ≡ wire (take k r) = rw (d, f) (append-nil (wire (take k r))) in
-    record { count = a.count; bits = take_wire k r hk ∙ sym e ∙ a.bits; rest = a.rest; size = a.size }
-
 -- ---- stuffed bits
 
 pub stuff_append : (k : ℕ) (l m : List ℕ) → stuff k (l ++ m) ≡ stuff k l ++ stuff (tail k l) m
@@ -155,14 +144,14 @@ written_then {o} {r} {t} {n} {h} {n'} {h'} {n''} {h''} {k} {k'} {k''} {l} {m} a 
       most = rw (length-append l m) (omega (arith, a.most, b.most));
     }
 
-pub written_four : {o r : List ℕ} {n h k x e n' h' k' : ℕ}
-    → Stuffs k x e → Inked o n h (low (4 + e / 32 % 2) (e % 32)) r n' h' × (k' ≡ e / 64) → Written o n h k (low 4 x) r n' h' k'
-written_four {o} {r} {n} {h} {k} {x} {e} {n'} {h'} {k'} s w =
+pub written_four : {o r : List ℕ} {n h k x n' h' : ℕ} {f : Piece}
+    → Stuffs k x f → Inked o n h (low f.count f.bits) r n' h' → Written o n h k (low 4 x) r n' h' f.ones
+written_four {o} {r} {n} {h} {k} {x} {n'} {h'} {f} s w =
     record {
-      raw = rw s.bits w.0;
-      run = w.1 ∙ s.run;
-      short = rw w.1 s.short;
-      most = rw (length_low 4 x) (omega (arith, rw length_low at w.0.count, w.1, s.most));
+      raw = rw s.same w;
+      run = s.run;
+      short = s.short;
+      most = rw (length_low 4 x) (omega (arith, rw length_low at w.count, s.most));
     }
 
 -- the same bits
@@ -178,39 +167,43 @@ same_eq [] (y ∷ ys) t = absurd t
 same_eq (x ∷ xs) [] t = absurd t
 same_eq (x ∷ xs) (y ∷ ys) t = ap₂ (λ (z : ℕ) (zs : List ℕ). z ∷ zs) (eqb→eq x y (and_left (eqb x y) (same xs ys) t)) (same_eq xs ys (and_right (eqb x y) (same xs ys) t))
 
--- that, as a test of the entry at 16 k + x
-abbrev pub stuffs : (k x e : ℕ) → Bool
-stuffs k x e =
-    same (stuff k (low 4 x)) (low (4 + e / 32 % 2) (e % 32))
-    && (eqb (e / 64) (tail k (low 4 x)) && (ltb (e % 32) (2 ^ (4 + e / 32 % 2)) && (leb (e / 64) 4 && leb (5 * (4 + e / 32 % 2) + e / 64) (k + 24))))
+-- that, as a test
+abbrev stuffs : (k x bits count ones : ℕ) → Bool
+stuffs k x bits count ones =
+    same (stuff k (low 4 x)) (low count bits)
+    && (eqb ones (tail k (low 4 x)) && (ltb bits (2 ^ count) && (leb ones 4 && (leb (5 * count + ones) (k + 24) && (leb 4 count && leb count 5)))))
 
-five : (a b c d e : Bool) → T (a && (b && (c && (d && e)))) → T a × T b × T c × T d × T e
-five true true true true true t = (tt, tt, tt, tt, tt)
-five false b c d e t = absurd t
-five true false c d e t = absurd t
-five true true false d e t = absurd t
-five true true true false e t = absurd t
-five true true true true false t = absurd t
+both : (a b : Bool) → T (a && b) → T a × T b
+both a b t = (and_left a b t, and_right a b t)
 
-stuffs_right : (k x e : ℕ) → T (stuffs k x e) → Stuffs k x e
-stuffs_right k x e t =
-    let q =
-    five (same (stuff k (low 4 x)) (low (4 + e / 32 % 2) (e % 32))) (eqb (e / 64) (tail k (low 4 x))) (ltb (e % 32) (2 ^ (4 + e / 32 % 2))) (leb (e / 64) 4) (leb (5 * (4 + e / 32 % 2) + e / 64) (k + 24)) t in
+stuffs_right : (k x bits count ones : ℕ) → T (stuffs k x bits count ones) → Stuffs k x (record { bits = bits; count = count; ones = ones })
+stuffs_right k x bits count ones t =
+    let p = both (same (stuff k (low 4 x)) (low count bits)) _ t in
+    let q = both (eqb ones (tail k (low 4 x))) _ p.1 in
+    let r = both (ltb bits (2 ^ count)) _ q.1 in
+    let u = both (leb ones 4) _ r.1 in
+    let v = both (leb (5 * count + ones) (k + 24)) _ u.1 in
+    let w = both (leb 4 count) (leb count 5) v.1 in
     record {
-      bits = same_eq (stuff k (low 4 x)) (low (4 + e / 32 % 2) (e % 32)) q.0;
-      run = eqb→eq (e / 64) (tail k (low 4 x)) q.1;
-      fits = ltb→lt (e % 32) (2 ^ (4 + e / 32 % 2)) q.2;
-      short = leb→le (e / 64) 4 q.3;
-      most = leb→le (5 * (4 + e / 32 % 2) + e / 64) (k + 24) q.4;
+      same = same_eq (stuff k (low 4 x)) (low count bits) p.0;
+      run = eqb→eq ones (tail k (low 4 x)) q.0;
+      fits = ltb→lt bits (2 ^ count) r.0;
+      short = leb→le ones 4 u.0;
+      most = leb→le (5 * count + ones) (k + 24) v.0;
+      some = leb→le 4 count w.0;
+      few = leb→le count 5 w.1;
     }
 
 -- the run of ones at the end of four bits, as it is counted
 abbrev counted : ℕ → ℕ
 counted x = bool_byte (ltb 7 x) + bool_byte (ltb 11 x) + bool_byte (ltb 13 x) + bool_byte (ltb 14 x)
 
-pub one_bit : (b : Bool) → bool_byte b ≤ 1
+one_bit : (b : Bool) → bool_byte b ≤ 1
 one_bit true = lit≤ tt
 one_bit false = lit≤ tt
+
+pub counted_few : (x : ℕ) → counted x ≤ 4
+counted_few x = omega (arith, one_bit (ltb 7 x), one_bit (ltb 11 x), one_bit (ltb 13 x), one_bit (ltb 14 x))
 
 run_test : ℕ → Bool
 run_test x = eqb (counted x) (tail 0 (low 4 x))
@@ -239,37 +232,39 @@ module _ (k : ℕ) (h : k ≤ 4) where
   unfolding left_test
   left_few = leb→le (32 / 2 ^ k) 32 (and_right (leb 1 (32 / 2 ^ k)) (leb (32 / 2 ^ k) 32) left_tested)
 
--- the two entries: a zero is inserted, or none
-abbrev longer : (k x : ℕ) → ℕ
-longer k x = x + (x - left k) + 32 + 64 * tail 0 (low 4 ((x + (x - left k)) / 2))
-
-abbrev as_it_is : ℕ → ℕ
-as_it_is x = x + 64 * tail 0 (low 4 x)
-
 pub begins_with : (l x : ℕ) → x % (l + 1) ≡ l → l ≤ x
 begins_with l x e = let h = mod-le x (l + 1) in omega arith
 
--- x begins with all that are left
+-- x begins with all that are left: a zero is inserted, else none
 abbrev begins : (k x : ℕ) → Bool
 begins k x = eqb (x % (left k + 1)) (left k)
 
-entry : ℕ → Bool
-entry i = cond (begins (i / 16) (i % 16)) (stuffs (i / 16) (i % 16) (longer (i / 16) (i % 16))) (stuffs (i / 16) (i % 16) (as_it_is (i % 16)))
+entry : ℕ → ℕ → Bool
+entry k x =
+    cond (begins k x) (stuffs k x (x + (x - left k)) 5 (tail 0 (low 4 ((x + (x - left k)) / 2)))) (stuffs k x x 4 (tail 0 (low 4 x)))
 
--- the test, at each of them
+entries : ℕ → Bool
+entries i = entry (i / 16) (i % 16)
+
+-- the test, at each of eighty
 module _ (k x : ℕ) (hk : k ≤ 4) (hx : x < 16) where
-  tested : T (cond (begins k x) (stuffs k x (longer k x)) (stuffs k x (as_it_is x)))
-  unfolding entry stuff tail low
+  tested : T (entry k x)
+  unfolding entries entry stuff tail low
   tested =
       let d : (16 * k + x) / 16 ≡ k = omega arith in
       let f : (16 * k + x) % 16 ≡ x = omega arith in
-      rw (d, f) at (at_each entry 80 tt (16 * k + x) (omega arith))
+      rw (d, f) at (at_each entries 80 tt (16 * k + x) (omega arith))
 
-  pub zero_inserted : (r : ℕ) → x % (left k + 1) ≡ left k → r ≡ tail 0 (low 4 ((x + (x - left k)) / 2)) → Stuffs k x (x + (x - left k) + 32 + 64 * r)
-  zero_inserted r b e = rw e (stuffs_right k x (longer k x) (simp (eq-eqb (x % (left k + 1)) (left k) b) at tested))
+  pub zero_inserted : {r : ℕ} → x % (left k + 1) ≡ left k → r ≡ tail 0 (low 4 ((x + (x - left k)) / 2))
+      → Stuffs k x (record { bits = x + (x - left k); count = 5; ones = r })
+  unfolding entry
+  zero_inserted b e = rw e (stuffs_right k x _ 5 _ (simp (eq-eqb (x % (left k + 1)) (left k) b) at tested))
 
-  pub none_inserted : (r : ℕ) → (x % (left k + 1) ≡ left k → ⊥) → r ≡ tail 0 (low 4 x) → Stuffs k x (x + 64 * r)
-  none_inserted r b e = rw e (stuffs_right k x (as_it_is x) (simp (ne_eqb (x % (left k + 1)) (left k) b) at tested))
+  pub none_inserted : {r : ℕ} → (x % (left k + 1) ≡ left k → ⊥) → r ≡ tail 0 (low 4 x) → Stuffs k x (record { bits = x; count = 4; ones = r })
+  unfolding entry
+  none_inserted b e = rw e (stuffs_right k x _ 4 _ (simp (ne_eqb (x % (left k + 1)) (left k) b) at tested))
+
+pub ruleset stuffing = (left_some, left_few, begins_with)
 
 -- ---- a whole frame
 
@@ -282,11 +277,11 @@ module _ (j : ℕ) (h : j ≤ 8) where
   unfolding ones_test low
   ones_tested = at_each ones_test 9 tt j (omega arith)
 
-  ones_fit : 255 / 2 ^ (8 - j) < 2 ^ j
+  pub ones_fit : 255 / 2 ^ (8 - j) < 2 ^ j
   unfolding ones_test
   ones_fit = ltb→lt (255 / 2 ^ (8 - j)) (2 ^ j) (and_left (ltb (255 / 2 ^ (8 - j)) (2 ^ j)) (same (low j (255 / 2 ^ (8 - j))) (replicate j 1)) ones_tested)
 
-  ones_are : low j (255 / 2 ^ (8 - j)) ≡ replicate j 1
+  pub ones_are : low j (255 / 2 ^ (8 - j)) ≡ replicate j 1
   unfolding ones_test
   ones_are =
       same_eq (low j (255 / 2 ^ (8 - j))) (replicate j 1)
@@ -296,56 +291,22 @@ module _ (j : ℕ) (h : j ≤ 8) where
 abbrev pub lacking : ℕ → ℕ
 lacking n = (8 - n % 8) % 8
 
-pub fill_none : (o : List ℕ) (n h : ℕ) → h < 2 ^ (n % 8) → lacking n ≡ 0 → Inked o n h (replicate (lacking n) 1) o (8 * (n / 8)) 0
-fill_none o n h hh z =
-    let d : n % 8 ≡ 0 = omega arith in
-    let f : 8 * (n / 8) ≡ n = omega arith in
-    let g : h ≡ 0 = lt-one (rw d at hh) in
-    rw (z, f, g) (inked_none o n 0 (pow_pos (n % 8)))
+pub fill_none : {o : List ℕ} {n h : ℕ} → h < 2 ^ (n % 8) → lacking n ≡ 0 → Inked o n h (replicate (lacking n) 1) o n h
+fill_none {o} {n} {h} hh z = rw z (inked_none o n h hh)
 
-pub fill_room : (o : List ℕ) (n h : ℕ) → 24 ≤ length o → n ≤ 192 → h < 2 ^ (n % 8) → (lacking n ≡ 0 → ⊥)
-    → (24 ≤ length o) × (n + lacking n ≤ 192) × (h < 2 ^ (n % 8)) × (0 < lacking n) × (lacking n ≤ 8) × (255 / 2 ^ (8 - lacking n) < 2 ^ lacking n)
-fill_room o n h ho hn hh z = (ho, omega arith, hh, pos (lacking n) z, omega arith, ones_fit (lacking n) (omega arith))
-  where
-    pos : (m : ℕ) → (m ≡ 0 → ⊥) → 0 < m
-    pos zero q = absurd (q refl)
-    pos (suc m) q = omega arith
-
-pub fill_some : (o r : List ℕ) (n h n' h' : ℕ) → Inked o n h (low (lacking n) (255 / 2 ^ (8 - lacking n))) r n' h' → Inked o n h (replicate (lacking n) 1) r (8 * (n' / 8)) 0
-fill_some o r n h n' h' w =
-    let d : n' % 8 ≡ 0 = omega (arith, rw length_low at w.count) in
-    let f : 8 * (n' / 8) ≡ n' = omega arith in
-    let g : h' ≡ 0 = lt-one (rw d at w.held) in
-    rw f (rw (ones_are (lacking n) (omega arith), g) at w)
-
-flag_low : low 8 0x7E ≡ flag
+pub flag_low : low 8 0x7E ≡ flag
 unfolding low
 flag_low = refl
 
-pub frame_written : {o₀ o₁ o₂ o₃ o₄ o₅ o₆ : List ℕ} {n₁ h₁ n₂ h₂ n₃ h₃ n₄ h₄ n₅ h₅ n₆ k₁ k₂ k₃ k₄ : ℕ} (body : List ℕ) (v : ℕ)
-    → v ≡ check_of body → n₆ ≤ length o₆ → k₁ ≡ 0
-    → Inked o₀ 0 0 (low 8 0x7E) o₁ n₁ h₁ → Written o₁ n₁ h₁ k₁ (wire body) o₂ n₂ h₂ k₂ → Written o₂ n₂ h₂ k₂ (low 8 (v % 256)) o₃ n₃ h₃ k₃
-    → Written o₃ n₃ h₃ k₃ (low 8 (v / 256)) o₄ n₄ h₄ k₄ → Inked o₄ n₄ h₄ (low 8 0x7E) o₅ n₅ h₅ → Inked o₅ n₅ h₅ (replicate (lacking n₅) 1) o₆ (8 * n₆) 0
-    → Raw o₀ 0 (filled (frame body)) o₆ (8 * n₆)
-unfolding filled frame
-frame_written {o₀} {o₁} {o₂} {o₃} {o₄} {o₅} {o₆} {n₁} {h₁} {n₂} {h₂} {n₃} {h₃} {n₄} {h₄} {n₅} {h₅} {n₆} {k₁} {k₂} {k₃} {k₄} body v e hn z a w₂ w₃ w₄ d f =
-    let c : (wire body ++ low 8 (v % 256)) ++ low 8 (v / 256) ≡ content_of body =
-    append_assoc (wire body) (low 8 (v % 256)) (low 8 (v / 256)) ∙ ap (λ (x : List ℕ). wire body ++ x) (low_bytes v) ∙ sym (content_bits body v e) in
-    let w : Written o₁ n₁ h₁ 0 (content_of body) o₄ n₄ h₄ k₄ = rw (z, c) at (written_then (written_then w₂ w₃) w₄) in
-    let g : Inked o₀ 0 0 (flag ++ (stuff 0 (content_of body) ++ flag)) o₅ n₅ h₅ =
-    rw (flag_low, append_assoc flag (stuff 0 (content_of body)) flag) at (inked_then (inked_then a w.raw) d) in
-    let m : length (flag ++ (stuff 0 (content_of body) ++ flag)) ≡ n₅ = omega (arith, g.count) in
-    inked_raw o₀ _ o₆ n₆ 0 hn (rw m (inked_then g f))
-
 -- whole bytes written from the front are put there
-pub laid : (o l r : List ℕ) (k : ℕ) → Raw o 0 l r (8 * k) → AreBytes r → (length (pack l) ≡ k) × (r ≡ put 0 (pack l) o)
-unfolding put
-laid o l r k w h =
-    let q : min (8 * k) (length (wire r)) ≡ length l = sym (length-take (8 * k) (wire r)) ∙ ap length w.bits in
-    let hk : k ≤ length r = omega (arith, w.count, length_wire r) in
-    let n : length (take k r) ≡ k = length-take-le k r hk in
-    let p : pack l ≡ take k r = ap pack (sym w.bits ∙ take_wire k r hk) ∙ pack_wire (take k r) (bytes_take k r h) in
-    let lp : length (pack l) ≡ k = ap length p ∙ n in
+pub laid : (o l r : List ℕ) (k : ℕ) {h : ℕ} → k ≤ length r → Inked o 0 0 l r (8 * k) h → AreBytes r → r ≡ put 0 (pack l) o
+unfolding put low wire
+laid o l r k {h} hk a t =
+    let d : (8 * k) / 8 ≡ k = omega arith in
+    let f : (8 * k) % 8 ≡ 0 = omega arith in
+    let w : wire (take k r) ≡ l = (sym (append-nil (wire (take k r)))) ∙ (rw (d, f) at a.bits) in
+    let p : take k r ≡ pack l = sym (pack_wire (take k r) (bytes_take k r t)) ∙ ap pack w in
+    let n : length (pack l) ≡ k = ap length (sym p) ∙ length-take-le k r hk in
     let e : (8 * k + 7) / 8 ≡ k = omega arith in
-    let f : 0 + length (pack l) ≡ k = omega arith in
-    (lp, sym (ap₂ (λ (x : List ℕ) (m : ℕ). x ++ drop m o) p f ∙ ap (λ (x : List ℕ). take k r ++ x) (sym (rw e at w.rest)) ∙ take-append-drop k r))
+    let z : 0 + length (pack l) ≡ k = omega arith in
+    sym (take-append-drop k r) ∙ ap₂ (λ (x y : List ℕ). x ++ y) p ((rw e at a.rest) ∙ ap (λ (m : ℕ). drop m o) (sym z))

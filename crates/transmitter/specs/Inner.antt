@@ -21,24 +21,9 @@ pub record Inked (o : List ℕ) (n h : ℕ) (bs r : List ℕ) (n' h' : ℕ) : Ty
   pub rest : drop ((n' + 7) / 8) r ≡ drop ((n' + 7) / 8) o
   pub size : length r ≡ length o
 
--- bits written as they are, after n bits: n' bits now
-pub record Raw (o : List ℕ) (n : ℕ) (bs r : List ℕ) (n' : ℕ) : Type 0 where
-  pub count : n' ≡ n + length bs
-  pub bits : take n' (wire r) ≡ take n (wire o) ++ bs
-  pub rest : drop ((n' + 7) / 8) r ≡ drop ((n' + 7) / 8) o
-  pub size : length r ≡ length o
-
 -- stuffed bits written after n bits and a run of k ones: n' bits and a run of k' now
 pub record Written (o : List ℕ) (n h k : ℕ) (bs r : List ℕ) (n' h' k' : ℕ) : Type 0 where
   pub raw : Inked o n h (stuff k bs) r n' h'
   pub run : k' ≡ tail k bs
   pub short : k' ≤ 4
   pub most : 5 * n' + k' ≤ 5 * n + k + 6 * length bs
-
--- what a number e says of the four bits x after a run of k ones
-pub record Stuffs (k x e : ℕ) : Type 0 where
-  pub bits : stuff k (low 4 x) ≡ low (4 + e / 32 % 2) (e % 32)
-  pub run : e / 64 ≡ tail k (low 4 x)
-  pub fits : e % 32 < 2 ^ (4 + e / 32 % 2)
-  pub short : e / 64 ≤ 4
-  pub most : 5 * (4 + e / 32 % 2) + e / 64 ≤ k + 24

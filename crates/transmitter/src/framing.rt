@@ -2,128 +2,103 @@
 ghost use Rattle.std.specs.Prelude.{◌≡◌, ◌+◌, ◌*◌, ◌-◌, ◌%◌, ◌^◌, ◌<◌, ◌≤◌, length, replicate};
 ghost use Rattle.numbers.specs.Numbers.{body_most, cable_most};
 ghost use Rattle.wire.specs.Bits.{low, wire};
-ghost use Rattle.transmitter.specs.Frame.{frame, filled};
-ghost use Rattle.transmitter.specs.Inner.{Inked, Raw, Stuffs, Written, tail};
+ghost use Rattle.parts.specs.Parts.{put};
+ghost use Rattle.transmitter.specs.Frame.{framed};
+
+use crate::stuffing::stuffed;
 
 const FLAG: u16 = 0x7E;
 
-// How far the output is written: its bits, those of them in its last byte as long as it is not whole, and the
-// run of ones at their end.
-#[derive(Clone, Copy)]
-struct Pen {
+// The lent output and how far it is written: its bits, those of them in its last byte as long as it is not whole, and the run of ones at their end.
+#[derive(Drop)]
+struct Pen<'a> {
+    output: &'a mut [u8],
     bits: usize,
     held: u16,
     ones: u16,
+    ghost room: { cable_most ≤ length output.now },
+    ghost in_byte: { held < 2 ^ (bits % 8) },
+    ghost short: { ones ≤ 4 },
 }
 
-// Some bits more. Each goes out at once, but no byte is read back: the pen holds what stands in the last one.
-fn put(output: &mut [u8], pen: Pen, v: u16, count: usize) -> Pen
-    requires { (cable_most ≤ length output.old) × (pen.bits + count ≤ 192) × (pen.held < 2 ^ (pen.bits % 8)) × (0 < count) × (count ≤ 8) × (v < 2 ^ count) }
-    ensures { Inked output.old pen.bits pen.held (low count v) output.new result.bits result.held × (result.ones ≡ pen.ones) }
-{
-    let k = pen.bits / 8;
-    let j = pen.bits % 8;
-    let all = pen.held + (v << j);
-    output[k] = (all % 256) as u8;
-    Pen {
-        bits: pen.bits + count,
-        held: all >> (8 * ((j + count) / 8)),
-        ones: pen.ones,
+impl<'a> Pen<'a> {
+    ghost use Rattle.transmitter.specs.Pen.{Inks, Writes};
+
+    // Some bits more. Each goes out at once, but no byte is read back: the pen holds what stands in the last one.
+    fn put(&mut self, v: u16, count: usize)
+        requires { (self.old.bits + count ≤ 192) × (0 < count) × (count ≤ 8) × (v < 2 ^ count) }
+        ensures { Inks self.old (low count v) self.new × (self.new.ones ≡ self.old.ones) }
+    {
+        let k = self.bits / 8;
+        let j = self.bits % 8;
+        let all = self.held + (v << j);
+        self.output[k] = (all % 256) as u8;
+        self.held = all >> (8 * ((j + count) / 8));
+        self.bits += count;
+    }
+
+    // Four bits of content, with a zero after a fifth one.
+    fn stuff_four(&mut self, x: u16)
+        requires { (5 * self.old.bits + self.old.ones ≤ 884) × (x < 16) }
+        ensures { Writes self.old (low 4 x) self.new }
+    {
+        let out = stuffed(self.ones, x);
+        self.put(out.bits, out.count);
+        self.ones = out.ones;
+    }
+
+    // The eight bits of a byte of content.
+    #[tactic(auto, using(wire::proofs::Bits::length_low))]
+    fn stuff_byte(&mut self, x: u8)
+        requires { 5 * self.old.bits + self.old.ones ≤ 860 }
+        ensures { Writes self.old (low 8 x) self.new }
+    {
+        self.stuff_four((x % 16) as u16);
+        self.stuff_four((x / 16) as u16);
+    }
+
+    // The bytes of a slice, as content.
+    #[tactic(auto, using(crate::proofs::Pens::lengths))]
+    fn stuff_bytes(&mut self, s: &[u8])
+        requires { (length s.now ≤ body_most) × (5 * self.old.bits + self.old.ones ≤ 40) }
+        ensures { Writes self.old (wire s.now) self.new }
+    {
+        for x in s {
+            self.stuff_byte(*x);
+        }
+    }
+
+    // Ones to fill the last byte: how many bytes are written.
+    fn fill(&mut self) -> usize
+        requires { self.old.bits ≤ 192 }
+        ensures { Inks self.old (replicate ((8 - self.old.bits % 8) % 8) 1) self.new × (self.new.bits ≡ 8 * result) }
+    {
+        let count = (8 - self.bits % 8) % 8;
+        if count > 0 {
+            self.put(255 >> (8 - count), count);
+        }
+        self.bits / 8
     }
 }
 
-// The run of ones at the end of four bits.
-fn run_of(x: u16) -> u16
-    requires { x < 16 }
-    ensures { (result ≡ tail 0 (low 4 x)) × (result ≤ 4) }
-{
-    (7 < x) as u16 + (11 < x) as u16 + (13 < x) as u16 + (14 < x) as u16
-}
-
-// Four bits x of content after a run of ones: the bits that go out, plus 32 if a zero was inserted (there is room for one only), plus 64 times the
-// run of ones at their end. It is inserted where x begins with all the ones that are left up to the fifth.
-fn stuffed(ones: u16, x: u16) -> u16
-    requires { (ones ≤ 4) × (x < 16) }
-    ensures { Stuffs ones x result }
-{
-    let left = (32 >> ones) - 1;
-    if x % (left + 1) == left {
-        let out = x + (x - left);
-        return out + 32 + 64 * run_of(out / 2);
-    }
-    x + 64 * run_of(x)
-}
-
-// Four bits of content, with a zero after a fifth one.
-fn stuff_four(output: &mut [u8], pen: Pen, x: u16) -> Pen
-    requires { (cable_most ≤ length output.old) × (5 * pen.bits + pen.ones ≤ 884) × (pen.held < 2 ^ (pen.bits % 8)) × (pen.ones ≤ 4) × (x < 16) }
-    ensures { Written output.old pen.bits pen.held pen.ones (low 4 x) output.new result.bits result.held result.ones }
-{
-    let e = stuffed(pen.ones, x);
-    let count = (4 + e / 32 % 2) as usize;
-    put(
-        output,
-        Pen {
-            bits: pen.bits,
-            held: pen.held,
-            ones: e / 64,
-        },
-        e % 32,
-        count,
-    )
-}
-
-// The eight bits of a byte of content.
-fn stuff_byte(output: &mut [u8], pen: Pen, x: u8) -> Pen
-    requires { (cable_most ≤ length output.old) × (5 * pen.bits + pen.ones ≤ 860) × (pen.held < 2 ^ (pen.bits % 8)) × (pen.ones ≤ 4) }
-    ensures { Written output.old pen.bits pen.held pen.ones (low 8 x) output.new result.bits result.held result.ones }
-{
-    let p = stuff_four(output, pen, (x % 16) as u16);
-    stuff_four(output, p, (x / 16) as u16)
-}
-
-// The bytes of a slice, as content.
-fn stuff_bytes(output: &mut [u8], pen: Pen, s: &[u8]) -> Pen
-    requires { (cable_most ≤ length output.old) × (length s.now ≤ body_most) × (5 * pen.bits + pen.ones ≤ 40) × (pen.held < 2 ^ (pen.bits % 8)) × (pen.ones ≤ 4) }
-    ensures { Written output.old pen.bits pen.held pen.ones (wire s.now) output.new result.bits result.held result.ones }
-{
-    let mut p = pen;
-    let mut i: usize = 0;
-    while i < s.len() {
-        p = stuff_byte(output, p, s[i]);
-        i += 1;
-    }
-    p
-}
-
-// Ones to fill the last byte: how many bytes are written.
-fn fill(output: &mut [u8], pen: Pen) -> usize
-    requires { (cable_most ≤ length output.old) × (pen.bits ≤ 192) × (pen.held < 2 ^ (pen.bits % 8)) }
-    ensures { Inked output.old pen.bits pen.held (replicate ((8 - pen.bits % 8) % 8) 1) output.new (8 * result) 0 }
-{
-    let count = (8 - pen.bits % 8) % 8;
-    if count == 0 {
-        return pen.bits / 8;
-    }
-    let p = put(output, pen, 255 >> (8 - count), count);
-    p.bits / 8
-}
-
+#[tactic(auto, using(crate::proofs::Pens::lengths))]
 // A body as a frame, with ones to fill the last byte: how many bytes were written.
 pub(crate) fn write_frame(body: &[u8], output: &mut [u8]) -> usize
     requires { (length body.now ≤ body_most) × (cable_most ≤ length output.old) }
-    ensures { Raw output.old 0 (filled (frame body.now)) output.new (8 * result) }
+    ensures value { result ≡ length (framed body.now) }
+    ensures output_after { output.new ≡ put 0 (framed body.now) output.old }
 {
     let check = wire::PRESET - wire::register(body);
-    let start = Pen {
+    let mut pen = Pen {
+        output,
         bits: 0,
         held: 0,
         ones: 0,
     };
-    let p = put(output, start, FLAG, 8);
-    let q = stuff_bytes(output, p, body);
-    let s = stuff_byte(output, q, (check % 256) as u8);
-    let t = stuff_byte(output, s, (check / 256) as u8);
-    let u = put(output, t, FLAG, 8);
-    fill(output, u)
+    pen.put(FLAG, 8);
+    pen.stuff_bytes(body);
+    pen.stuff_byte((check % 256) as u8);
+    pen.stuff_byte((check / 256) as u8);
+    pen.put(FLAG, 8);
+    pen.fill()
 }

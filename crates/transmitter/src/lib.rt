@@ -2,45 +2,24 @@
 #![tactic(auto)]
 
 mod framing;
+mod stuffing;
 
 ghost use Rattle.std.specs.Prelude.{◌≡◌};
 ghost use Rattle.transmitter.specs.Transmit as transmit;
 
-use numbers::{BAD_BODY, BODY_LEAST, BODY_MOST, CABLE_MOST, HAS_FRAME, SHORT_OUTPUT};
+use numbers::{BODY_LEAST, BODY_MOST, CABLE_MOST, Refusal};
 
-// What a transmission gives: the number, and how many bytes were written.
-#[derive(Clone, Copy)]
-pub struct Sent {
-    pub number: u8,
-    pub count: usize,
-}
-
-// Frames a body.
-pub fn transmit(body: &[u8], output: &mut [u8]) -> Sent
-    ensures value { result ≡ transmit.transmitted body.now output.old }
+// Frames a body: how many bytes were written.
+#[tactic(auto, unfolding(crate::specs::Transmit::transmitted, crate::specs::Transmit::output_after))]
+pub fn transmit(body: &[u8], output: &mut [u8]) -> Result<usize, Refusal>
+    ensures value { transmit.sent_of result ≡ transmit.transmitted body.now output.old }
     ensures output_after { output.new ≡ transmit.output_after body.now output.old }
 {
-    if body.len() < BODY_LEAST {
-        return Sent {
-            number: BAD_BODY,
-            count: 0,
-        };
-    }
-    if BODY_MOST < body.len() {
-        return Sent {
-            number: BAD_BODY,
-            count: 0,
-        };
+    if body.len() < BODY_LEAST || BODY_MOST < body.len() {
+        return Err(Refusal::BadBody);
     }
     if output.len() < CABLE_MOST {
-        return Sent {
-            number: SHORT_OUTPUT,
-            count: 0,
-        };
+        return Err(Refusal::ShortOutput);
     }
-    let count = framing::write_frame(body, output);
-    Sent {
-        number: HAS_FRAME,
-        count,
-    }
+    Ok(framing::write_frame(body, output))
 }

@@ -1,7 +1,7 @@
 -- Laws of bits in bytes: cut, joined, and packed again.
 use mathlib.Core.Path.{◌≡◌, refl, sym, ap, ap₂, ◌∙◌}
 use mathlib.Core.Logic.{◌⊎◌, inl, inr}
-use mathlib.Core.List.{List, [], ◌∷◌, ◌++◌, append_assoc}
+use mathlib.Core.List.{List, [], ◌∷◌, ◌++◌, append_assoc, append-nil}
 use Prim.Native.Nat.{ℕ, zero, suc, ◌+◌, ◌*◌, ◌/◌, ◌%◌, ◌^◌, ◌≤◌, ◌<◌}
 use native.Mathlib.Nat.{pow-suc, div-one, zero-add, suc-add}
 use native.Mathlib.Numerals.{add-one, one-add}
@@ -10,7 +10,7 @@ use lib.Arith.{lt-one}
 use lib.Bits.{block_half, block_odd}
 use lib.Pow.{shr-shr, split}
 use lib.ListN.{length, take, drop, get_or, replicate, length-append, length-take, length-drop, drop_of_length-le, take-append-drop}
-use lib.Seq.{drop-cons, drop-nil, take_at, drop_at}
+use lib.Seq.{take-suc, drop-cons, drop-nil, take_at, drop_at}
 -- given on, for what reads bits and bytes together
 pub use Rattle.parts.proofs.Laws.{AreBytes}
 use Rattle.wire.specs.Bits.{low, wire, num, octets, pack}
@@ -100,6 +100,10 @@ length_wire (x ∷ p) = rw (length-append (low 8 x) (wire p), length_low 8 x, le
 pub wire_cons : (s : List ℕ) (i : ℕ) → i < length s → wire (drop i s) ≡ low 8 (get_or s i 0) ++ wire (drop (i + 1) s)
 unfolding wire
 wire_cons s i h = rw (add-one, drop-cons s i 0 h) refl
+
+pub wire_more : (s : List ℕ) (i : ℕ) → i < length s → wire (take (i + 1) s) ≡ wire (take i s) ++ low 8 (get_or s i 0)
+unfolding wire
+wire_more s i h = rw (add-one, take-suc s i 0 h, wire_append (take i s) (get_or s i 0 ∷ []), append-nil (low 8 (get_or s i 0))) refl
 
 pub wire_end : (s : List ℕ) (i j : ℕ) → length s ≤ i → drop j (wire (drop i s)) ≡ []
 unfolding wire

@@ -13,7 +13,7 @@ use lib.Dec.{eqb, eqb→eq, lit<}
 use Rattle.wire.specs.Bits.{low, wire}
 use Rattle.wire.specs.Fcs.{polynomial, preset, residue, register_bit, register, check_of, fcs}
 use Rattle.wire.specs.Frame.{content_of}
-use Rattle.wire.proofs.Bits.{low_mod, low_add, low_bytes, wire_append}
+use Rattle.wire.proofs.Bits.{low_mod, low_add, low_bytes, wire_append, wire_more}
 use Rattle.wire.proofs.Tests.{at_each}
 
 -- ---- bits after bits
@@ -27,6 +27,12 @@ register_bit_lt c b h = xor_lt 16 (c / 2) (polynomial * ((c % 2 + b) % 2)) (omeg
 pub register_append : (c : ℕ) (l m : List ℕ) → register c (l ++ m) ≡ register (register c l) m
 unfolding register
 register_append c l m = foldl-append register_bit c l m
+
+pub register_none : (c : ℕ) → register c (wire []) ≡ c
+unfolding register wire
+register_none c = refl
+
+pub ruleset bytes_in = (register_none, register_append, wire_more)
 
 pub register_lt : (l : List ℕ) (c : ℕ) → c < 65536 → register c l < 65536
 unfolding register register_bit

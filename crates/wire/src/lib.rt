@@ -11,6 +11,7 @@ pub const PRESET: u16 = 0xFFFF;
 const FOUR_STEPS: u16 = 0x1081;
 
 // The register after four bits.
+#[tactic(auto, using(crate::proofs::Check::register_four_lem))]
 fn register_four(c: u16, x: u16) -> u16
     requires { x < 16 }
     ensures { result ≡ fcs.register c (low 4 x) }
@@ -19,22 +20,21 @@ fn register_four(c: u16, x: u16) -> u16
 }
 
 // The register after the eight bits of a byte.
-fn register_byte(start: u16, x: u8) -> u16
-    ensures { result ≡ fcs.register start (low 8 x) }
+#[tactic(auto, using(crate::proofs::Check::low_nibbles, crate::proofs::Check::register_append))]
+fn register_byte(c: u16, x: u8) -> u16
+    ensures { result ≡ fcs.register c (low 8 x) }
 {
-    let c = register_four(start, (x % 16) as u16);
-    register_four(c, (x / 16) as u16)
+    register_four(register_four(c, (x % 16) as u16), (x / 16) as u16)
 }
 
 // The register after the bytes of a slice.
+#[tactic(auto, using(crate::proofs::Check::bytes_in))]
 pub fn register(s: &[u8]) -> u16
     ensures { result ≡ fcs.register fcs.preset (wire s.now) }
 {
     let mut c = PRESET;
-    let mut i: usize = 0;
-    while i < s.len() {
-        c = register_byte(c, s[i]);
-        i += 1;
+    for x in s {
+        c = register_byte(c, *x);
     }
     c
 }
