@@ -108,6 +108,7 @@ impl Event<'_> {
 }
 
 // The chip's answer to an event, on the link and the registers where they stand.
+#[inline(always)]
 fn react(link: Link, registers: &mut [u8], event: Event, output: &mut [u8]) -> Response
     requires registers_len { length registers.old ≡ size }
     requires fits { Fits (event_of event) }
@@ -142,6 +143,7 @@ fn react(link: Link, registers: &mut [u8], event: Event, output: &mut [u8]) -> R
 
 // The record of an event that happens to a state joins the journal; an accepted RESET empties it.
 #[tactic(auto, using(journal::proofs::Ring::size_in), unfolding(journal::specs::Record::before))]
+#[inline(always)]
 fn record_event(journal: &mut [u8], state: &[u8], event: Event)
     requires journal_value { well_formed journal.old ≡ true }
     requires state_len { length state.now ≡ state_size }
@@ -156,6 +158,7 @@ fn record_event(journal: &mut [u8], state: &[u8], event: Event)
 }
 
 // An event that nothing refuses: its record, its answer, and the link that the chip gives back.
+#[inline(always)]
 pub(crate) fn happen(
     state: &mut [u8],
     journal: &mut [u8],

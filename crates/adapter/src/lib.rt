@@ -136,8 +136,9 @@ pub fn judge(
     Ok(())
 }
 
-// An event happens, unless something refuses it.
+// An event happens, unless something refuses it. It is inlined into each call, and so is what it comes to: there the kind of event is known.
 #[tactic(auto, using(crate::proofs::Cases::passed), unfolding(crate::specs::Calls::called, crate::specs::Refusals::verdict))]
+#[inline(always)]
 fn call(
     state: &mut [u8],
     journal: &mut [u8],
