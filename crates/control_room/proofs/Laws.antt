@@ -1,20 +1,24 @@
 -- The laws of the record: what is read after a store, the walks over all TRNs, what a record is.
-use Prim.Native.Nat.{ℕ, zero, suc, ◌+◌, ◌*◌, ◌-◌, ◌≤◌, ◌<◌}
-use mathlib.Core.Bool.{Bool, true, false, not, ◌&&◌, cond, true≢false}
+use Prim.Native.Nat.{ℕ, zero, suc, ◌+◌, ◌*◌, ◌≤◌, ◌<◌}
+use mathlib.Core.Bool.{Bool, true, false, ◌&&◌, true≢false}
 use mathlib.Core.List.{List, [], ◌∷◌, ◌++◌, append_assoc}
 use mathlib.Core.Logic.{inl, inr}
 use mathlib.Core.Path.{◌≡◌, refl, sym, ap, ap₂, subst, ◌∙◌}
 use native.Mathlib.Numerals.{add-one}
 use native.Mathlib.Omega.{arith}
-use borrow.Author.Tests.{eq-eqb, ne_eqb, eqb-true, eqb-false, leb-true, le-leb, ltb-true, ltb-false, not-true, not-false}
+use borrow.Author.Tests.{eq-eqb, eqb-true, eqb-false, leb-true, le-leb, ltb-true, ltb-false}
 use lib.Dec.{eqb, leb, ltb, lit<}
 use lib.ListN.{length, take, drop, length-append, length-drop, take-append-drop}
 use lib.Seq.{take_at, drop_at, drop-drop, length-take-le}
+use Rattle.std.specs.Prelude.{Option, None, Some}
+use Rattle.std.specs.Option.{option_map}
+use Rattle.std.specs.List.{list_all, find, range_with_len}
 use Rattle.bits.proofs.Tests.{and_left, and_right, both, cond_cases}
 use Rattle.parts.specs.Parts.{part, put}
 use Rattle.parts.specs.Digits.{number, digits}
 use Rattle.parts.proofs.Laws.{Apart, length_put, length_part, part_put_apart, part_put_same}
 use Rattle.parts.proofs.Digits.{length_digits, number_digits}
+use Rattle.control_room.specs.Given.{trn_after}
 use Rattle.control_room.specs.Record.{record_size, number_at, with_number, frame_number, is_open, lowest_free, is_sound, are_sound, is_record}
 
 -- ---- a number stored
@@ -84,45 +88,21 @@ stored_and_back r k v n l z =
     put_again (2 * k) (digits 2 v) (digits 2 0) r (length_digits 2 0 ∙ sym (length_digits 2 v)) (room r k v n l)
     ∙ ap (λ (s : List ℕ). put (2 * k) s r) (both_zero (part (2 * k) 2 r) (length_part (2 * k) 2 r i) z) ∙ put_own (2 * k) 2 r i
 
--- ---- the walks: TRN t and the 255 - t from it on
+-- ---- the walks: n TRNs from t on, in their order
 
-left_one : (t : ℕ) → t < 255 → 255 - t ≡ suc (255 - suc t)
-left_one t h = omega arith
+pub sound_walk : (r : List ℕ) (t n : ℕ) → list_all (λ trn. is_sound (number_at r trn)) (range_with_len t n) ≡ are_sound r t n
+unfolding are_sound
+sound_walk r t zero = refl
+sound_walk r t (suc n) = rw add-one (ap (λ (b : Bool). is_sound (number_at r t) && b) (sound_walk r (suc t) n))
 
-module _ (r : List ℕ) (t : ℕ) (h : t < 255) where
-  sound_next : are_sound r t (255 - t) ≡ (is_sound (number_at r t) && are_sound r (t + 1) (255 - (t + 1)))
-  unfolding are_sound
-  sound_next = rw (left_one t h, add-one t) refl
+pub free_walk : (r : List ℕ) (t n : ℕ) → trn_after (find (λ trn. eqb (number_at r trn) 0) (range_with_len t n)) ≡ lowest_free r t n
+unfolding lowest_free
+free_walk r t zero = refl
+free_walk r t (suc n) = rw add-one (let h = free_walk r (suc t) n in grind arith)
 
-  free_next : lowest_free r t (255 - t) ≡ cond (is_open r t) (lowest_free r (t + 1) (255 - (t + 1))) t
-  unfolding lowest_free
-  free_next = rw (left_one t h, add-one t) refl
-
-  pub sound_more : (due b : Bool) (e : ℕ) → due ≡ are_sound r t (255 - t) → e ≡ number_at r t → b ≡ is_sound e → not b ≡ false
-      → due ≡ are_sound r (t + 1) (255 - (t + 1))
-  sound_more due b e d f g i = d ∙ sound_next ∙ ap (λ (s : Bool). s && are_sound r (t + 1) (255 - (t + 1))) (ap is_sound (sym f) ∙ sym g ∙ not-false b i)
-
-  pub sound_not : (due b : Bool) (e : ℕ) → due ≡ are_sound r t (255 - t) → e ≡ number_at r t → b ≡ is_sound e → not b ≡ true → false ≡ due
-  sound_not due b e d f g i =
-      sym (d ∙ sound_next ∙ ap (λ (s : Bool). s && are_sound r (t + 1) (255 - (t + 1))) (ap is_sound (sym f) ∙ sym g ∙ not-true b i))
-
-  pub free_more : (due e : ℕ) → due ≡ lowest_free r t (255 - t) → e ≡ number_at r t → (e ≡ 0 → ⊥) → due ≡ lowest_free r (t + 1) (255 - (t + 1))
-  free_more due e d f z = d ∙ free_next ∙ rw (← f, ne_eqb e 0 z) refl
-
-  pub free_here : (due e : ℕ) → due ≡ lowest_free r t (255 - t) → e ≡ number_at r t → e ≡ 0 → t ≡ due
-  free_here due e d f z = sym (d ∙ free_next ∙ rw (← f, eq-eqb e 0 z) refl)
-
-module _ (r : List ℕ) (t : ℕ) (l : t ≤ 255) (u : 255 ≤ t) where
-  none_left : 255 - t ≡ 0
-  none_left = omega arith
-
-  pub sound_end : (due : Bool) → due ≡ are_sound r t (255 - t) → true ≡ due
-  unfolding are_sound
-  sound_end due d = sym (d ∙ rw none_left refl)
-
-  pub free_end : (due : ℕ) → due ≡ lowest_free r t (255 - t) → 0xFF ≡ due
-  unfolding lowest_free
-  free_end due d = sym (d ∙ rw none_left refl)
+pub same_trn : (o : Option ℕ) → trn_after o ≡ trn_after (option_map (λ x. x) o)
+same_trn None = refl
+same_trn (Some trn) = refl
 
 -- ---- what a record is
 

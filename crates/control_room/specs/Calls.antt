@@ -1,13 +1,15 @@
 -- The control room's calls: what each gives, and what it leaves in the record and in the output, refused or not. What refuses a call stands first in
 -- its definition, in document 02's order.
-use Rattle.std.specs.Prelude.{ℕ, ◌*◌, Bool, true, false, not, ◌&&◌, ◌||◌, cond, List, [], ◌∷◌, eqb, ltb, length, get_or, replicate}
+use Rattle.std.specs.Prelude.{ℕ, ◌*◌, Bool, true, false, not, ◌&&◌, ◌||◌, cond, List, [], ◌∷◌, eqb, ltb, length, get_or, replicate, Result, Ok, Err}
 use Rattle.numbers.specs.Numbers.{has_frame, no_frame, short_output, bad_state, all_open, no_match, bad_reply, no_command, output_least, reply_bytes}
+use Rattle.numbers.specs.declared.Refusal.{Refusal}
+use Rattle.numbers.specs.declared.Refusal.TheVariants.{BadState, ShortOutput}
 use Rattle.parts.specs.Parts.{put}
 use Rattle.parts.specs.Digits.{digits}
 use Rattle.commands.specs.Request.{interrupt_transaction}
 use Rattle.link.specs.Link.{is_connect, is_reset, is_test}
 use Rattle.packets.specs.Packets.{address, request_body, data_of}
-use Rattle.control_room.specs.declared.Given.{Given}
+pub use Rattle.control_room.specs.Given.{Given, gives}
 use Rattle.control_room.specs.Record.{record_size, frame_number, counted_up, counted_anew, command_at, is_listed, len_of, number_at, is_open_to, command_in, opened, closed, free_trn, is_record}
 
 -- ---- what a call gives, and its two buffers afterwards
@@ -20,10 +22,6 @@ pub record Outcome : Type 0 where
 abbrev pub outcome : Given → List ℕ → List ℕ → Outcome
 outcome given kept output = record { given = given; kept = kept; output = output }
 
--- number, bytes written, whether it is an interrupt
-abbrev pub gives : ℕ → ℕ → Bool → Given
-gives number length interrupt = record { number = number; length = length; interrupt = interrupt }
-
 -- "Each leaves record and output unchanged."
 abbrev pub refused : ℕ → List ℕ → List ℕ → Outcome
 refused number r output = outcome (gives number 0 false) r output
@@ -33,6 +31,10 @@ abbrev pub unless_refused : List ℕ → List ℕ → Outcome → Outcome
 unless_refused r output rest =
     cond (not (is_record r)) (refused bad_state r output)
     (cond (ltb (length output) output_least) (refused short_output r output) rest)
+
+-- the same two, as the code answers them
+abbrev pub judged : List ℕ → List ℕ → Result (Unit {0}) Refusal
+judged r output = cond (not (is_record r)) (Err BadState) (cond (ltb (length output) output_least) (Err ShortOutput) (Ok tt))
 
 -- ---- a new record: nothing open, frame number 0
 

@@ -1,12 +1,11 @@
 -- THE RECORD of up to 254 open transactions, in bytes that the caller lends: 255 numbers of two bytes each, low byte first. Number 0 is the frame number.
 -- Number TRN, 0x01 to 0xFE, is the request that is open with it: its channel below, its command above; 0 where none is. docs/RECORD.md has it
 -- byte by byte.
-use Rattle.std.specs.Prelude.{ℕ, zero, suc, ◌+◌, ◌*◌, ◌/◌, ◌%◌, Bool, true, false, not, ◌&&◌, ◌||◌, cond, List, eqb, leb, ltb, length}
+use Rattle.std.specs.Prelude.{ℕ, zero, suc, ◌+◌, ◌*◌, ◌/◌, ◌%◌, Bool, true, false, not, ◌&&◌, ◌||◌, cond, List, Option, None, Some, eqb, leb, ltb, length}
 use Rattle.parts.specs.Parts.{part, put}
 use Rattle.parts.specs.Digits.{number, digits}
 use Rattle.commands.specs.declared.command.Command.{Command}
-use Rattle.commands.specs.declared.command.Command.TheVariants.{Known, Unknown}
-use Rattle.commands.specs.Channels.{channel_of, command_of}
+pub use Rattle.commands.specs.Channels.{command_at}
 use Rattle.commands.specs.Request.{interrupt_transaction}
 
 abbrev pub record_size : ℕ
@@ -33,17 +32,14 @@ counted_anew r = with_number r 0 0
 
 -- ---- the commands that the tables have: those of the chip, by channel and code
 
-abbrev pub command_at : ℕ → ℕ → Command
-command_at ch cmd = command_of (channel_of ch) cmd
-
-abbrev pub is_listed : Command → Bool
-is_listed Unknown = false
-is_listed (Known lengths does) = true
+abbrev pub is_listed : Option Command → Bool
+is_listed None = false
+is_listed (Some command) = true
 
 -- LEN that a command asks
-abbrev pub len_of : Command → ℕ
-len_of Unknown = 0
-len_of (Known lengths does) = lengths.asked
+abbrev pub len_of : Option Command → ℕ
+len_of None = 0
+len_of (Some command) = command.lengths.asked
 
 -- ---- the open transactions, "TRN 0x01 to 0xFE"
 
@@ -72,6 +68,10 @@ opened r trn ch cmd = with_number r trn (ch + 0x100 * cmd)
 
 abbrev pub closed : List ℕ → ℕ → List ℕ
 closed r trn = with_number r trn 0
+
+-- the command that a reply with this TRN from this channel answers, if it does one
+abbrev pub closing : List ℕ → ℕ → ℕ → Option ℕ
+closing r trn ch = cond (is_open_to r trn ch) (Some (command_in (number_at r trn))) None
 
 -- "A request takes the lowest free TRN", of so many from this one on; 0xFF, which is an interrupt's, where all are open.
 unfoldable pub lowest_free : List ℕ → ℕ → ℕ → ℕ

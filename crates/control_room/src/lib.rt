@@ -3,20 +3,17 @@
 
 mod record;
 
-ghost use Rattle.std.specs.Prelude.{◌≡◌, cond, true, false, ◌≤◌, eqb, length};
-ghost use Rattle.numbers.specs.Numbers.{has_frame, all_open, output_least, reply_bytes};
+ghost use Rattle.std.specs.Prelude.{◌≡◌, ◌≤◌, true, length};
+ghost use Rattle.numbers.specs.Numbers.{output_least};
 ghost use Rattle.parts.specs.Parts.{put};
-ghost use Rattle.commands.specs.Request.{interrupt_transaction};
-ghost use Rattle.control_room.specs.Record.{free_trn, is_record};
-ghost use Rattle.control_room.specs.Calls.{made, record_made, outcome, gives, refused, taken, written, request_written};
+ghost use Rattle.control_room.specs.Given.{given_of, number_after};
+ghost use Rattle.control_room.specs.Record.{is_record};
+ghost use Rattle.control_room.specs.Calls.{made, record_made, outcome, judged, written, request_written};
 ghost use Rattle.control_room.specs.Calls.{told, matched, read, reply_read, link_command, command_written};
 
-use commands::command::Command;
-use commands::request::INTERRUPT;
-use numbers::{
-    ALL_OPEN, BAD_REPLY, BAD_STATE, HAS_FRAME, NO_COMMAND, NO_FRAME, NO_MATCH, OUTPUT_LEAST,
-    REPLY_BYTES, SHORT_OUTPUT,
-};
+use commands::request::{INTERRUPT, Request};
+use link::LinkCommand;
+use numbers::{OUTPUT_LEAST, REPLY_BYTES, Refusal};
 use parts::Width;
 
 // The bytes of a request's body, of what is told of a reply, and of a command of the link.
@@ -29,111 +26,90 @@ const COMMAND_BYTES: u8 = 2;
 // The channel of interrupts.
 const INTERRUPT_CHANNEL: u8 = 0x02;
 
-// A number; with number 0 the bytes written, and whether what was read is an interrupt.
+// The bytes written, and whether what was read is an interrupt.
 #[derive(Clone, Copy)]
 pub struct Given {
-    pub number: u8,
     pub length: u8,
     pub interrupt: bool,
 }
 
-// A number alone, as of a call that is refused.
-fn alone(number: u8) -> Given
-    ensures { result ≡ gives number 0 false }
-{
-    Given {
-        number: number,
-        length: 0,
-        interrupt: false,
-    }
-}
-
 // Makes a record new: nothing open, frame number 0.
-pub fn new_record(transactions: &mut [u8]) -> u8
-    ensures { made result transactions.new ≡ record_made transactions.old }
+#[tactic(auto, unfolding(crate::specs::Calls::record_made))]
+pub fn new_record(transactions: &mut [u8]) -> Result<(), Refusal>
+    ensures { made (number_after result) transactions.new ≡ record_made transactions.old }
 {
-    if transactions.len() != record::BYTES {
-        return BAD_STATE;
-    }
-    parts::clear(transactions, 0, record::BYTES);
-    NO_FRAME
+    let record: &mut [u8; record::BYTES] = transactions.as_mut_array().ok_or(Refusal::BadState)?;
+    record.fill(0);
+    Ok(())
 }
 
-// So many bytes written.
-fn done(length: u8, interrupt: bool) -> Given
-    ensures { result ≡ gives has_frame length interrupt }
+// What refuses every call on a record.
+fn judge(record: &[u8; record::BYTES], output: &[u8]) -> Result<(), Refusal>
+    ensures { result ≡ judged record.now output.now }
 {
-    Given {
-        number: HAS_FRAME,
-        length: length,
-        interrupt: interrupt,
+    if !record::is_record(record) {
+        return Err(Refusal::BadState);
     }
+    if output.len() < OUTPUT_LEAST {
+        return Err(Refusal::ShortOutput);
+    }
+    Ok(())
 }
 
-// A request of this LEN with the lowest free TRN, if there is one.
-fn take(transactions: &mut [u8], ch: u8, len: u8, cmd: u8, value: u32, output: &mut [u8]) -> Given
-    requires transactions_value { is_record transactions.old ≡ true }
-    requires output_least_in_bounds { output_least ≤ length output.old }
-    ensures { outcome result transactions.new output.new ≡ cond (eqb (free_trn transactions.old) interrupt_transaction) (refused all_open transactions.old output.old) (taken transactions.old ch len cmd value output.old) }
-{
-    let trn = record::free_trn(transactions);
-    if trn == INTERRUPT {
-        return alone(ALL_OPEN);
-    }
-    let control = record::count(transactions);
-    record::open(transactions, trn, ch, cmd);
-    packets::put_request(output, control, trn, ch, len, cmd, value);
-    done(REQUEST_BYTES, false)
-}
-
+// A request with the lowest free TRN, if there is one.
+#[tactic(auto, unfolding(crate::specs::Calls::written), using(crate::proofs::Laws::its_frame, commands::proofs::Laws::none_beyond, commands::proofs::Laws::code_at_beyond))]
 fn write(
-    transactions: &mut [u8],
+    record: &mut [u8; record::BYTES],
     channel: u32,
     command: u32,
     value: u32,
     output: &mut [u8],
-) -> Given
-    requires transactions_value { is_record transactions.old ≡ true }
+) -> Result<Given, Refusal>
+    requires record_value { is_record record.old ≡ true }
     requires output_least_in_bounds { output_least ≤ length output.old }
-    ensures { outcome result transactions.new output.new ≡ written transactions.old channel command value output.old }
+    ensures { outcome (given_of result) record.new output.new ≡ written record.old channel command value output.old }
 {
-    let listed = record::command_at(channel, command);
-    match listed {
-        Command::Unknown => alone(NO_COMMAND),
-        Command::Known(lengths, _) => take(
-            transactions,
-            channel as u8,
-            lengths.asked,
-            command as u8,
-            value,
-            output,
-        ),
-    }
+    let (Ok(ch), Ok(cmd)) = (u8::try_from(channel), u8::try_from(command)) else {
+        return Err(Refusal::NoCommand);
+    };
+    let listed = record::command_at(ch, cmd).ok_or(Refusal::NoCommand)?;
+    let trn = record::free_trn(record).ok_or(Refusal::AllOpen)?;
+    let control = record::count(record);
+    record::open(record, trn, ch, cmd);
+    let q = Request {
+        trn,
+        ch,
+        len: listed.lengths.asked,
+        cmd,
+        value,
+    };
+    packets::put_request(output, control, q);
+    Ok(Given {
+        length: REQUEST_BYTES,
+        interrupt: false,
+    })
 }
 
 // Writes the body of a request: a command of a channel, with its data.
+#[tactic(auto, unfolding(crate::specs::Calls::request_written), using(crate::proofs::Cases::no_record))]
 pub fn request(
     transactions: &mut [u8],
     channel: u32,
     command: u32,
     value: u32,
     output: &mut [u8],
-) -> Given
-    ensures { outcome result transactions.new output.new ≡ request_written transactions.old channel command value output.old }
+) -> Result<Given, Refusal>
+    ensures { outcome (given_of result) transactions.new output.new ≡ request_written transactions.old channel command value output.old }
 {
-    if !record::is_record(transactions) {
-        return alone(BAD_STATE);
-    }
-    if output.len() < OUTPUT_LEAST {
-        return alone(SHORT_OUTPUT);
-    }
-    write(transactions, channel, command, value, output)
+    let record = transactions.as_mut_array().ok_or(Refusal::BadState)?;
+    judge(record, output)?;
+    write(record, channel, command, value, output)
 }
 
 // TRN, CH, the request's CMD, ERR, LEN, then the data, low byte first.
-fn tell(cmd: u8, body: &[u8], output: &mut [u8])
-    requires body_len { length body.now ≡ reply_bytes }
-    requires output_least_in_bounds { output_least ≤ length output.old }
+#[tactic(auto, using(parts::proofs::Laws::put_put, parts::proofs::Laws::length_put, parts::proofs::Digits::length_digits, parts::proofs::Digits::set_next))]
+fn tell(cmd: u8, body: &[u8; REPLY_BYTES], output: &mut [u8])
+    requires { output_least ≤ length output.old }
     ensures { output.new ≡ put 0 (told cmd body.now) output.old }
 {
     parts::store_four(output, 0, body[2], body[3], cmd, body[4]);
@@ -141,80 +117,62 @@ fn tell(cmd: u8, body: &[u8], output: &mut [u8])
     parts::store_number(output, 5, Width::Word, packets::data_of(body));
 }
 
-// The answer to the request that is open with a reply's TRN to its channel, if there is one.
-fn close(transactions: &mut [u8], body: &[u8], output: &mut [u8]) -> Given
-    requires transactions_value { is_record transactions.old ≡ true }
-    requires body_len { length body.now ≡ reply_bytes }
-    requires output_least_in_bounds { output_least ≤ length output.old }
-    ensures { outcome result transactions.new output.new ≡ matched transactions.old body.now output.old }
+#[tactic(auto, unfolding(crate::specs::Calls::read, crate::specs::Calls::matched))]
+fn read(record: &mut [u8; record::BYTES], body: &[u8], output: &mut [u8]) -> Result<Given, Refusal>
+    requires { output_least ≤ length output.old }
+    ensures { outcome (given_of result) record.new output.new ≡ read record.old body.now output.old }
 {
-    let trn = body[2];
-    if !record::is_open(transactions, trn, body[3]) {
-        return alone(NO_MATCH);
-    }
-    let cmd = record::close(transactions, trn);
+    let body = body.as_array().ok_or(Refusal::BadReply)?;
+    let interrupt = body[2] == INTERRUPT && body[3] == INTERRUPT_CHANNEL;
+    let cmd = if interrupt {
+        0
+    } else {
+        record::close(record, body[2], body[3]).ok_or(Refusal::NoMatch)?
+    };
     tell(cmd, body, output);
-    done(ANSWER_BYTES, false)
-}
-
-fn read(transactions: &mut [u8], body: &[u8], output: &mut [u8]) -> Given
-    requires transactions_value { is_record transactions.old ≡ true }
-    requires output_least_in_bounds { output_least ≤ length output.old }
-    ensures { outcome result transactions.new output.new ≡ read transactions.old body.now output.old }
-{
-    if body.len() != REPLY_BYTES {
-        return alone(BAD_REPLY);
-    }
-    if (body[2] == INTERRUPT) & (body[3] == INTERRUPT_CHANNEL) {
-        tell(0, body, output);
-        return done(ANSWER_BYTES, true);
-    }
-    close(transactions, body, output)
+    Ok(Given {
+        length: ANSWER_BYTES,
+        interrupt,
+    })
 }
 
 // Reads the body of a reply or of an interrupt.
-pub fn reply(transactions: &mut [u8], body: &[u8], output: &mut [u8]) -> Given
-    ensures { outcome result transactions.new output.new ≡ reply_read transactions.old body.now output.old }
+#[tactic(auto, unfolding(crate::specs::Calls::reply_read), using(crate::proofs::Cases::no_record))]
+pub fn reply(transactions: &mut [u8], body: &[u8], output: &mut [u8]) -> Result<Given, Refusal>
+    ensures { outcome (given_of result) transactions.new output.new ≡ reply_read transactions.old body.now output.old }
 {
-    if !record::is_record(transactions) {
-        return alone(BAD_STATE);
-    }
-    if output.len() < OUTPUT_LEAST {
-        return alone(SHORT_OUTPUT);
-    }
-    read(transactions, body, output)
+    let record = transactions.as_mut_array().ok_or(Refusal::BadState)?;
+    judge(record, output)?;
+    read(record, body, output)
 }
 
-fn write_command(transactions: &mut [u8], control: u32, output: &mut [u8]) -> Given
-    requires transactions_value { is_record transactions.old ≡ true }
-    requires output_least_in_bounds { output_least ≤ length output.old }
-    ensures { outcome result transactions.new output.new ≡ link_command transactions.old control output.old }
+#[tactic(auto, unfolding(crate::specs::Calls::link_command))]
+fn write_command(
+    record: &mut [u8; record::BYTES],
+    control: u32,
+    output: &mut [u8],
+) -> Result<Given, Refusal>
+    requires { output_least ≤ length output.old }
+    ensures { outcome (given_of result) record.new output.new ≡ link_command record.old control output.old }
 {
-    if control > 0xFF {
-        return alone(NO_COMMAND);
+    let code = u8::try_from(control).map_err(|_| Refusal::NoCommand)?;
+    match link::command_in(code).ok_or(Refusal::NoCommand)? {
+        LinkCommand::Connect | LinkCommand::Reset => record::count_anew(record),
+        LinkCommand::Test => {}
     }
-    let code = control as u8;
-    if link::is_test(code) {
-        packets::put_control(output, code);
-        return done(COMMAND_BYTES, false);
-    }
-    if link::is_connect(code) | link::is_reset(code) {
-        record::count_anew(transactions);
-        packets::put_control(output, code);
-        return done(COMMAND_BYTES, false);
-    }
-    alone(NO_COMMAND)
+    packets::put_control(output, code);
+    Ok(Given {
+        length: COMMAND_BYTES,
+        interrupt: false,
+    })
 }
 
 // Writes the body of a command of the link.
-pub fn command(transactions: &mut [u8], control: u32, output: &mut [u8]) -> Given
-    ensures { outcome result transactions.new output.new ≡ command_written transactions.old control output.old }
+#[tactic(auto, unfolding(crate::specs::Calls::command_written), using(crate::proofs::Cases::no_record))]
+pub fn command(transactions: &mut [u8], control: u32, output: &mut [u8]) -> Result<Given, Refusal>
+    ensures { outcome (given_of result) transactions.new output.new ≡ command_written transactions.old control output.old }
 {
-    if !record::is_record(transactions) {
-        return alone(BAD_STATE);
-    }
-    if output.len() < OUTPUT_LEAST {
-        return alone(SHORT_OUTPUT);
-    }
-    write_command(transactions, control, output)
+    let record = transactions.as_mut_array().ok_or(Refusal::BadState)?;
+    judge(record, output)?;
+    write_command(record, control, output)
 }

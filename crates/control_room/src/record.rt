@@ -1,7 +1,8 @@
 // The record of open transactions, as bytes: the frame number, and for each TRN the channel and the command of the request that is open with it.
-ghost use Rattle.std.specs.Prelude.{◌≡◌, ◌+◌, ◌*◌, ◌<◌, ◌≤◌, length};
-ghost use Rattle.control_room.specs.Record.{record_size, number_at, with_number, command_at, is_listed, first_trn, many_trns, is_sound, are_sound, free_trn, is_record};
-ghost use Rattle.control_room.specs.Record.{frame_number, counted_up, counted_anew, opened, closed, command_in, is_open_to};
+ghost use Rattle.std.specs.Prelude.{◌≡◌, ◌+◌, ◌*◌, ◌<◌, ◌≤◌, cond, IfSome};
+ghost use Rattle.control_room.specs.Given.{trn_after};
+ghost use Rattle.control_room.specs.Record.{number_at, with_number, command_at, first_trn, many_trns, is_sound, are_sound, free_trn, is_record};
+ghost use Rattle.control_room.specs.Record.{frame_number, counted_up, counted_anew, opened, closed, closing, is_open_to};
 
 use commands::channel;
 use commands::command::Command;
@@ -11,151 +12,111 @@ use parts::Width;
 pub(crate) const BYTES: usize = 510;
 
 // The place of the frame number; the first TRN's, and the one behind the last.
-const FRAME: usize = 0;
+const FRAME: u8 = 0;
 
-const FIRST: usize = 1;
+const FIRST: u8 = 1;
 
-const END: usize = 255;
+const END: u8 = 255;
 
 const FRAME_MOST: u32 = 7;
 
 // The number at one of the 255 places.
-fn number_at(transactions: &[u8], k: usize) -> u32
-    requires { (length transactions.now ≡ record_size) × (k < 255) }
-    ensures { result ≡ number_at transactions.now k }
+#[tactic(auto, unfolding(crate::specs::Record::number_at))]
+fn number_at(record: &[u8; BYTES], k: u8) -> u32
+    requires { k < 255 }
+    ensures { result ≡ number_at record.now k }
 {
-    parts::number_at(transactions, 2 * k, Width::Half)
+    parts::number_at(record, 2 * usize::from(k), Width::Half)
 }
 
-fn store(transactions: &mut [u8], k: usize, v: u32)
-    requires { (length transactions.old ≡ record_size) × (k < 255) }
-    ensures { transactions.new ≡ with_number transactions.old k v }
+#[tactic(auto, unfolding(crate::specs::Record::with_number))]
+fn store(record: &mut [u8; BYTES], k: u8, v: u32)
+    requires { k < 255 }
+    ensures { record.new ≡ with_number record.old k v }
 {
-    parts::store_number(transactions, 2 * k, Width::Half, v);
+    parts::store_number(record, 2 * usize::from(k), Width::Half, v);
 }
 
-// The command of a channel and a code that came as numbers of 32 bits.
-pub(crate) fn command_at(channel: u32, command: u32) -> Command
+// The command that the tables have, of a channel and a code.
+pub(crate) fn command_at(channel: u8, command: u8) -> Option<Command>
     ensures { result ≡ command_at channel command }
 {
-    if channel > 0xFF {
-        return Command::Unknown;
-    }
-    if command > 0xFF {
-        return Command::Unknown;
-    }
-    channel::command_of(channel::channel_of(channel as u8), command as u8)
-}
-
-fn is_listed(command: Command) -> bool
-    ensures { result ≡ is_listed command }
-{
-    match command {
-        Command::Unknown => false,
-        Command::Known(_, _) => true,
-    }
+    channel::command_of(channel::channel_of(channel)?, command)
 }
 
 // Whether nothing is open, or a command that the tables have.
 fn is_sound(entry: u32) -> bool
     ensures { result ≡ is_sound entry }
 {
-    if entry == 0 {
-        return true;
-    }
-    is_listed(command_at(entry % 0x100, entry / 0x100 % 0x100))
+    entry == 0 || command_at((entry % 0x100) as u8, (entry / 0x100 % 0x100) as u8).is_some()
 }
 
-fn are_sound(transactions: &[u8]) -> bool
-    requires { length transactions.now ≡ record_size }
-    ensures { result ≡ are_sound transactions.now first_trn many_trns }
+fn are_sound(record: &[u8; BYTES]) -> bool
+    ensures { result ≡ are_sound record.now first_trn many_trns }
 {
-    let mut trn = FIRST;
-    while trn < END {
-        if !is_sound(number_at(transactions, trn)) {
-            return false;
-        }
-        trn += 1;
-    }
-    true
+    (FIRST..END).all(|trn| is_sound(number_at(record, trn)))
 }
 
-pub(crate) fn is_record(transactions: &[u8]) -> bool
-    ensures { result ≡ is_record transactions.now }
+#[tactic(auto, unfolding(crate::specs::Record::is_record))]
+pub(crate) fn is_record(record: &[u8; BYTES]) -> bool
+    ensures { result ≡ is_record record.now }
 {
-    if transactions.len() != BYTES {
-        return false;
-    }
-    if number_at(transactions, FRAME) > FRAME_MOST {
-        return false;
-    }
-    are_sound(transactions)
+    number_at(record, FRAME) <= FRAME_MOST && are_sound(record)
 }
 
-// The lowest free TRN, or an interrupt's where none is free.
-pub(crate) fn free_trn(transactions: &[u8]) -> u8
-    requires { length transactions.now ≡ record_size }
-    ensures { result ≡ free_trn transactions.now }
+// The lowest free TRN.
+pub(crate) fn free_trn(record: &[u8; BYTES]) -> Option<u8>
+    ensures lowest { trn_after result ≡ free_trn record.now }
+    ensures no_interrupt { IfSome result (λ trn. trn < 255) }
 {
-    let mut trn = FIRST;
-    while trn < END {
-        if number_at(transactions, trn) == 0 {
-            return trn as u8;
-        }
-        trn += 1;
-    }
-    INTERRUPT
+    (FIRST..END).find(|trn| number_at(record, *trn) == 0)
 }
 
 // The control of the next request, and the frame number up by one.
-pub(crate) fn count(transactions: &mut [u8]) -> u8
-    requires { (length transactions.old ≡ record_size) × (frame_number transactions.old ≤ 7) }
-    ensures { (result ≡ 2 * frame_number transactions.old) × (transactions.new ≡ counted_up transactions.old) }
+pub(crate) fn count(record: &mut [u8; BYTES]) -> u8
+    requires { frame_number record.old ≤ 7 }
+    ensures { (result ≡ 2 * frame_number record.old) × (record.new ≡ counted_up record.old) }
 {
-    let number = number_at(transactions, FRAME);
-    store(transactions, FRAME, (number + 1) % 8);
+    let number = number_at(record, FRAME);
+    store(record, FRAME, (number + 1) % 8);
     (2 * number) as u8
 }
 
-pub(crate) fn count_anew(transactions: &mut [u8])
-    requires { length transactions.old ≡ record_size }
-    ensures { transactions.new ≡ counted_anew transactions.old }
+pub(crate) fn count_anew(record: &mut [u8; BYTES])
+    ensures { record.new ≡ counted_anew record.old }
 {
-    store(transactions, FRAME, 0);
+    store(record, FRAME, 0);
 }
 
-pub(crate) fn open(transactions: &mut [u8], trn: u8, ch: u8, cmd: u8)
-    requires { (length transactions.old ≡ record_size) × (trn < 255) }
-    ensures { transactions.new ≡ opened transactions.old trn ch cmd }
+pub(crate) fn open(record: &mut [u8; BYTES], trn: u8, ch: u8, cmd: u8)
+    requires { trn < 255 }
+    ensures { record.new ≡ opened record.old trn ch cmd }
 {
-    store(
-        transactions,
-        trn as usize,
-        (ch as u32) + 0x100 * (cmd as u32),
-    );
+    store(record, trn, u32::from(ch) + 0x100 * u32::from(cmd));
 }
 
 // Whether a request to this channel is open with this TRN.
-pub(crate) fn is_open(transactions: &[u8], trn: u8, ch: u8) -> bool
-    requires { length transactions.now ≡ record_size }
-    ensures { result ≡ is_open_to transactions.now trn ch }
+#[tactic(auto, unfolding(crate::specs::Record::is_open_to))]
+fn is_open(record: &[u8; BYTES], trn: u8, ch: u8) -> bool
+    ensures { result ≡ is_open_to record.now trn ch }
 {
-    if trn == NO_TRANSACTION {
+    if trn == NO_TRANSACTION || trn == INTERRUPT {
         return false;
     }
-    if trn == INTERRUPT {
-        return false;
-    }
-    let entry = number_at(transactions, trn as usize);
-    (entry != 0) & (entry % 0x100 == ch as u32)
+    let entry = number_at(record, trn);
+    entry != 0 && entry % 0x100 == u32::from(ch)
 }
 
-// Closes what is open with this TRN, and gives its command.
-pub(crate) fn close(transactions: &mut [u8], trn: u8) -> u8
-    requires { (length transactions.old ≡ record_size) × (trn < 255) }
-    ensures { (result ≡ command_in (number_at transactions.old trn)) × (transactions.new ≡ closed transactions.old trn) }
+// Closes the request that is open with this TRN to this channel, and gives its command.
+#[tactic(auto, using(crate::proofs::Cases::open_below))]
+pub(crate) fn close(record: &mut [u8; BYTES], trn: u8, ch: u8) -> Option<u8>
+    ensures answer { result ≡ closing record.old trn ch }
+    ensures after { record.new ≡ cond (is_open_to record.old trn ch) (closed record.old trn) record.old }
 {
-    let entry = number_at(transactions, trn as usize);
-    store(transactions, trn as usize, 0);
-    (entry / 0x100 % 0x100) as u8
+    if !is_open(record, trn, ch) {
+        return None;
+    }
+    let entry = number_at(record, trn);
+    store(record, trn, 0);
+    Some((entry / 0x100 % 0x100) as u8)
 }

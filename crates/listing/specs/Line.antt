@@ -1,10 +1,10 @@
 -- What a line says: document 01, "Bench listing". Lines up to 80 characters: F port body, S 32 hex digits, P 8 hex digits and kind,
 -- U, B for step back; and I for the completion of one I2C channel. Any other line, an empty or longer one too, is not readable.
-use Rattle.std.specs.Prelude.{ℕ, ◌+◌, ◌*◌, ◌-◌, ◌/◌, Bool, cond, ◌&&◌, ◌||◌, length, take, drop, get_or, eqb}
+use Rattle.std.specs.Prelude.{ℕ, ◌+◌, ◌*◌, ◌-◌, ◌/◌, Bool, cond, ◌&&◌, ◌||◌, Option, None, Some, length, take, drop, get_or, eqb}
 use mathlib.Core.List.{List, foldl}
 use Rattle.chip.specs.Event.{spi, i2c, Event, frame, completion, sample, upset}
 use Rattle.listing.specs.declared.Form.{Form}
-use Rattle.listing.specs.declared.Form.TheVariants.{Frame, Completion, Sample, I2c, Upset, Back, Unreadable}
+use Rattle.listing.specs.declared.Form.TheVariants.{Frame, Completion, Sample, I2c, Upset, Back}
 use Rattle.listing.specs.Characters.{space, between, is_digit, hex_value, are_pairs, front_pair, pair_bytes}
 
 -- the letters
@@ -75,14 +75,14 @@ is_i2c l =
 unfoldable pub is_letter : ℕ → List ℕ → Bool
 is_letter letter l = eqb (length l) 1 && eqb (get_or l 0 0) letter
 
-unfoldable pub form_of : List ℕ → Form
+unfoldable pub form_of : List ℕ → Option Form
 form_of l =
-    cond (is_frame l) Frame
-    (cond (is_completion l) Completion
-    (cond (is_sample l) Sample
-    (cond (is_i2c l) I2c
-    (cond (is_letter letter_u l) Upset
-    (cond (is_letter letter_b l) Back Unreadable)))))
+    cond (is_frame l) (Some Frame)
+    (cond (is_completion l) (Some Completion)
+    (cond (is_sample l) (Some Sample)
+    (cond (is_i2c l) (Some I2c)
+    (cond (is_letter letter_u l) (Some Upset)
+    (cond (is_letter letter_b l) (Some Back) None)))))
 
 -- ---- what each form says
 
@@ -126,14 +126,14 @@ i2c_bytes l = pair_bytes ((length l - 9) / 2) (drop 9 l)
 abbrev pub i2c_of : List ℕ → Event
 i2c_of l = completion (i2c (i2c_channel l) (i2c_acknowledge l) (i2c_line_low l) (i2c_bytes l))
 
-abbrev pub said_by : Form → List ℕ → Line
-said_by Frame l = happens (frame_of l)
-said_by Completion l = happens (completion_of l)
-said_by Sample l = happens (sample_of l)
-said_by I2c l = happens (i2c_of l)
-said_by Upset l = happens upset
-said_by Back l = back
-said_by Unreadable l = unreadable
+abbrev pub said_by : Option Form → List ℕ → Line
+said_by (Some Frame) l = happens (frame_of l)
+said_by (Some Completion) l = happens (completion_of l)
+said_by (Some Sample) l = happens (sample_of l)
+said_by (Some I2c) l = happens (i2c_of l)
+said_by (Some Upset) l = happens upset
+said_by (Some Back) l = back
+said_by None l = unreadable
 
 unfoldable pub read : List ℕ → Line
 read l = said_by (form_of l) l

@@ -1,89 +1,63 @@
 // Characters are bytes: hex digits in either case in, lower case out.
 ghost use Rattle.std.specs.Prelude.{◌≡◌, ◌+◌, ◌*◌, ◌<◌, ◌≤◌, length, drop};
+ghost use Rattle.std.specs.List.{list_all};
+ghost use Rattle.std.specs.Char.{is_ascii_hexdigit};
 ghost use Rattle.listing.specs.Characters.{is_hex, hex_value, all_hex, are_pairs, front_pair, pair_bytes, hex_digit};
 
-pub const SPACE: u8 = 32;
+pub const SPACE: u8 = b' ';
 
-pub const LINE_FEED: u8 = 10;
-
-pub(crate) fn between(low: u8, high: u8, c: u8) -> bool
-    ensures { result ≡ Rattle.listing.specs.Characters.between low high c }
-{
-    (low <= c) & (c <= high)
-}
-
-fn is_hex(c: u8) -> bool
-    ensures { result ≡ is_hex c }
-{
-    let digit = between(48, 57, c);
-    let upper = between(65, 70, c);
-    let lower = between(97, 102, c);
-    digit | (upper | lower)
-}
+pub const LINE_FEED: u8 = b'\n';
 
 // The value of a hex digit, and 0 for any other character.
+#[tactic(auto, unfolding(crate::specs::Characters::hex_value))]
 pub fn hex_value(c: u8) -> u8
     ensures { result ≡ hex_value c }
 {
-    if between(48, 57, c) {
-        return c - 48;
+    match c {
+        b'0'..=b'9' => c - b'0',
+        b'A'..=b'F' => 10 + (c - b'A'),
+        b'a'..=b'f' => 10 + (c - b'a'),
+        _ => 0,
     }
-    if between(65, 70, c) {
-        return c - 55;
-    }
-    if between(97, 102, c) {
-        return c - 87;
-    }
-    0
 }
 
 fn all_hex(s: &[u8]) -> bool
-    ensures { result ≡ all_hex s.now }
+    ensures { result ≡ list_all is_ascii_hexdigit s.now }
 {
-    let mut i = 0;
-    while i < s.len() {
-        let hex = is_hex(s[i]);
-        if hex {
-            i += 1;
-        } else {
-            return false;
-        }
-    }
-    true
+    s.iter().all(|c| c.is_ascii_hexdigit())
 }
 
 // At least one pair of hex digits, and nothing else.
+#[tactic(auto, unfolding(crate::specs::Characters::are_pairs), using(crate::proofs::Hex::hex_all))]
 pub(crate) fn are_pairs(s: &[u8]) -> bool
     ensures { result ≡ are_pairs s.now }
 {
-    let hex = all_hex(s);
-    (0 < s.len()) & ((s.len() % 2 == 0) & hex)
+    !s.is_empty() && s.len() % 2 == 0 && all_hex(s)
 }
 
+#[tactic(auto, using(crate::proofs::Hex::value_small))]
 pub(crate) fn pair_at(s: &[u8], at: usize) -> u8
     requires { at + 2 ≤ length s.now }
     ensures { result ≡ front_pair (drop at s.now) }
 {
-    let high = hex_value(s[at]);
-    let low = hex_value(s[at + 1]);
-    16 * high + low
+    16 * hex_value(s[at]) + hex_value(s[at + 1])
 }
 
 // Reads as many bytes from the pairs at the front of s as there is room for.
+#[tactic(auto, using(crate::proofs::Hex::pair_none, crate::proofs::Hex::pair_more, crate::proofs::Hex::pair_all))]
 pub fn load_pairs(s: &[u8], bytes: &mut [u8])
     requires { 2 * length bytes.old ≤ length s.now }
     ensures { bytes.new ≡ pair_bytes (length bytes.old) s.now }
 {
-    let mut i = 0;
-    while i < bytes.len() {
-        bytes[i] = pair_at(s, 2 * i);
-        i += 1;
+    for (i, byte) in bytes.iter_mut().enumerate() {
+        *byte = pair_at(s, 2 * i);
     }
 }
 
+#[tactic(auto, unfolding(crate::specs::Characters::hex_digit))]
 pub(crate) fn hex_digit(n: u8) -> u8
     requires { n < 16 }
     ensures { result ≡ hex_digit n }
 {
-    if n < 10 { 48 + n } else { 87 + n }
+    if n < 10 { b'0' + n } else { b'a' + (n - 10) }
 }

@@ -5,7 +5,7 @@ pub mod answer;
 pub mod characters;
 pub mod line;
 
-// What a line is.
+// What a line that can be read is.
 #[derive(Clone, Copy)]
 pub enum Form {
     Frame,
@@ -14,5 +14,4 @@ pub enum Form {
     I2c,
     Upset,
     Back,
-    Unreadable,
 }

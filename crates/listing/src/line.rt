@@ -3,104 +3,86 @@ ghost use Rattle.std.specs.Prelude.{◌≡◌, ◌≤◌, length, drop};
 ghost use Rattle.listing.specs.Characters.{pair_bytes};
 ghost use Rattle.listing.specs.Line.{is_frame, is_completion, is_sample, is_rest, is_i2c, form_of, top_first, i2c_channel, i2c_acknowledge, i2c_line_low};
 
-use crate::characters::SPACE;
+use crate::characters::{SPACE, are_pairs};
 use crate::{Form, characters};
 
+#[tactic(auto, unfolding(crate::specs::Line::is_frame))]
 fn is_frame(l: &[u8]) -> bool
     ensures { result ≡ is_frame l.now }
 {
-    if l.len() < 6 {
-        return false;
+    match l {
+        [b'F', SPACE, b'0'..=b'9', SPACE, body @ ..] => (6..=80).contains(&l.len())
+            && are_pairs(body),
+        _ => false,
     }
-    if 80 < l.len() {
-        return false;
-    }
-    if l[0] != b'F' {
-        return false;
-    }
-    let digit = characters::between(48, 57, l[2]);
-    let pairs = characters::are_pairs(&l[4..]);
-    (l[1] == SPACE) & (digit & ((l[3] == SPACE) & pairs))
 }
 
+#[tactic(auto, unfolding(crate::specs::Line::is_completion))]
 fn is_completion(l: &[u8]) -> bool
     ensures { result ≡ is_completion l.now }
 {
-    if l.len() != 34 {
-        return false;
+    match l {
+        [b'S', SPACE, received @ ..] => received.len() == 32 && are_pairs(received),
+        _ => false,
     }
-    let pairs = characters::are_pairs(&l[2..]);
-    (l[0] == b'S') & ((l[1] == SPACE) & pairs)
 }
 
+#[tactic(auto, unfolding(crate::specs::Line::is_sample))]
 fn is_sample(l: &[u8]) -> bool
     ensures { result ≡ is_sample l.now }
 {
-    if l.len() != 12 {
-        return false;
+    match l {
+        [b'P', SPACE, levels @ .., SPACE, b'0'..=b'9'] => levels.len() == 8 && are_pairs(levels),
+        _ => false,
     }
-    let pairs = characters::are_pairs(&l[2..10]);
-    let digit = characters::between(48, 57, l[11]);
-    (l[0] == b'P') & ((l[1] == SPACE) & (pairs & ((l[10] == SPACE) & digit)))
 }
 
 // What may stand behind line-low: nothing, or a space and pairs.
+#[tactic(auto, unfolding(crate::specs::Line::is_rest))]
 fn is_rest(t: &[u8]) -> bool
     ensures { result ≡ is_rest t.now }
 {
-    if t.len() < 1 {
-        return true;
+    match t {
+        [] => true,
+        [SPACE, received @ ..] => are_pairs(received),
+        _ => false,
     }
-    let pairs = characters::are_pairs(&t[1..]);
-    (t[0] == SPACE) & pairs
 }
 
+#[tactic(auto, unfolding(crate::specs::Line::is_i2c))]
 fn is_i2c(l: &[u8]) -> bool
     ensures { result ≡ is_i2c l.now }
 {
-    if l.len() < 8 {
-        return false;
+    match l {
+        [
+            b'I',
+            SPACE,
+            _,
+            _,
+            SPACE,
+            b'0' | b'1',
+            SPACE,
+            b'0' | b'1',
+            rest @ ..,
+        ] => { l.len() <= 80 && are_pairs(&l[2..4]) && is_rest(rest) }
+        _ => false,
     }
-    let channel = characters::are_pairs(&l[2..4]);
-    let acknowledge = characters::between(48, 49, l[5]);
-    let low = characters::between(48, 49, l[7]);
-    let rest = is_rest(&l[8..]);
-    let fields = channel & ((l[4] == SPACE) & (acknowledge & ((l[6] == SPACE) & (low & rest))));
-    (l.len() <= 80) & ((l[0] == b'I') & ((l[1] == SPACE) & fields))
 }
 
-fn is_letter(l: &[u8], letter: u8) -> bool
-    ensures { result ≡ Rattle.listing.specs.Line.is_letter letter l.now }
-{
-    if l.len() != 1 {
-        return false;
-    }
-    l[0] == letter
-}
-
-// What a line is; every line is exactly one of the forms.
-pub fn form_of(l: &[u8]) -> Form
+// What a line is; every line is at most one of the forms.
+#[tactic(auto, unfolding(crate::specs::Line::form_of, crate::specs::Line::is_letter))]
+pub fn form_of(l: &[u8]) -> Option<Form>
     ensures { result ≡ form_of l.now }
 {
-    if is_frame(l) {
-        return Form::Frame;
+    match l {
+        _ if is_frame(l) => Some(Form::Frame),
+        _ if is_completion(l) => Some(Form::Completion),
+        _ if is_sample(l) => Some(Form::Sample),
+        _ if is_i2c(l) => Some(Form::I2c),
+        [b'U'] => Some(Form::Upset),
+        [b'B'] => Some(Form::Back),
+        _ => None,
     }
-    if is_completion(l) {
-        return Form::Completion;
-    }
-    if is_sample(l) {
-        return Form::Sample;
-    }
-    if is_i2c(l) {
-        return Form::I2c;
-    }
-    if is_letter(l, b'U') {
-        return Form::Upset;
-    }
-    if is_letter(l, b'B') {
-        return Form::Back;
-    }
-    Form::Unreadable
 }
 
 // The levels of a sample's line, the top digit first.
