@@ -13,6 +13,7 @@ ghost use Rattle.adapter.specs.Answers.{answer_of, kept_number, number_after};
 ghost use Rattle.adapter.specs.Calls as adapters;
 ghost use Rattle.batch.specs.Batch as batches;
 ghost use Rattle.sca.specs.Adapter.{pack_answer, pack_kept, pack_batch, is_set, left, packed, packed_batch};
+ghost use Rattle.control_room.specs.Given.{given_of};
 ghost use Rattle.control_room.specs.Calls as rooms;
 ghost use Rattle.sca.specs.ControlRoom as room;
 ghost use Rattle.sca.specs.Version.{version};
@@ -254,15 +255,13 @@ pub fn sca_step_back(state: &mut [u8], journal: &mut [u8]) -> u64
     pack_done(adapter::step_back(state, journal))
 }
 
-// The number in bits 7 to 0, the bytes written in bits 15 to 8, 1 in bit 16 where an interrupt was read.
-fn pack_given(g: Given) -> u64
-    ensures { result ≡ room.pack_given g }
+// The bytes written in bits 15 to 8, 1 in bit 16 where an interrupt was read.
+fn pack_given(answer: Result<Given, Refusal>) -> u64
+    ensures { result ≡ room.pack_given (given_of answer) }
 {
-    let written = alone(g.number) + 256 * alone(g.length);
-    if g.interrupt {
-        written + 65536
-    } else {
-        written
+    match answer {
+        Ok(given) => pack(HAS_FRAME, given.length, given.interrupt.into()),
+        Err(refusal) => alone(refusal.into()),
     }
 }
 
@@ -270,7 +269,7 @@ fn pack_given(g: Given) -> u64
 pub fn sca_record_new(transactions: &mut [u8]) -> u64
     ensures { rooms.made result transactions.new ≡ rooms.record_made transactions.old }
 {
-    alone(control_room::new_record(transactions))
+    pack_done(control_room::new_record(transactions))
 }
 
 // Writes the body of a request.
