@@ -33,11 +33,5 @@ loop_back_one κs a x y s t e f = e ∙ sym f
 pub in_loopback_one : OneOutcome 0 this.in_loopback.Kinds.ps this.in_loopback.Kinds.r this.in_loopback.Reads.Post
 in_loopback_one κs a x y s t e f = e ∙ sym f
 
-pub is_connect_one : OneOutcome 0 this.is_connect.Kinds.ps this.is_connect.Kinds.r this.is_connect.Reads.Post
-is_connect_one κs a x y s t e f = e ∙ sym f
-
-pub is_reset_one : OneOutcome 0 this.is_reset.Kinds.ps this.is_reset.Kinds.r this.is_reset.Reads.Post
-is_reset_one κs a x y s t e f = e ∙ sym f
-
-pub is_test_one : OneOutcome 0 this.is_test.Kinds.ps this.is_test.Kinds.r this.is_test.Reads.Post
-is_test_one κs a x y s t e f = e ∙ sym f
+pub command_in_one : OneOutcome 0 this.command_in.Kinds.ps this.command_in.Kinds.r this.command_in.Reads.Post
+command_in_one κs a x y s t e f = e.0 ∙ sym f.0

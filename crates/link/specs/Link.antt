@@ -1,7 +1,9 @@
 -- The link alone: its two numbers, its control field, and its two ports.
-use Rattle.std.specs.Prelude.{ℕ, ◌+◌, ◌*◌, ◌/◌, ◌%◌, Bool, true, false, ◌||◌, cond, eqb}
+use Rattle.std.specs.Prelude.{ℕ, ◌+◌, ◌*◌, ◌/◌, ◌%◌, ◌≡◌, Bool, true, false, ◌||◌, cond, eqb, Option, Some, None}
 use Rattle.bits.specs.Bits.{bit_of}
 use Rattle.link.specs.declared.Link.{Link}
+use Rattle.link.specs.declared.LinkCommand.{LinkCommand}
+use Rattle.link.specs.declared.LinkCommand.TheVariants.{Connect, Reset, Test}
 use Rattle.link.specs.declared.Port.{Port}
 
 -- ---- a send number and a receive number, each 0 to 7, counted apart
@@ -64,6 +66,19 @@ is_reset control = eqb control 0x8F || eqb control 0x9F
 
 abbrev pub is_test : ℕ → Bool
 is_test control = eqb control 0xE3 || eqb control 0xF3
+
+-- the command that a control is
+abbrev pub command_in : ℕ → Option LinkCommand
+command_in control = cond (is_connect control) (Some Connect) (cond (is_reset control) (Some Reset) (cond (is_test control) (Some Test) None))
+
+-- what each says of it: no control is two
+abbrev pub Names : LinkCommand → ℕ → Type 0
+Names Connect control = is_connect control ≡ true
+Names Reset control = (is_connect control ≡ false) × (is_reset control ≡ true)
+Names Test control = (is_connect control ≡ false) × (is_reset control ≡ false) × (is_test control ≡ true)
+
+abbrev pub NoCommand : ℕ → Type 0
+NoCommand control = (is_connect control ≡ false) × (is_reset control ≡ false) × (is_test control ≡ false)
 
 -- ---- the ports: 0 primary, 1 auxiliary
 

@@ -1,9 +1,9 @@
 // The link alone: its numbers, its control field, its active port and what belongs to each port.
 #![tactic(auto)]
 
-ghost use Rattle.std.specs.Prelude.{◌%◌, ◌≡◌};
+ghost use Rattle.std.specs.Prelude.{◌+◌, ◌%◌, ◌≡◌, MatchOption};
 ghost use Rattle.link.specs.Link.{send_up, receive_up, receive_number, number_in, packed, reply_control, reject_control, acknowledge_control};
-ghost use Rattle.link.specs.Link.{is_connect, is_reset, is_test, fresh_link, looped_at, in_loopback};
+ghost use Rattle.link.specs.Link.{command_in, NoCommand, Names, fresh_link, looped_at, in_loopback};
 
 // Two types, so that a reply's control cannot take one number for the other.
 #[derive(Clone, Copy)]
@@ -26,6 +26,14 @@ pub struct Link {
     pub port: u8,
     pub primary: Port,
     pub auxiliary: Port,
+}
+
+// The commands that a control field can carry.
+#[derive(Clone, Copy, Debug, PartialEq, Eq)]
+pub enum LinkCommand {
+    Connect,
+    Reset,
+    Test,
 }
 
 // The numbers count modulo 8, in three bits.
@@ -61,22 +69,29 @@ const TEST: u8 = 0xE3;
 
 const TEST_POLL: u8 = 0xF3;
 
+// A number's next one.
+fn next(number: u8) -> u8
+    ensures { result ≡ (number % 8 + 1) % 8 }
+{
+    (number % NUMBERS + 1) % NUMBERS
+}
+
 pub fn send_up(l: Link) -> Link
     ensures { result ≡ send_up l }
 {
-    let mut b = l;
-    let next = (l.send.0 % NUMBERS + 1) % NUMBERS;
-    b.send.0 = next;
-    b
+    Link {
+        send: SendNumber(next(l.send.0)),
+        ..l
+    }
 }
 
 pub fn receive_up(l: Link) -> Link
     ensures { result ≡ receive_up l }
 {
-    let mut b = l;
-    let next = (l.receive.0 % NUMBERS + 1) % NUMBERS;
-    b.receive.0 = next;
-    b
+    Link {
+        receive: ReceiveNumber(next(l.receive.0)),
+        ..l
+    }
 }
 
 pub fn receive_number(l: Link) -> u8
@@ -102,17 +117,17 @@ fn control_of(send: SendNumber, receive: ReceiveNumber) -> u8
 pub fn reply_control(l: Link) -> u8
     ensures { result ≡ reply_control l }
 {
-    let send = l.send;
-    let receive = l.receive;
-    control_of(send, receive)
+    control_of(l.send, l.receive)
 }
 
+#[tactic(auto, using(crate::proofs::Laws::reject_packed))]
 pub fn reject_control(l: Link) -> u8
     ensures { result ≡ reject_control l }
 {
     REJECT | ((l.receive.0 & NUMBER_MASK) << RECEIVE_SHIFT)
 }
 
+#[tactic(auto, using(crate::proofs::Laws::polls, crate::proofs::Laws::polls_not))]
 pub fn acknowledge_control(control: u8) -> u8
     ensures { result ≡ acknowledge_control control }
 {
@@ -130,7 +145,7 @@ pub fn fresh(port: u8) -> Link
     Link {
         send: SendNumber(0),
         receive: ReceiveNumber(0),
-        port: port,
+        port,
         primary: Port { loopback: false },
         auxiliary: Port { loopback: false },
     }
@@ -139,13 +154,18 @@ pub fn fresh(port: u8) -> Link
 pub fn loop_back(l: Link, port: u8) -> Link
     ensures { result ≡ looped_at l port }
 {
-    let mut b = l;
+    let looping = Port { loopback: true };
     if port == 0 {
-        b.primary.loopback = true;
+        Link {
+            primary: looping,
+            ..l
+        }
     } else {
-        b.auxiliary.loopback = true;
+        Link {
+            auxiliary: looping,
+            ..l
+        }
     }
-    b
 }
 
 pub fn in_loopback(l: Link, port: u8) -> bool
@@ -158,32 +178,15 @@ pub fn in_loopback(l: Link, port: u8) -> bool
     }
 }
 
-pub fn is_connect(control: u8) -> bool
-    ensures { result ≡ is_connect control }
+// The command that a control is.
+pub fn command_in(control: u8) -> Option<LinkCommand>
+    ensures value { result ≡ command_in control }
+    ensures which { MatchOption result (NoCommand control) (λ command. Names command control) }
 {
-    if control == CONNECT {
-        true
-    } else {
-        control == CONNECT_POLL
-    }
-}
-
-pub fn is_reset(control: u8) -> bool
-    ensures { result ≡ is_reset control }
-{
-    if control == RESET {
-        true
-    } else {
-        control == RESET_POLL
-    }
-}
-
-pub fn is_test(control: u8) -> bool
-    ensures { result ≡ is_test control }
-{
-    if control == TEST {
-        true
-    } else {
-        control == TEST_POLL
+    match control {
+        CONNECT | CONNECT_POLL => Some(LinkCommand::Connect),
+        RESET | RESET_POLL => Some(LinkCommand::Reset),
+        TEST | TEST_POLL => Some(LinkCommand::Test),
+        _ => None,
     }
 }

@@ -11,10 +11,11 @@ use lib.Bits.{bit_and, and_le_r}
 use lib.Dec.{eqb, lit≤}
 use lib.ListN.{length, take, drop, replicate, length-replicate}
 use lib.Seq.{take-nil, drop-drop}
+use Rattle.std.specs.List.{fold}
 use Rattle.bits.proofs.Bits.{bits_ext, bit_and_lem}
 use Rattle.bits.specs.Bits.{bit_of}
 use Rattle.bits.proofs.Taut.{taut3}
-use Rattle.bits.proofs.Tests.{and_left, and_right, and_assoc, both, le_or_le}
+use Rattle.bits.proofs.Tests.{and_left, and_right, and_true, and_assoc, both, le_or_le}
 use Rattle.parts.specs.Parts.{part, put, all_zero}
 use Rattle.parts.specs.Digits.{number, digits}
 use Rattle.parts.specs.Digits.{bytes_in}
@@ -184,6 +185,19 @@ zero_split p m n rs =
 none_zero : (p : ℕ) (rs : List ℕ) → are_zero p 0 rs ≡ true
 unfolding are_zero part all_zero
 none_zero p rs = refl
+
+-- every byte looked at, one after another
+zeros_from : (s : List ℕ) (t : Bool) → fold (λ (all : Bool) (b : ℕ). all && eqb b 0) t s ≡ (t && all_zero s)
+unfolding all_zero
+zeros_from [] t = sym (and_true t)
+zeros_from (b ∷ s) t = zeros_from s (t && eqb b 0) ∙ sym (and_assoc t (eqb b 0) (all_zero s))
+
+pub zeros_there_are : (first many : ℕ) (rs : List ℕ) (t : Bool) → t ≡ fold (λ (all : Bool) (b : ℕ). all && eqb b 0) true (take (first + many - first) (drop first rs))
+    → t ≡ are_zero first many rs
+unfolding are_zero part
+zeros_there_are first many rs t e =
+    let n : first + many - first ≡ many = omega arith in
+    rw (e, n) (zeros_from (take many (drop first rs)) true)
 
 -- so many masters, one behind the other
 pub each_zero : (n k : ℕ) (rs : List ℕ) → each n k (λ (i : ℕ). are_zero (70 + 21 * i) 21 rs) ≡ are_zero (70 + 21 * k) (21 * n) rs

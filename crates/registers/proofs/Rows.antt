@@ -1,19 +1,16 @@
 -- What all rows have, computed for each register: bytes among those of the registers, a mask no wider than they are, a place in D; every bit of its
 -- bytes but for those of `within`, and no byte of these unless it has all of them. And the rows stand one behind the other. What a master's have
 -- is one law over its number.
-use Prim.Native.Nat.{ℕ, suc, ◌+◌, ◌*◌, ◌/◌, ◌%◌, ◌^◌, ◌≤◌, ◌<◌}
+use Prim.Native.Nat.{ℕ, suc, ◌+◌, ◌*◌, ◌%◌, ◌^◌, ◌≤◌, ◌<◌}
 use mathlib.Core.Bool.{Bool, true, false, ◌&&◌, ◌||◌, true≢false, false≢true}
 use mathlib.Core.List.{List, [], ◌∷◌}
 use mathlib.Core.Logic.{◌⊎◌, inl, inr}
 use mathlib.Core.Path.{◌≡◌, refl, ap, ap₂, ◌∙◌}
 use native.Mathlib.Omega.{arith}
 use borrow.Author.Tests.{leb-true, le-leb, ltb-true, ltb-false, eq-eqb}
-use lib.Bits.{bit_and}
 use lib.Dec.{eqb, leb, ltb, lit≤}
-use lib.ListN.{length}
 use Rattle.bits.proofs.Tests.{and_left, and_right, both}
-use Rattle.parts.specs.Parts.{part, put}
-use Rattle.parts.specs.Digits.{number, digits, bytes_in}
+use Rattle.parts.specs.Digits.{bytes_in}
 use Rattle.parts.proofs.Laws.{Apart}
 use Rattle.commands.specs.Field.{Field}
 use Rattle.commands.specs.Field.{Mask, Ctrl, Status, Open, Data0, Data1, Data2, Data3, master}
@@ -22,8 +19,7 @@ use Rattle.commands.specs.declared.command.Register.TheVariants.{Crb, Crc, Crd, 
 use Rattle.commands.specs.declared.command.Register.TheVariants.{SpiGo, Dataout, Datain, Direction, Intsel, Inttrig, Ints, Clksel, Edgesel}
 use Rattle.commands.specs.declared.command.Register.TheVariants.{Intenable, Seu, DacA, DacB, DacC, DacD, ChipId}
 use Rattle.commands.specs.declared.command.Register.TheVariants.{I2cMask, I2cCtrl, I2cStatus, I2cOpen, I2cData0, I2cData1, I2cData2, I2cData3}
-use Rattle.registers.specs.declared.Row.{Row}
-use Rattle.registers.specs.Registers.{size, row_of, bank, read, store, shown, written, is_within, four_within}
+use Rattle.registers.specs.Registers.{size, row_of, bank}
 
 -- where a register starts, how many bytes it has, and where the next one may start
 abbrev pub place : Register → ℕ
@@ -315,33 +311,6 @@ mask_fits r = ltb-true (row_of r).mask (256 ^ wide r) (and_left (ltb (row_of r).
 pub in_data : (r : Register) → (row_of r).low < 32
 in_data r = ltb-true (row_of r).low 32 (and_right (ltb (row_of r).mask (256 ^ wide r)) _ (masks r))
 
--- ---- a row that code has looked up
-
-module _ (r : Register) (x : Row) (e : x ≡ row_of r) where
-  pub low_below : x.low < 32
-  low_below = rw e (in_data r)
-
-  module _ (rs : List ℕ) where
-    pub inside : length rs ≡ size → x.place + bytes_in x.width ≤ length rs
-    inside h = rw (h, e) (placed r)
-
-    pub has_read : (v : ℕ) → v ≡ number (part x.place (bytes_in x.width) rs) → v ≡ read rs r
-    unfolding read
-    has_read v h = simp (h, e)
-
-    pub has_stored : (v : ℕ) (ss : List ℕ) → ss ≡ put x.place (digits (bytes_in x.width) (bit_and v x.mask)) rs → ss ≡ store rs r v
-    unfolding store
-    has_stored v ss h = simp (h, e)
-
-    pub has_shown : (v : ℕ) → v ≡ number (part x.place (bytes_in x.width) rs) → v * 2 ^ x.low % 2 ^ 32 ≡ shown rs r
-    has_shown v h = simp (has_read v h, e)
-
-    pub has_written : (v : ℕ) (ss : List ℕ) → ss ≡ put x.place (digits (bytes_in x.width) (bit_and (v / 2 ^ x.low) x.mask)) rs → ss ≡ written rs r v
-    has_written v ss h = simp (has_stored (v / 2 ^ x.low) ss h, e)
-
-    pub has_within : (v : ℕ) → v ≡ read rs r → eqb (bit_and v x.mask) v ≡ is_within rs r
-    has_within v h = simp (h, e)
-
 -- ---- one behind the other
 
 -- each starts where the last one ended, so no two share a byte, and no byte is without a register
@@ -371,7 +340,3 @@ fields_in_turn i =
     (ap₂ ◌&&◌ (same (bank i + 9) (bank i + 5 + 4) (omega arith))
     (ap₂ ◌&&◌ (same (bank i + 13) (bank i + 9 + 4) (omega arith))
     (ap₂ ◌&&◌ (same (bank i + 17) (bank i + 13 + 4) (omega arith)) (same (bank i + 17 + 4) (bank i + 21) (omega arith)))))))))
-
-pub all_within : (rs : List ℕ) (x y z t : Bool) → x ≡ is_within rs Crb → y ≡ is_within rs Crd → z ≡ is_within rs ChipId → t ≡ is_within rs Intenable
-    → (x && y && z && t) ≡ four_within rs
-all_within rs x y z t e f g h = simp (e, f, g, h)

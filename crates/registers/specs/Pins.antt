@@ -10,6 +10,10 @@ takes direction clksel edgesel kind =
     not direction
     && (not clksel && eqb kind 0 || clksel && (eqb kind 1 && not edgesel || eqb kind 2 && edgesel))
 
+-- the lines that take their level
+unfoldable pub taken_lines : ℕ → ℕ → ℕ → ℕ → ℕ
+taken_lines direction clksel edgesel kind = word 32 (λ i. takes (bit_of direction i) (bit_of clksel i) (bit_of edgesel i) kind)
+
 -- A line that takes its level has it in DATAIN, another keeps its bit.
 unfoldable pub datain_after : List ℕ → ℕ → ℕ → ℕ
 datain_after rs levels kind =

@@ -29,6 +29,14 @@ completed_bit length was received i = cond (ltb i length) (data_bit received i) 
 unfoldable pub completed_word : ℕ → List ℕ → List ℕ → ℕ → ℕ
 completed_word length was received w = word 32 (λ i. completed_bit length was received (32 * w + i))
 
+-- the bits of such a word that a transfer fills, its lowest being bit `from` of the 128
+unfoldable pub filled : ℕ → ℕ → ℕ
+filled length from = word 32 (λ i. ltb (from + i) length)
+
+-- A word of DATA whose lowest bit is bit `from` of the 128, and the received word at its place: likewise.
+unfoldable pub merged_word : ℕ → ℕ → ℕ → ℕ → ℕ
+merged_word length from was received = word 32 (λ i. cond (ltb (from + i) length) (bit_of received i) (bit_of was i))
+
 -- DATA after a transfer of 16 received bytes
 unfoldable pub data_after : List ℕ → List ℕ → List ℕ
 data_after rs received =

@@ -5,6 +5,7 @@ ghost use Rattle.commands.specs.Field.{Data0, Data1, Data2, Data3, master};
 ghost use Rattle.registers.specs.Registers.{size};
 ghost use Rattle.registers.specs.Transaction.{nbyte, allows, status_after, byte_after, word_after, filled_word, filled, fills_data, brings_byte, ended, end_data};
 
+use crate::SIZE;
 use commands::command::{Register, Transaction};
 
 // The most bytes that CTRL can ask for.
@@ -30,14 +31,9 @@ fn count_in(control: u32) -> u32
 pub fn allows(control: u32, transaction: Transaction) -> bool
     ensures { result ≡ allows control transaction }
 {
-    let count = count_in(control);
-    let fits = (1 <= count) & (count <= MOST);
     match transaction {
-        Transaction::WriteOne => true,
-        Transaction::ReadOne => true,
-        Transaction::WriteMany => fits,
-        Transaction::ReadMany => fits,
-        Transaction::Modify => true,
+        Transaction::WriteMany | Transaction::ReadMany => matches!(count_in(control), 1..=MOST),
+        _ => true,
     }
 }
 
@@ -47,12 +43,13 @@ fn flag(on: bool, bit: u8) -> u8
     if on { bit } else { 0 }
 }
 
+#[tactic(auto, using(crate::proofs::Transaction::status_of))]
 fn status_after(acknowledge: bool, low: bool, was: u32) -> u8
     ensures { result ≡ status_after acknowledge low was }
 {
     let succ = flag(acknowledge & !low, SUCC);
     let leverr = flag(low, LEVERR);
-    let invcom = flag(was & INVCOM != 0, 0x20);
+    let invcom = flag(was & INVCOM != 0, INVCOM as u8);
     let noack = flag(!acknowledge, NOACK);
     succ + leverr + invcom + noack
 }
@@ -60,7 +57,7 @@ fn status_after(acknowledge: bool, low: bool, was: u32) -> u8
 fn byte_at(received: &[u8], k: usize) -> u8
     ensures { result ≡ get_or received.now k 0 }
 {
-    if k < received.len() { received[k] } else { 0 }
+    received.get(k).copied().unwrap_or(0)
 }
 
 fn byte_after(received: &[u8], count: u32, k: u32, was: u8) -> u8
@@ -74,20 +71,19 @@ fn byte_after(received: &[u8], count: u32, k: u32, was: u8) -> u8
 }
 
 // One word of DATA, from its byte k on, the first byte on top. Where all its four bytes came, they are the word.
+#[tactic(auto, using(crate::proofs::Transaction::whole_word, crate::proofs::Transaction::four_bytes))]
 fn word_after(received: &[u8], count: u32, k: u32, was: u32) -> u32
     requires { k < 16 }
     ensures { result ≡ word_after received.now count k was }
 {
     let at = k as usize;
-    if k + 4 <= count {
-        if at + 4 <= received.len() {
-            return parts::word_of(
-                received[at + 3],
-                received[at + 2],
-                received[at + 1],
-                received[at],
-            );
-        }
+    if k + 4 <= count && at + 4 <= received.len() {
+        return parts::word_of(
+            received[at + 3],
+            received[at + 2],
+            received[at + 1],
+            received[at],
+        );
     }
     let b3 = byte_after(received, count, k, ((was / 0x1000000) % 256) as u8);
     let b2 = byte_after(received, count, k + 1, ((was / 0x10000) % 256) as u8);
@@ -96,101 +92,57 @@ fn word_after(received: &[u8], count: u32, k: u32, was: u32) -> u32
     parts::word_of(b0, b1, b2, b3)
 }
 
-// DATA bytes 0 to 7 after a read of so many.
-fn fill_front(registers: &mut [u8], index: u8, received: &[u8], count: u32)
-    requires { length registers.old ≡ size }
-    ensures { registers.new ≡ filled_word (master index Data1) received.now count 4 (filled_word (master index Data0) received.now count 0 registers.old) }
+// One word of DATA, whose first byte is byte k, after a read of so many.
+#[tactic(auto, unfolding(crate::specs::Transaction::filled_word))]
+fn fill_word(registers: &mut [u8; SIZE], which: Register, received: &[u8], count: u32, k: u32)
+    requires { k < 16 }
+    ensures { registers.new ≡ filled_word which received.now count k registers.old }
 {
-    let first = crate::read(registers, Register::I2cData0(index));
-    crate::store(
-        registers,
-        Register::I2cData0(index),
-        word_after(received, count, 0, first),
-    );
-    let second = crate::read(registers, Register::I2cData1(index));
-    crate::store(
-        registers,
-        Register::I2cData1(index),
-        word_after(received, count, 4, second),
-    );
+    let was = crate::read(registers, which);
+    crate::store(registers, which, word_after(received, count, k, was));
 }
 
-// DATA bytes 8 to 15 after it.
-fn fill_back(registers: &mut [u8], index: u8, received: &[u8], count: u32)
-    requires { length registers.old ≡ size }
-    ensures { registers.new ≡ filled_word (master index Data3) received.now count 12 (filled_word (master index Data2) received.now count 8 registers.old) }
+// DATA bytes 0 to count - 1 become those received, lacking ones 0.
+#[tactic(auto, unfolding(crate::specs::Transaction::filled))]
+fn fill(registers: &mut [u8; SIZE], index: u8, received: &[u8], count: u32)
+    ensures { registers.new ≡ filled index received.now count registers.old }
 {
-    let first = crate::read(registers, Register::I2cData2(index));
-    crate::store(
-        registers,
-        Register::I2cData2(index),
-        word_after(received, count, 8, first),
-    );
-    let second = crate::read(registers, Register::I2cData3(index));
-    crate::store(
-        registers,
-        Register::I2cData3(index),
-        word_after(received, count, 12, second),
-    );
-}
-
-// DATA bytes 0 to count - 1 become those received, lacking ones 0, if they are taken.
-fn fill(registers: &mut [u8], index: u8, received: &[u8], count: u32, taken: bool)
-    requires { length registers.old ≡ size }
-    ensures { registers.new ≡ cond taken (filled index received.now count registers.old) registers.old }
-{
-    if !taken {
-        return;
-    }
-    fill_front(registers, index, received, count);
-    fill_back(registers, index, received, count);
+    fill_word(registers, Register::I2cData0(index), received, count, 0);
+    fill_word(registers, Register::I2cData1(index), received, count, 4);
+    fill_word(registers, Register::I2cData2(index), received, count, 8);
+    fill_word(registers, Register::I2cData3(index), received, count, 12);
 }
 
 fn fills_data(transaction: Transaction) -> bool
     ensures { result ≡ fills_data transaction }
 {
-    match transaction {
-        Transaction::WriteOne => false,
-        Transaction::ReadOne => false,
-        Transaction::WriteMany => false,
-        Transaction::ReadMany => true,
-        Transaction::Modify => false,
-    }
+    matches!(transaction, Transaction::ReadMany)
 }
 
 fn brings_byte(transaction: Transaction) -> bool
     ensures { result ≡ brings_byte transaction }
 {
-    match transaction {
-        Transaction::WriteOne => false,
-        Transaction::ReadOne => true,
-        Transaction::WriteMany => false,
-        Transaction::ReadMany => false,
-        Transaction::Modify => false,
-    }
+    matches!(transaction, Transaction::ReadOne)
 }
 
 // What the reply carries: STATUS, and a single read's byte.
 fn end_data(status: u8, received: &[u8], brought: bool) -> u32
     ensures { result ≡ status * 2 ^ 24 + cond brought (get_or received.now 0 0) 0 * 2 ^ 16 }
 {
-    if brought {
-        parts::word_of(0, 0, byte_at(received, 0), status)
-    } else {
-        parts::word_of(0, 0, 0, status)
-    }
+    let byte = if brought { byte_at(received, 0) } else { 0 };
+    parts::word_of(0, 0, byte, status)
 }
 
 // The end of a transaction: the start is closed, STATUS is new, and on SUCC a multi-byte read fills DATA. Tells D of the reply.
+#[tactic(auto, unfolding(crate::specs::Transaction::ended, crate::specs::Transaction::end_data))]
 pub fn end(
-    registers: &mut [u8],
+    registers: &mut [u8; SIZE],
     index: u8,
     transaction: Transaction,
     acknowledge: bool,
     low: bool,
     received: &[u8],
 ) -> u32
-    requires { length registers.old ≡ size }
     ensures { (registers.new ≡ ended index transaction acknowledge low received.now registers.old) × (result ≡ end_data index transaction acknowledge low received.now registers.old) }
 {
     let was = crate::read(registers, Register::I2cStatus(index));
@@ -199,12 +151,8 @@ pub fn end(
     let success = acknowledge & !low;
     crate::store(registers, Register::I2cOpen(index), 0);
     crate::store(registers, Register::I2cStatus(index), status as u32);
-    fill(
-        registers,
-        index,
-        received,
-        count,
-        success & fills_data(transaction),
-    );
-    end_data(status, received, success & brings_byte(transaction))
+    if success && fills_data(transaction) {
+        fill(registers, index, received, count);
+    }
+    end_data(status, received, success && brings_byte(transaction))
 }

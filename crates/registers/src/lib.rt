@@ -7,7 +7,8 @@ pub mod gpio;
 pub mod i2c;
 pub mod spi;
 
-ghost use Rattle.std.specs.Prelude.{◌≡◌, ◌+◌, ◌≤◌, length};
+ghost use Rattle.std.specs.Prelude.{◌≡◌, ◌+◌, ◌<◌, ◌≤◌, ◌&&◌, true, eqb, fold, length};
+ghost use Rattle.parts.specs.Digits.{bytes_in};
 ghost use Rattle.registers.specs.Registers.{row, row_of, bank, read, store, shown, written, zeroed, are_zero, is_within, four_within, size};
 
 use commands::command::Register;
@@ -29,10 +30,10 @@ fn at(place: usize, width: Width, mask: u32, low: u32) -> Row
     ensures { result ≡ row place width mask low }
 {
     Row {
-        place: place,
-        width: width,
-        mask: mask,
-        low: low,
+        place,
+        width,
+        mask,
+        low,
     }
 }
 
@@ -41,14 +42,18 @@ pub const MASTER_BYTES: usize = 21;
 
 pub const FIRST_MASTER: usize = 70;
 
+#[tactic(auto, unfolding(crate::specs::Registers::bank))]
 pub fn bank(index: u8) -> usize
     ensures { result ≡ bank index }
 {
     FIRST_MASTER + MASTER_BYTES * ((index % 16) as usize)
 }
 
+#[tactic(auto, using(crate::proofs::Rows::bank_to, crate::proofs::Rows::placed, crate::proofs::Rows::in_data))]
 fn row_of(which: Register) -> Row
-    ensures { result ≡ row_of which }
+    ensures row { result ≡ row_of which }
+    ensures inside { result.place + bytes_in result.width ≤ size }
+    ensures in_data { result.low < 32 }
 {
     match which {
         Register::Crb => at(0, Width::Byte, 0xfe, 24),
@@ -88,50 +93,59 @@ fn row_of(which: Register) -> Row
     }
 }
 
-pub fn read(registers: &[u8], which: Register) -> u32
-    requires { length registers.now ≡ size }
+#[tactic(auto, unfolding(crate::specs::Registers::read))]
+pub fn read(registers: &[u8; SIZE], which: Register) -> u32
     ensures { result ≡ read registers.now which }
 {
     let row = row_of(which);
-    let width = row.width;
-    parts::number_at(registers, row.place, width)
+    parts::number_at(registers, row.place, row.width)
 }
 
-pub fn store(registers: &mut [u8], which: Register, value: u32)
-    requires { length registers.old ≡ size }
+#[tactic(auto, unfolding(crate::specs::Registers::store))]
+pub fn store(registers: &mut [u8; SIZE], which: Register, value: u32)
     ensures { registers.new ≡ store registers.old which value }
 {
     let row = row_of(which);
-    let width = row.width;
-    parts::store_number(registers, row.place, width, value & row.mask);
+    parts::store_number(registers, row.place, row.width, value & row.mask);
 }
 
 // A register as it stands in D.
-pub fn show(registers: &[u8], which: Register) -> u32
-    requires { length registers.now ≡ size }
+#[tactic(auto, unfolding(crate::specs::Registers::read))]
+pub fn show(registers: &[u8; SIZE], which: Register) -> u32
     ensures { result ≡ shown registers.now which }
 {
     let row = row_of(which);
-    let width = row.width;
-    parts::number_at(registers, row.place, width) << row.low
+    parts::number_at(registers, row.place, row.width) << row.low
 }
 
 // A register takes what stands for it in D.
-pub fn write(registers: &mut [u8], which: Register, value: u32)
-    requires { length registers.old ≡ size }
+#[tactic(auto, unfolding(crate::specs::Registers::store))]
+pub fn write(registers: &mut [u8; SIZE], which: Register, value: u32)
     ensures { registers.new ≡ written registers.old which value }
 {
     let row = row_of(which);
-    let width = row.width;
-    parts::store_number(registers, row.place, width, (value >> row.low) & row.mask);
+    parts::store_number(
+        registers,
+        row.place,
+        row.width,
+        (value >> row.low) & row.mask,
+    );
 }
 
 // Some bytes, from a place on, at 0.
+#[tactic(auto, unfolding(crate::specs::Registers::zeroed, parts::specs::Parts::put))]
 pub fn clear(registers: &mut [u8], first: usize, many: usize)
     requires { first + many ≤ length registers.old }
     ensures { registers.new ≡ zeroed first many registers.old }
 {
-    parts::clear(registers, first, many);
+    registers[first..first + many].fill(0);
+}
+
+// Whether bytes are 0. It looks at each of them, so that it can look at many at once.
+fn none_set(bytes: &[u8]) -> bool
+    ensures { result ≡ fold (λ all b. all && eqb b 0) true bytes.now }
+{
+    bytes.iter().fold(true, |all, b| all & (*b == 0))
 }
 
 // Whether some bytes, from a place on, are 0.
@@ -139,27 +153,18 @@ pub fn are_zero(registers: &[u8], first: usize, many: usize) -> bool
     requires { first + many ≤ length registers.now }
     ensures { result ≡ are_zero first many registers.now }
 {
-    let mut all = true;
-    let mut i = 0;
-    while i < many {
-        all = all & (registers[first + i] == 0);
-        i += 1;
-    }
-    all
+    none_set(&registers[first..first + many])
 }
 
-pub fn is_within(registers: &[u8], which: Register) -> bool
-    requires { length registers.now ≡ size }
+pub fn is_within(registers: &[u8; SIZE], which: Register) -> bool
     ensures { result ≡ is_within registers.now which }
 {
-    let row = row_of(which);
     let value = read(registers, which);
-    value & row.mask == value
+    value & row_of(which).mask == value
 }
 
 // Whether no register of the core, SPI and GPIO has a bit set that reads 0.
-pub fn are_within(registers: &[u8]) -> bool
-    requires { length registers.now ≡ size }
+pub fn are_within(registers: &[u8; SIZE]) -> bool
     ensures { result ≡ four_within registers.now }
 {
     let crb = is_within(registers, Register::Crb);

@@ -1,10 +1,12 @@
 // Channel 0x01, the SPI master: what the end of a transfer makes of DATA.
-ghost use Rattle.std.specs.Prelude.{◌≡◌, cond, ltb, ◌+◌, length};
-ghost use Rattle.bits.specs.Bits.{bit_of, word};
+ghost use Rattle.std.specs.Prelude.{◌≡◌, ◌+◌, ◌≤◌, length};
+ghost use Rattle.parts.specs.Digits.{number};
+ghost use Rattle.parts.specs.Parts.{part};
 ghost use Rattle.commands.specs.declared.command.Register.TheVariants.{SpiData0};
-ghost use Rattle.registers.specs.Registers.{size, read};
-ghost use Rattle.registers.specs.Transfer.{transfer_length, data_after, with_data, completed};
+ghost use Rattle.registers.specs.Registers.{size, read, store};
+ghost use Rattle.registers.specs.Transfer.{transfer_length, filled, merged_word, data_after, with_data, completed};
 
+use crate::SIZE;
 use commands::command::Register;
 use parts::{Width, number_at};
 
@@ -16,8 +18,9 @@ fn transfer_length(control: u32) -> u8
 }
 
 // The bits of one word of DATA, whose lowest is bit `from` of the 128, that a transfer fills.
+#[tactic(auto, using(crate::proofs::Transfer::filled_none, crate::proofs::Transfer::filled_low, crate::proofs::Transfer::filled_all))]
 fn filled(length: u8, from: u8) -> u32
-    ensures { result ≡ word 32 (λ i. ltb (from + i) length) }
+    ensures { result ≡ filled length from }
 {
     if length <= from {
         return 0;
@@ -30,49 +33,47 @@ fn filled(length: u8, from: u8) -> u32
     }
 }
 
+// A word of DATA after a transfer.
+#[tactic(auto, using(crate::proofs::Transfer::merged_mask))]
 fn merged(was: u32, received: u32, length: u8, from: u8) -> u32
-    ensures { result ≡ word 32 (λ i. cond (ltb (from + i) length) (bit_of received i) (bit_of was i)) }
+    ensures { result ≡ merged_word length from was received }
 {
     let mask = filled(length, from);
     (was & !mask) | (received & mask)
 }
 
-// DATA after a transfer, word by word.
-fn data_after(registers: &[u8], received: &[u8]) -> [u32; 4]
-    requires registers_len { length registers.now ≡ size }
-    requires received_len { length received.now ≡ 16 }
-    ensures { result ≡ data_after registers.now received.now }
+fn fill_word(registers: &mut [u8; SIZE], which: Register, received: u32, count: u8, from: u8)
+    ensures { registers.new ≡ store registers.old which (merged_word count from (read registers.old which) received) }
 {
-    let length = transfer_length(crate::read(registers, Register::SpiControl));
-    let was0 = crate::read(registers, Register::SpiData0);
-    let was1 = crate::read(registers, Register::SpiData1);
-    let was2 = crate::read(registers, Register::SpiData2);
-    let was3 = crate::read(registers, Register::SpiData3);
-    let w0 = merged(was0, number_at(received, 0, Width::Word), length, 0);
-    let w1 = merged(was1, number_at(received, 4, Width::Word), length, 32);
-    let w2 = merged(was2, number_at(received, 8, Width::Word), length, 64);
-    let w3 = merged(was3, number_at(received, 12, Width::Word), length, 96);
-    [w0, w1, w2, w3]
+    let was = crate::read(registers, which);
+    crate::store(registers, which, merged(was, received, count, from));
 }
 
-fn store_data(registers: &mut [u8], words: [u32; 4])
-    requires { length registers.old ≡ size }
-    ensures { registers.new ≡ with_data registers.old words }
+fn word(received: &[u8], at: usize) -> u32
+    requires { at + 4 ≤ length received.now }
+    ensures { result ≡ number (part at 4 received.now) }
 {
-    crate::store(registers, Register::SpiData0, words[0]);
-    crate::store(registers, Register::SpiData1, words[1]);
-    crate::store(registers, Register::SpiData2, words[2]);
-    crate::store(registers, Register::SpiData3, words[3]);
+    number_at(received, at, Width::Word)
+}
+
+// DATA after a transfer, word by word.
+#[tactic(auto, using(crate::proofs::Transfer::words_filled))]
+fn fill(registers: &mut [u8; SIZE], received: &[u8; 16])
+    ensures { registers.new ≡ with_data registers.old (data_after registers.old received.now) }
+{
+    let count = transfer_length(crate::read(registers, Register::SpiControl));
+    fill_word(registers, Register::SpiData0, word(received, 0), count, 0);
+    fill_word(registers, Register::SpiData1, word(received, 4), count, 32);
+    fill_word(registers, Register::SpiData2, word(received, 8), count, 64);
+    fill_word(registers, Register::SpiData3, word(received, 12), count, 96);
 }
 
 // The end of a transfer of 16 received bytes. Tells DATA[31:0] after it.
-pub fn complete(registers: &mut [u8], received: &[u8]) -> u32
-    requires registers_len { length registers.old ≡ size }
-    requires received_len { length received.now ≡ 16 }
+#[tactic(auto, unfolding(crate::specs::Transfer::completed))]
+pub fn complete(registers: &mut [u8; SIZE], received: &[u8; 16]) -> u32
     ensures { (registers.new ≡ completed registers.old received.now) × (result ≡ read registers.new SpiData0) }
 {
-    let after = data_after(registers, received);
-    store_data(registers, after);
+    fill(registers, received);
     crate::store(registers, Register::SpiGo, 0);
     crate::read(registers, Register::SpiData0)
 }

@@ -1,21 +1,19 @@
 -- The laws of a state's bytes: a state is read back from them, and has no other spelling. Assumes nothing.
-use Prim.Native.Nat.{ℕ, ◌+◌, ◌-◌, ◌≤◌}
+use Prim.Native.Nat.{ℕ, ◌+◌, ◌≤◌}
 use mathlib.Core.Path.{◌≡◌, refl, sym, ap, ap₂, ◌∙◌}
 use mathlib.Core.Bool.{Bool, true, false, ◌&&◌}
 use mathlib.Core.List.{List, [], ◌∷◌, ◌++◌}
 use native.Mathlib.Omega.{arith}
-use lib.ListN.{length, take, drop, get_or, replicate, length-append, length-drop, length-replicate, take-append-drop}
+use lib.ListN.{length, take, drop, get_or, length-append, length-drop, take-append-drop}
 use lib.Seq.{take_all}
 use lib.Dec.{eqb, leb}
-use borrow.Author.Tests.{eq-eqb, ne_eqb, eqb-true, eqb-false, leb-true}
+use borrow.Author.Tests.{eq-eqb, eqb-true, eqb-false, leb-true}
 use Rattle.bits.specs.Bits.{digit}
 use Rattle.bits.proofs.Tests.{and_left, and_right}
 use Rattle.parts.specs.Parts.{part}
-use Rattle.parts.proofs.Laws.{AreBytes, bytes_take, bytes_drop, length_part, put_all}
-use Rattle.commands.specs.declared.command.Register.TheVariants.{ChipId}
-use Rattle.registers.specs.Registers.{size, store, zeroed}
-use Rattle.channels.specs.Starts.{sound_registers}
-use Rattle.state.specs.State.{Adapter, blank, in_range}
+use Rattle.parts.proofs.Laws.{AreBytes, bytes_take, bytes_drop, length_part}
+use Rattle.registers.specs.Registers.{size}
+use Rattle.state.specs.State.{Adapter, in_range}
 use Rattle.state.specs.Bytes.{link_bytes, state_size, link_image, state_bytes, state_in, spelled, is_state}
 use Rattle.state.proofs.Good.{Good, good, good_ranged}
 
@@ -100,21 +98,3 @@ state_again s h =
       take_all size (drop link_bytes s) (omega arith),
     )
     (ap (λ (l : List ℕ). l ++ drop link_bytes s) (sym (front_five s (omega arith))) ∙ take-append-drop link_bytes s)
-
--- ---- what the code writes and reads
-
-zeros_over : (rs : List ℕ) → length rs ≡ size → zeroed 0 size rs ≡ replicate size 0
-unfolding zeroed
-zeros_over rs n = put_all (replicate size 0) rs (length-replicate {A = ℕ} size 0 ∙ sym n)
-
-pub powers_on : (rs ss ts : List ℕ) (id : ℕ) → length rs ≡ size → ss ≡ zeroed 0 size rs → ts ≡ store ss ChipId id → ts ≡ blank id
-powers_on rs ss ts id n e f = simp (f, e, zeros_over rs n)
-
-pub is_a_state : (s : List ℕ) (x : Bool) → length s ≡ state_size → x ≡ sound_registers (take (state_size - link_bytes) (drop link_bytes s))
-    → (leb (get_or s 3 0) 1 && leb (get_or s 4 0) 1 && (leb (get_or s 0 0) 7 && leb (get_or s 1 0) 7 && leb (get_or s 2 0) 1 && x)) ≡ is_state s
-unfolding is_state in_range state_in part
-is_a_state s x n e = simp (eq-eqb (length s) state_size n, e)
-
-pub is_no_state : (s : List ℕ) → (length s ≡ state_size → ⊥) → false ≡ is_state s
-unfolding is_state
-is_no_state s h = simp (ne_eqb (length s) state_size h)

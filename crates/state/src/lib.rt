@@ -30,7 +30,7 @@ pub fn power_on(registers: &mut [u8], id: u32)
     requires { length registers.old ≡ size }
     ensures { registers.new ≡ blank id }
 {
-    registers::clear(registers, 0, SIZE);
+    registers.fill(0);
     registers::store(registers, Register::ChipId, id);
 }
 
@@ -51,6 +51,7 @@ pub fn link_of(s: &[u8]) -> Link
     }
 }
 
+#[tactic(auto, unfolding(parts::specs::Parts::put))]
 pub fn store_link(s: &mut [u8], l: Link)
     requires { link_bytes ≤ length s.old }
     ensures { s.new ≡ put 0 (link_image l) s.old }
@@ -62,18 +63,19 @@ pub fn store_link(s: &mut [u8], l: Link)
         l.primary.loopback as u8,
         l.auxiliary.loopback as u8,
     ];
-    parts::store(s, 0, &bytes);
+    s[..LINK].copy_from_slice(&bytes);
 }
 
 // Whether bytes spell a state: what number 6 refuses is all else.
+#[tactic(auto, unfolding(crate::specs::Bytes::is_state, crate::specs::Bytes::state_in, crate::specs::State::in_range, parts::specs::Parts::part))]
 pub fn is_state(s: &[u8]) -> bool
     ensures { result ≡ is_state s.now }
 {
-    if s.len() == BYTES {
-        let numbers = (s[0] <= LAST_NUMBER) & (s[1] <= LAST_NUMBER) & (s[2] <= LAST_PORT);
-        let loopbacks = (s[3] <= LOOPING) & (s[4] <= LOOPING);
-        let sound = channels::are_sound(&s[LINK..BYTES]);
-        return loopbacks & (numbers & sound);
-    }
-    false
+    s.len() == BYTES
+        && s[3] <= LOOPING
+        && s[4] <= LOOPING
+        && s[0] <= LAST_NUMBER
+        && s[1] <= LAST_NUMBER
+        && s[2] <= LAST_PORT
+        && channels::are_sound(&s[LINK..])
 }
