@@ -181,7 +181,7 @@ fn dropping(control: Control) -> &'static [Channel]
 }
 
 // A disabled channel drops what it had, and what it had open: each that this register switches.
-#[tactic(auto, using(crate::proofs::Cases::held_next, crate::proofs::Cases::held_none, crate::proofs::Laws::length_held))]
+#[tactic(auto, using(crate::proofs::Cases::held_next, crate::proofs::Cases::held_none))]
 fn settle(registers: &mut [u8; SIZE], control: Control)
     ensures { registers.new ≡ settled control registers.old }
 {
