@@ -20,10 +20,10 @@ use Rattle.journal.specs.Record.{before, restored, sound}
 use Rattle.journal.proofs.Record.{length_before, taken_back, sound_back}
 use Rattle.journal.proofs.Enlarged.{small_by_slots}
 use Rattle.journal.proofs.Ring.{Well, well_of, emptied_well, emptied_slots, emptied_kept, behind, pushed_well, pushed_slots, pushed_kept, pushed_newest, pushed_older}
-use Rattle.adapter.specs.declared.Verdict.TheVariants.{Refused, Passed}
+use Rattle.adapter.specs.Answers.{Refused, Passed, plain}
 use Rattle.adapter.specs.Refusals.{wrong_argument, wrong_body, in_order, verdict}
 use Rattle.adapter.proofs.Cases.{back_none, back_tried}
-use Rattle.adapter.specs.Calls.{outcome, plain, recorded, done, called, stepped, stepped_back, made, made_empty, copied, made_large}
+use Rattle.adapter.specs.Calls.{outcome, recorded, done, called, stepped, stepped_back, made, made_empty, copied, made_large}
 
 -- ---- an event
 

@@ -3,16 +3,12 @@ use Rattle.std.specs.Prelude.{ℕ, Bool, not, cond, List, length, eqb, ltb}
 use Rattle.numbers.specs.Numbers.{no_frame, short_output, bad_journal, bad_state, bad_id, id_most}
 use Rattle.state.specs.State.{power_on}
 use Rattle.state.specs.Bytes.{state_size, state_bytes, state_in}
-use Rattle.chip.specs.declared.Response.{Response}
 use Rattle.chip.specs.Event.{Event}
 use Rattle.chip.specs.Chip.{reaction, accepted_reset}
-use Rattle.chip.specs.Answer.{response, laid}
+use Rattle.chip.specs.Answer.{Response, response, laid}
 use Rattle.journal.specs.Layout.{size_of, large, wrong_length, kept_of, well_formed, is_small, past, emptied, pushed, lowered, enlarged}
 use Rattle.journal.specs.Record.{before, restored}
-use Rattle.adapter.specs.declared.Answer.{Answer}
-use Rattle.adapter.specs.declared.KeptNumber.{KeptNumber}
-use Rattle.adapter.specs.declared.Verdict.{Verdict}
-use Rattle.adapter.specs.declared.Verdict.TheVariants.{Refused, Passed}
+use Rattle.adapter.specs.Answers.{Answer, KeptNumber, Verdict, Refused, Passed, plain}
 use Rattle.adapter.specs.Refusals.{verdict, back_verdict}
 
 -- ---- creation and emptying: a number, and one buffer afterwards
@@ -68,10 +64,6 @@ pub record Outcome : Type 0 where
 
 abbrev pub outcome : Answer → List ℕ → List ℕ → List ℕ → Outcome
 outcome answer state journal output = record { answer = answer; state = state; journal = journal; output = output }
-
--- a number with no frame
-abbrev pub plain : ℕ → Answer
-plain number = record { number = number; port = 0; length = 0 }
 
 -- what the chip gives, without the link
 abbrev pub shown : Response → Answer

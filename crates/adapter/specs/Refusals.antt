@@ -5,8 +5,7 @@ use Rattle.chip.specs.Event.{Completion, spi, i2c, Event, frame, completion, sam
 use Rattle.state.specs.Bytes.{is_state}
 use Rattle.journal.specs.Layout.{well_formed, kept_of, past}
 use Rattle.journal.specs.Record.{sound}
-use Rattle.adapter.specs.declared.Verdict.{Verdict}
-use Rattle.adapter.specs.declared.Verdict.TheVariants.{Refused, Passed}
+use Rattle.adapter.specs.Answers.{Verdict, Refused, Passed}
 use Rattle.numbers.specs.Numbers.{short_output, bad_body, bad_argument, bad_journal, none_kept, bad_state, body_least, body_most, output_least, transfer_bytes, i2c_most}
 
 -- completion not 16 bytes; a channel number that isn't I2C, or over 16 bytes

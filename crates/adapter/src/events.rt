@@ -1,179 +1,180 @@
-// The events that nothing refuses, on the state's lent bytes. First the event's record joins the journal; then the chip is handed the link and
-// the registers where they stand, and gives the link back.
-ghost use Rattle.std.specs.Prelude.{◌≡◌, true, List, ℕ, ◌≤◌, length};
-ghost use Rattle.numbers.specs.Numbers.{body_least, body_most, reply_bytes, output_least, transfer_bytes};
-ghost use Rattle.commands.specs.Channels.{first_master};
-ghost use Rattle.parts.specs.Parts.{put};
-ghost use Rattle.state.specs.Bytes.{link_bytes, state_size, link_image};
-ghost use Rattle.chip.specs.Event.{Completion, Event};
+// What happens to the chip. First the event's record joins the journal; then the chip is handed the link and the registers where they stand, and
+// gives the link back.
+ghost use Rattle.std.specs.Prelude.{◌≡◌, true, ◌≤◌, length};
+ghost use Rattle.numbers.specs.Numbers.{reply_bytes};
+ghost use Rattle.registers.specs.Registers.{size};
+ghost use Rattle.state.specs.State.{adapter};
+ghost use Rattle.state.specs.Bytes.{state_size};
+ghost use Rattle.chip.specs.Event as chip;
+ghost use Rattle.chip.specs.Chip.{reaction, accepted_reset};
+ghost use Rattle.chip.specs.Group.{group_of};
+ghost use Rattle.chip.specs.Inner.{said, says};
 ghost use Rattle.journal.specs.Layout.{well_formed};
-ghost use Rattle.journal.specs.Record.{kept_for};
-ghost use Rattle.adapter.specs.Calls.{outcome, shown, joined, happened, done};
+ghost use Rattle.adapter.specs.Answers.{answer_of};
+ghost use Rattle.adapter.specs.Refusals.{wrong_argument, wrong_body};
+ghost use Rattle.adapter.specs.Calls.{outcome, recorded, done};
+ghost use Rattle.adapter.specs.Inner.{event_of, Fits, room_for};
 
-use crate::Answer;
+use crate::NoFrame;
 use channels::groups::Group;
-use chip::{Response, events};
+use chip::{Frame, Response, events};
 use commands::command::Control;
+use link::Link;
+use numbers::{BODY_LEAST, BODY_MOST, I2C_MOST, TRANSFER_BYTES};
 use state::{BYTES, LINK};
 
-// The link after an event, over the state's, and what the chip gives besides.
-fn leave(state: &mut [u8], r: Response) -> Answer
-    requires { link_bytes ≤ length state.old }
-    ensures { (result ≡ shown r) × (state.new ≡ put 0 (link_image r.link) state.old) }
+// The first and the last I2C channel.
+const FIRST_MASTER: u32 = 0x03;
+
+const LAST_MASTER: u32 = 0x12;
+
+// What a caller says has happened. Its port, channel or edge kind may be none.
+#[derive(Clone, Copy)]
+pub(crate) enum Event<'a> {
+    Frame {
+        port: u32,
+        body: &'a [u8],
+    },
+    Spi {
+        received: &'a [u8],
+    },
+    I2c {
+        channel: u32,
+        acknowledge: bool,
+        low: bool,
+        received: &'a [u8],
+    },
+    Sample {
+        levels: u32,
+        kind: u32,
+    },
+    Upset,
+}
+
+impl Event<'_> {
+    // Port not 0 or 1, edge kind over 2, or a wrong completion.
+    pub(crate) fn has_wrong_argument(self) -> bool
+        ensures { result ≡ wrong_argument (event_of self.entry) }
+    {
+        match self {
+            Event::Frame { port, .. } => 1 < port,
+            Event::Spi { received } => received.len() != TRANSFER_BYTES,
+            Event::I2c {
+                channel,
+                received,
+                ..
+            } => {
+                let named = (FIRST_MASTER <= channel) & (channel <= LAST_MASTER);
+                !named | (I2C_MOST < received.len())
+            }
+            Event::Sample { kind, .. } => 2 < kind,
+            Event::Upset => false,
+        }
+    }
+
+    // Body not 2 to 16 bytes.
+    pub(crate) fn has_wrong_body(self) -> bool
+        ensures { result ≡ wrong_body (event_of self.entry) }
+    {
+        match self {
+            Event::Frame { body, .. } => (body.len() < BODY_LEAST) | (BODY_MOST < body.len()),
+            _ => false,
+        }
+    }
+
+    // An accepted RESET, which leaves no record.
+    fn resets(self) -> bool
+        requires { Fits (event_of self) }
+        ensures { result ≡ accepted_reset (event_of self.entry) }
+    {
+        match self {
+            Event::Frame { body, .. } => events::is_reset(body),
+            _ => false,
+        }
+    }
+
+    // What it may change besides the core.
+    fn group(self) -> Group
+        requires { Fits (event_of self) }
+        ensures { result ≡ group_of (event_of self.entry) }
+    {
+        match self {
+            Event::Frame { body, .. } => events::group_of(body),
+            Event::I2c { channel, .. } => events::group_of_i2c(channel as u8),
+            Event::Spi { .. } | Event::Sample { .. } => Group::Switched(Control::B),
+            Event::Upset => Group::Nothing,
+        }
+    }
+}
+
+// The chip's answer to an event, on the link and the registers where they stand.
+#[inline(always)]
+fn react(link: Link, registers: &mut [u8], event: Event, output: &mut [u8]) -> Response
+    requires registers_len { length registers.old ≡ size }
+    requires fits { Fits (event_of event) }
+    requires room { room_for (event_of event) ≤ length output.old }
+    ensures { said result registers.new output.new ≡ says (reaction (adapter link registers.old) (event_of event.entry)) output.old }
 {
-    let link = r.link;
-    state::store_link(state, link);
-    Answer {
-        number: r.number,
-        port: r.port,
-        length: r.length,
+    match event {
+        Event::Frame { port, body } => {
+            events::on_frame(link, registers, port as u8, body, output)
+        }
+        Event::Spi { received } => events::on_spi(link, registers, received, output),
+        Event::I2c {
+            channel,
+            acknowledge,
+            low,
+            received,
+        } => events::on_i2c(
+            link,
+            registers,
+            channel as u8,
+            acknowledge,
+            low,
+            received,
+            output,
+        ),
+        Event::Sample { levels, kind } => {
+            events::on_sample(link, registers, levels, kind as u8, output)
+        }
+        Event::Upset => events::on_upset(link, registers),
     }
 }
 
 // The record of an event that happens to a state joins the journal; an accepted RESET empties it.
-fn record_event(journal: &mut [u8], state: &[u8], group: Group, resets: bool)
+#[tactic(auto, using(journal::proofs::Ring::size_in), unfolding(journal::specs::Record::before))]
+#[inline(always)]
+fn record_event(journal: &mut [u8], state: &[u8], event: Event)
     requires journal_value { well_formed journal.old ≡ true }
     requires state_len { length state.now ≡ state_size }
-    ensures { journal.new ≡ joined resets (kept_for group state.now) journal.old }
+    requires fits { Fits (event_of event) }
+    ensures { journal.new ≡ recorded state.now (event_of event.entry) journal.old }
 {
-    if resets {
+    if event.resets() {
         journal::empty(journal);
     } else {
-        journal::keep(journal, state, group);
+        journal::keep(journal, state, event.group());
     }
 }
 
-fn frame_happens(state: &mut [u8], port: u8, body: &[u8], output: &mut [u8]) -> Answer
-    requires state_len { length state.old ≡ state_size }
-    requires body_least_in_bounds { (body_least ≤ length body.now) × (length body.now ≤ body_most) }
-    requires output_least_in_bounds { output_least ≤ length output.old }
-    ensures { (journal : List ℕ) → outcome result state.new journal output.new ≡ happened state.old (Event.frame port body.now) output.old journal }
-{
-    let link = state::link_of(state);
-    let r = events::on_frame(link, &mut state[LINK..BYTES], port, body, output);
-    leave(state, r)
-}
-
-fn upset_happens(state: &mut [u8]) -> Answer
-    requires { length state.old ≡ state_size }
-    ensures { (journal output : List ℕ) → outcome result state.new journal output ≡ happened state.old Event.upset output journal }
-{
-    let link = state::link_of(state);
-    let r = events::on_upset(link, &mut state[LINK..BYTES]);
-    leave(state, r)
-}
-
-fn completion_happens(state: &mut [u8], received: &[u8], output: &mut [u8]) -> Answer
-    requires state_len { length state.old ≡ state_size }
-    requires received_len { length received.now ≡ transfer_bytes }
-    requires output_least_in_bounds { output_least ≤ length output.old }
-    ensures { (journal : List ℕ) → outcome result state.new journal output.new ≡ happened state.old (Event.completion (Completion.spi received.now)) output.old journal }
-{
-    let link = state::link_of(state);
-    let r = events::on_spi(link, &mut state[LINK..BYTES], received, output);
-    leave(state, r)
-}
-
-fn i2c_happens(
-    state: &mut [u8],
-    channel: u8,
-    acknowledge: bool,
-    low: bool,
-    received: &[u8],
-    output: &mut [u8],
-) -> Answer
-    requires state_len { length state.old ≡ state_size }
-    requires first_master_le_channel { first_master ≤ channel }
-    requires output_least_in_bounds { output_least ≤ length output.old }
-    ensures { (journal : List ℕ) → outcome result state.new journal output.new ≡ happened state.old (Event.completion (Completion.i2c channel acknowledge low received.now)) output.old journal }
-{
-    let link = state::link_of(state);
-    let r = events::on_i2c(
-        link,
-        &mut state[LINK..BYTES],
-        channel,
-        acknowledge,
-        low,
-        received,
-        output,
-    );
-    leave(state, r)
-}
-
-fn sample_happens(state: &mut [u8], levels: u32, kind: u8, output: &mut [u8]) -> Answer
-    requires state_len { length state.old ≡ state_size }
-    requires reply_bytes_in_bounds { reply_bytes ≤ length output.old }
-    ensures { (journal : List ℕ) → outcome result state.new journal output.new ≡ happened state.old (Event.sample levels kind) output.old journal }
-{
-    let link = state::link_of(state);
-    let r = events::on_sample(link, &mut state[LINK..BYTES], levels, kind, output);
-    leave(state, r)
-}
-
-// A frame body on a port.
-pub(crate) fn frame(
+// An event that nothing refuses: its record, its answer, and the link that the chip gives back.
+#[inline(always)]
+pub(crate) fn happen(
     state: &mut [u8],
     journal: &mut [u8],
-    port: u8,
-    body: &[u8],
+    event: Event,
     output: &mut [u8],
-) -> Answer
-    requires journal_value { (well_formed journal.old ≡ true) × (length state.old ≡ state_size) }
-    requires body_least_in_bounds { (body_least ≤ length body.now) × (length body.now ≤ body_most) }
-    requires output_least_in_bounds { output_least ≤ length output.old }
-    ensures { outcome result state.new journal.new output.new ≡ done state.old journal.old (Event.frame port body.now) output.old }
+) -> Result<Frame, NoFrame>
+    requires lent { (well_formed journal.old ≡ true) × (length state.old ≡ state_size) }
+    requires fits { Fits (event_of event) }
+    requires room { room_for (event_of event) ≤ length output.old }
+    ensures { outcome (answer_of result) state.new journal.new output.new ≡ done state.old journal.old (event_of event.entry) output.old }
 {
-    record_event(
-        journal,
-        state,
-        events::group_of(body),
-        events::is_reset(body),
-    );
-    frame_happens(state, port, body, output)
-}
-
-// An upset: of the core alone.
-pub(crate) fn upset(state: &mut [u8], journal: &mut [u8]) -> Answer
-    requires { (well_formed journal.old ≡ true) × (length state.old ≡ state_size) }
-    ensures { (output : List ℕ) → outcome result state.new journal.new output ≡ done state.old journal.old Event.upset output }
-{
-    record_event(journal, state, Group::Nothing, false);
-    upset_happens(state)
-}
-
-// An SPI completion.
-pub(crate) fn completion(
-    state: &mut [u8],
-    journal: &mut [u8],
-    received: &[u8],
-    output: &mut [u8],
-) -> Answer
-    requires journal_value { (well_formed journal.old ≡ true) × (length state.old ≡ state_size) }
-    requires received_len { length received.now ≡ transfer_bytes }
-    requires output_least_in_bounds { output_least ≤ length output.old }
-    ensures { outcome result state.new journal.new output.new ≡ done state.old journal.old (Event.completion (Completion.spi received.now)) output.old }
-{
-    record_event(journal, state, Group::Switched(Control::B), false);
-    completion_happens(state, received, output)
-}
-
-// The completion of one named I2C channel.
-pub(crate) fn i2c_completion(
-    state: &mut [u8],
-    journal: &mut [u8],
-    channel: u8,
-    acknowledge: bool,
-    low: bool,
-    received: &[u8],
-    output: &mut [u8],
-) -> Answer
-    requires journal_value { (well_formed journal.old ≡ true) × (length state.old ≡ state_size) }
-    requires first_master_le_channel { first_master ≤ channel }
-    requires output_least_in_bounds { output_least ≤ length output.old }
-    ensures { outcome result state.new journal.new output.new ≡ done state.old journal.old (Event.completion (Completion.i2c channel acknowledge low received.now)) output.old }
-{
-    record_event(journal, state, events::group_of_i2c(channel), false);
-    i2c_happens(state, channel, acknowledge, low, received, output)
+    record_event(journal, state, event);
+    let link = state::link_of(state);
+    let response = react(link, &mut state[LINK..BYTES], event, output);
+    state::store_link(state, response.link);
+    Ok(response.answer?)
 }
 
 // A pin sample, in an output with room for an interrupt.
@@ -183,11 +184,11 @@ pub fn sample(
     levels: u32,
     kind: u8,
     output: &mut [u8],
-) -> Answer
+) -> Result<Frame, NoFrame>
     requires journal_value { (well_formed journal.old ≡ true) × (length state.old ≡ state_size) }
     requires reply_bytes_in_bounds { reply_bytes ≤ length output.old }
-    ensures { outcome result state.new journal.new output.new ≡ done state.old journal.old (Event.sample levels kind) output.old }
+    ensures { outcome (answer_of result) state.new journal.new output.new ≡ done state.old journal.old (chip.Event.sample levels kind) output.old }
 {
-    record_event(journal, state, Group::Switched(Control::B), false);
-    sample_happens(state, levels, kind, output)
+    let kind = u32::from(kind);
+    happen(state, journal, Event::Sample { levels, kind }, output)
 }

@@ -4,140 +4,157 @@
 
 pub mod events;
 
-ghost use Rattle.std.specs.Prelude.{◌≡◌, true, not, cond, ◌<◌, ltb, length};
+ghost use Rattle.std.specs.Prelude.{◌≡◌, not};
 ghost use Rattle.chip.specs.Event.{Completion, Event};
-ghost use Rattle.state.specs.Bytes.{state_size, is_state};
-ghost use Rattle.numbers.specs.Numbers.{no_frame, bad_journal, output_least};
-ghost use Rattle.journal.specs.Layout.{kept_of, well_formed, past, lowered};
-ghost use Rattle.journal.specs.Record.{restored, sound};
+ghost use Rattle.state.specs.Bytes.{is_state};
+ghost use Rattle.journal.specs.Layout.{well_formed};
+ghost use Rattle.adapter.specs.declared.NoFrame.TheVariants.{Refused, Silent};
+ghost use Rattle.adapter.specs.Answers.{no_frame_number, answer_of, number_after, kept_number, verdict_of};
+ghost use Rattle.adapter.specs.Inner.{event_of};
 ghost use Rattle.adapter.specs.Refusals.{in_order};
-ghost use Rattle.adapter.specs.Calls.{made, created, made_empty, kept_in, copied, made_large, outcome, plain, called, stepped, stepped_back};
+ghost use Rattle.adapter.specs.Calls.{made, created, made_empty, kept_in, copied, made_large, outcome, called, stepped, stepped_back};
 
-use numbers::{
-    BAD_ARGUMENT, BAD_BODY, BAD_ID, BAD_JOURNAL, BAD_STATE, BODY_LEAST, BODY_MOST, I2C_MOST,
-    ID_MOST, NO_FRAME, NONE_KEPT, OUTPUT_LEAST, SHORT_OUTPUT, TRANSFER_BYTES,
-};
+use chip::Frame;
+use numbers::{ID_MOST, OUTPUT_LEAST, Refusal, Silence};
 use state::{BYTES, LINK};
 
-// An event's answer: document 01's number, and with number 0 the port and the length of the frame in the output.
-#[derive(Clone, Copy)]
-pub struct Answer {
-    pub number: u8,
-    pub port: u8,
-    pub length: u8,
+// Why a call sends no frame: it is refused, or what it did sends none.
+#[derive(Clone, Copy, Debug, PartialEq, Eq)]
+pub enum NoFrame {
+    Refused(Refusal),
+    Silent(Silence),
 }
 
-// How many events can be taken back.
-#[derive(Clone, Copy)]
-pub struct KeptNumber {
-    pub number: u8,
-    pub kept: u8,
+impl From<Refusal> for NoFrame {
+    ghost from_gives = { λ r e. e ≡ Refused r };
+
+    fn from(refusal: Refusal) -> NoFrame {
+        NoFrame::Refused(refusal)
+    }
 }
 
-// Whether a call is refused, and by which number.
-#[derive(Clone, Copy)]
-pub enum Verdict {
-    Refused(u8),
-    Passed,
+impl From<Silence> for NoFrame {
+    ghost from_gives = { λ s e. e ≡ Silent s };
+
+    fn from(silence: Silence) -> NoFrame {
+        NoFrame::Silent(silence)
+    }
+}
+
+impl From<NoFrame> for u8 {
+    ghost from_gives = { λ e n. n ≡ no_frame_number e };
+
+    fn from(why: NoFrame) -> u8 {
+        match why {
+            NoFrame::Refused(refusal) => refusal.into(),
+            NoFrame::Silent(silence) => silence.into(),
+        }
+    }
 }
 
 // A new adapter for a chip of this ID, in a state's bytes.
-pub fn create(state: &mut [u8], id: u32) -> u8
-    ensures { made result state.new ≡ created state.old id }
+#[tactic(auto, unfolding(crate::specs::Calls::created))]
+pub fn create(state: &mut [u8], id: u32) -> Result<(), Refusal>
+    ensures { made (number_after result) state.new ≡ created state.old id }
 {
     if state.len() != BYTES {
-        return BAD_STATE;
+        return Err(Refusal::BadState);
     }
     if ID_MOST < id {
-        return BAD_ID;
+        return Err(Refusal::BadId);
     }
     state::power_on(&mut state[LINK..BYTES], id);
     state::store_link(state, link::fresh(0));
-    NO_FRAME
+    Ok(())
 }
 
 // Makes a journal empty, whatever it held.
-pub fn empty(journal: &mut [u8]) -> u8
-    ensures { made result journal.new ≡ made_empty journal.old }
+#[tactic(auto, unfolding(crate::specs::Calls::made_empty))]
+pub fn empty(journal: &mut [u8]) -> Result<(), Refusal>
+    ensures { made (number_after result) journal.new ≡ made_empty journal.old }
 {
     if journal::is_wrong_length(journal) {
-        return BAD_JOURNAL;
+        return Err(Refusal::BadJournal);
     }
     journal::empty(journal);
-    NO_FRAME
+    Ok(())
 }
 
 // How many events a journal can take back.
-pub fn kept(journal: &[u8]) -> KeptNumber
-    ensures { result ≡ kept_in journal.now }
+#[tactic(auto, using(crate::proofs::Cases::has_kept), unfolding(crate::specs::Calls::kept_in))]
+pub fn kept(journal: &[u8]) -> Result<u8, Refusal>
+    ensures { kept_number result ≡ kept_in journal.now }
 {
     if journal::is_well_formed(journal) {
-        return KeptNumber {
-            number: NO_FRAME,
-            kept: journal[journal::KEPT],
-        };
+        return Ok(journal[journal::KEPT]);
     }
-    KeptNumber {
-        number: BAD_JOURNAL,
-        kept: 0,
-    }
+    Err(Refusal::BadJournal)
 }
 
 // Makes a second buffer a large journal that takes back what this small one does.
-pub fn enlarge(journal: &[u8], second: &mut [u8]) -> u8
-    ensures { copied result journal.now second.new ≡ made_large journal.now second.old }
+#[tactic(auto, using(journal::proofs::Enlarged::small_well, journal::proofs::Enlarged::large_size, journal::proofs::Enlarged::large_room), unfolding(crate::specs::Calls::made_large))]
+pub fn enlarge(journal: &[u8], second: &mut [u8]) -> Result<(), Refusal>
+    ensures { copied (number_after result) journal.now second.new ≡ made_large journal.now second.old }
 {
     if !journal::is_small(journal) {
-        return BAD_JOURNAL;
+        return Err(Refusal::BadJournal);
     }
     if second.len() != journal::LARGE {
-        return SHORT_OUTPUT;
+        return Err(Refusal::ShortOutput);
     }
     journal::enlarge(journal, second);
-    NO_FRAME
+    Ok(())
 }
 
-// The first refusal that applies, in document 01's order.
-fn in_order(state: bool, journal: bool, output: bool, argument: bool, body: bool) -> Verdict
-    ensures { result ≡ in_order state journal output argument body }
+// The first refusal, in document 01's order, of a call that is handed this state and journal, and of which is known whether its output is too short,
+// and whether an argument or the body is wrong.
+#[tactic(auto, unfolding(crate::specs::Refusals::in_order))]
+pub fn judge(
+    state: &[u8],
+    journal: &[u8],
+    short: bool,
+    argument: bool,
+    body: bool,
+) -> Result<(), Refusal>
+    ensures { verdict_of result ≡ in_order (not (is_state state.now)) (not (well_formed journal.now)) short argument body }
 {
-    if state {
-        return Verdict::Refused(BAD_STATE);
+    if !state::is_state(state) {
+        return Err(Refusal::BadState);
     }
-    if journal {
-        return Verdict::Refused(BAD_JOURNAL);
+    if !journal::is_well_formed(journal) {
+        return Err(Refusal::BadJournal);
     }
-    if output {
-        return Verdict::Refused(SHORT_OUTPUT);
+    if short {
+        return Err(Refusal::ShortOutput);
     }
     if argument {
-        return Verdict::Refused(BAD_ARGUMENT);
+        return Err(Refusal::BadArgument);
     }
     if body {
-        return Verdict::Refused(BAD_BODY);
+        return Err(Refusal::BadBody);
     }
-    Verdict::Passed
+    Ok(())
 }
 
-// The first refusal of a call that is handed this state and journal, and of which is known whether its output is too short, and whether an argument or
-// the body is wrong.
-pub fn judge(state: &[u8], journal: &[u8], short: bool, argument: bool, body: bool) -> Verdict
-    ensures { result ≡ in_order (not (is_state state.now)) (not (well_formed journal.now)) short argument body }
+// An event happens, unless something refuses it. It is inlined into each call, and so is what it comes to: there the kind of event is known.
+#[tactic(auto, using(crate::proofs::Cases::passed), unfolding(crate::specs::Calls::called, crate::specs::Refusals::verdict))]
+#[inline(always)]
+fn call(
+    state: &mut [u8],
+    journal: &mut [u8],
+    event: events::Event,
+    output: &mut [u8],
+) -> Result<Frame, NoFrame>
+    ensures { outcome (answer_of result) state.new journal.new output.new ≡ called state.old journal.old (event_of event.entry) output.old }
 {
-    let spelled = state::is_state(state);
-    let formed = journal::is_well_formed(journal);
-    in_order(!spelled, !formed, short, argument, body)
-}
-
-// A number with no frame.
-pub fn alone(number: u8) -> Answer
-    ensures { result ≡ plain number }
-{
-    Answer {
-        number: number,
-        port: 0,
-        length: 0,
-    }
+    judge(
+        state,
+        journal,
+        output.len() < OUTPUT_LEAST,
+        event.has_wrong_argument(),
+        event.has_wrong_body(),
+    )?;
+    events::happen(state, journal, event, output)
 }
 
 // A frame body on a port.
@@ -147,32 +164,17 @@ pub fn frame(
     port: u32,
     body: &[u8],
     output: &mut [u8],
-) -> Answer
-    ensures { outcome result state.new journal.new output.new ≡ called state.old journal.old (Event.frame port body.now) output.old }
+) -> Result<Frame, NoFrame>
+    ensures { outcome (answer_of result) state.new journal.new output.new ≡ called state.old journal.old (Event.frame port body.now) output.old }
 {
-    let count = body.len();
-    let verdict = judge(
-        state,
-        journal,
-        output.len() < OUTPUT_LEAST,
-        1 < port,
-        (count < BODY_LEAST) | (BODY_MOST < count),
-    );
-    match verdict {
-        Verdict::Refused(number) => alone(number),
-        Verdict::Passed => events::frame(state, journal, port as u8, body, output),
-    }
+    call(state, journal, events::Event::Frame { port, body }, output)
 }
 
 // An upset.
-pub fn upset(state: &mut [u8], journal: &mut [u8], output: &mut [u8]) -> Answer
-    ensures { outcome result state.new journal.new output.new ≡ called state.old journal.old Event.upset output.old }
+pub fn upset(state: &mut [u8], journal: &mut [u8], output: &mut [u8]) -> Result<Frame, NoFrame>
+    ensures { outcome (answer_of result) state.new journal.new output.new ≡ called state.old journal.old Event.upset output.old }
 {
-    let verdict = judge(state, journal, output.len() < OUTPUT_LEAST, false, false);
-    match verdict {
-        Verdict::Refused(number) => alone(number),
-        Verdict::Passed => events::upset(state, journal),
-    }
+    call(state, journal, events::Event::Upset, output)
 }
 
 // An SPI completion.
@@ -181,26 +183,11 @@ pub fn completion(
     journal: &mut [u8],
     received: &[u8],
     output: &mut [u8],
-) -> Answer
-    ensures { outcome result state.new journal.new output.new ≡ called state.old journal.old (Event.completion (Completion.spi received.now)) output.old }
+) -> Result<Frame, NoFrame>
+    ensures { outcome (answer_of result) state.new journal.new output.new ≡ called state.old journal.old (Event.completion (Completion.spi received.now)) output.old }
 {
-    let verdict = judge(
-        state,
-        journal,
-        output.len() < OUTPUT_LEAST,
-        received.len() != TRANSFER_BYTES,
-        false,
-    );
-    match verdict {
-        Verdict::Refused(number) => alone(number),
-        Verdict::Passed => events::completion(state, journal, received, output),
-    }
+    call(state, journal, events::Event::Spi { received }, output)
 }
-
-// The first and the last I2C channel.
-const FIRST_MASTER: u32 = 0x03;
-
-const LAST_MASTER: u32 = 0x12;
 
 // The completion of one named I2C channel, with an acknowledge bit, a line-low bit and up to 16 bytes.
 pub fn i2c_completion(
@@ -211,29 +198,16 @@ pub fn i2c_completion(
     low: bool,
     received: &[u8],
     output: &mut [u8],
-) -> Answer
-    ensures { outcome result state.new journal.new output.new ≡ called state.old journal.old (Event.completion (Completion.i2c channel acknowledge low received.now)) output.old }
+) -> Result<Frame, NoFrame>
+    ensures { outcome (answer_of result) state.new journal.new output.new ≡ called state.old journal.old (Event.completion (Completion.i2c channel acknowledge low received.now)) output.old }
 {
-    let named = (FIRST_MASTER <= channel) & (channel <= LAST_MASTER);
-    let verdict = judge(
-        state,
-        journal,
-        output.len() < OUTPUT_LEAST,
-        !named | (I2C_MOST < received.len()),
-        false,
-    );
-    match verdict {
-        Verdict::Refused(number) => alone(number),
-        Verdict::Passed => events::i2c_completion(
-            state,
-            journal,
-            channel as u8,
-            acknowledge,
-            low,
-            received,
-            output,
-        ),
-    }
+    let event = events::Event::I2c {
+        channel,
+        acknowledge,
+        low,
+        received,
+    };
+    call(state, journal, event, output)
 }
 
 // A pin sample.
@@ -243,42 +217,29 @@ pub fn sample(
     levels: u32,
     kind: u32,
     output: &mut [u8],
-) -> Answer
-    ensures { outcome result state.new journal.new output.new ≡ called state.old journal.old (Event.sample levels kind) output.old }
+) -> Result<Frame, NoFrame>
+    ensures { outcome (answer_of result) state.new journal.new output.new ≡ called state.old journal.old (Event.sample levels kind) output.old }
 {
-    let verdict = judge(state, journal, output.len() < OUTPUT_LEAST, 2 < kind, false);
-    match verdict {
-        Verdict::Refused(number) => alone(number),
-        Verdict::Passed => events::sample(state, journal, levels, kind as u8, output),
-    }
+    call(
+        state,
+        journal,
+        events::Event::Sample { levels, kind },
+        output,
+    )
 }
 
-// Takes the newest record back, unless it is damaged.
-fn take_back(state: &mut [u8], journal: &mut [u8]) -> u8
-    requires state_len { length state.old ≡ state_size }
-    requires journal_value { well_formed journal.old ≡ true }
-    requires journal_nonzero { 0 < kept_of journal.old }
-    ensures { stepped result state.new journal.new ≡ cond (sound state.old (past journal.old 0)) (stepped no_frame (restored state.old (past journal.old 0)) (lowered journal.old)) (stepped bad_journal state.old journal.old) }
+// Takes the newest standing event back, unless its record is damaged.
+#[tactic(auto, using(crate::proofs::Cases::has_kept, state::proofs::Spelling::its_length), unfolding(crate::specs::Calls::stepped_back, crate::specs::Refusals::back_verdict, crate::specs::Refusals::in_order))]
+pub fn step_back(state: &mut [u8], journal: &mut [u8]) -> Result<(), Refusal>
+    ensures { stepped (number_after result) state.new journal.new ≡ stepped_back state.old journal.old }
 {
-    if journal::restore(journal, state) {
-        journal::lower(journal);
-        return NO_FRAME;
-    }
-    BAD_JOURNAL
-}
-
-// Takes the newest standing event back.
-pub fn step_back(state: &mut [u8], journal: &mut [u8]) -> u8
-    ensures { stepped result state.new journal.new ≡ stepped_back state.old journal.old }
-{
-    if !state::is_state(state) {
-        return BAD_STATE;
-    }
-    if !journal::is_well_formed(journal) {
-        return BAD_JOURNAL;
-    }
+    judge(state, journal, false, false, false)?;
     if journal[journal::KEPT] == 0 {
-        return NONE_KEPT;
+        return Err(Refusal::NoneKept);
     }
-    take_back(state, journal)
+    if !journal::restore(journal, state) {
+        return Err(Refusal::BadJournal);
+    }
+    journal::lower(journal);
+    Ok(())
 }

@@ -4,7 +4,7 @@ use Rattle.std.specs.Prelude.{ℕ, ◌+◌, List, [], ◌∷◌, length}
 use Rattle.numbers.specs.Numbers.{has_frame, body_most}
 use Rattle.parts.specs.Parts.{put}
 use Rattle.state.specs.State.{Adapter}
-use Rattle.chip.specs.declared.Response.{Response}
+use Rattle.link.specs.declared.Link.{Link}
 
 pub record Reaction : Type 0 where
   pub adapter : Adapter
@@ -28,6 +28,13 @@ gives a n = record { adapter = a; number = n; port = 0; frames = [] }
 abbrev pub front_length : List (List ℕ) → ℕ
 front_length [] = 0
 front_length (body ∷ more) = length body
+
+-- the link, the number, and the frame's port and length
+pub record Response : Type 0 where
+  pub link : Link
+  pub number : ℕ
+  pub port : ℕ
+  pub length : ℕ
 
 -- An event's answer 0 comes with port and length, any other with both 0.
 abbrev pub response : Reaction → Response

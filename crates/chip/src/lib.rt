@@ -2,17 +2,23 @@
 #![tactic(auto)]
 
 mod answer;
+mod checks;
 pub mod events;
-mod frame;
 mod request;
 
 use link::Link;
+use numbers::Silence;
 
-// What a call gives: the link after it, document 01's number, and with number 0 the port and the length of the frame in the output.
+// A frame that stands in the output: the port that it leaves on, and its bytes.
+#[derive(Clone, Copy, Debug, PartialEq, Eq)]
+pub struct Frame {
+    pub port: u8,
+    pub length: u8,
+}
+
+// What a call gives: the link after it, and the frame in the output, or why there is none.
 #[derive(Clone, Copy)]
 pub struct Response {
     pub link: Link,
-    pub number: u8,
-    pub port: u8,
-    pub length: u8,
+    pub answer: Result<Frame, Silence>,
 }
