@@ -12,6 +12,7 @@ use lib.Bits.{bit_and, bit_or, and_zero_l, and_mask}
 use lib.Dec.{eqb, leb, ltb, lit≤, lit<}
 use lib.ListN.{length, replicate}
 use lib.Pow.{pow-add, pow_pos, pow-lt, shr-shr}
+use Rattle.std.specs.Prelude.{Option, Some, None, option_and_then, Result, Ok, Err}
 use Rattle.bits.specs.Bits.{bit_of}
 use Rattle.bits.proofs.Bits.{bit_test}
 use Rattle.bits.proofs.Tests.{and_left, and_right, and_assoc, both, cond_cases, or_second}
@@ -22,7 +23,6 @@ use Rattle.parts.proofs.Digits.{length_digits}
 use Rattle.commands.specs.declared.channel.Channel.{Channel}
 use Rattle.commands.specs.declared.channel.Channel.TheVariants as channel
 use Rattle.commands.specs.declared.command.Command.{Command}
-use Rattle.commands.specs.declared.command.Command.TheVariants.{Known, Unknown}
 use Rattle.commands.specs.declared.command.Does.{Does}
 use Rattle.commands.specs.declared.command.Control.{Control}
 use Rattle.commands.specs.declared.command.Control.TheVariants.{B, C, D}
@@ -30,14 +30,15 @@ use Rattle.commands.specs.declared.command.Does.TheVariants.{Write, Switch, Read
 use Rattle.commands.specs.Field.{Field}
 use Rattle.commands.specs.Field.{Ctrl, Status, Open, Data0, Data1, Data2, Data3, master}
 use Rattle.commands.specs.declared.command.Transaction.{Transaction}
-use Rattle.commands.specs.declared.command.Lengths.{Lengths}
 use Rattle.commands.specs.declared.command.Register.{Register}
 use Rattle.commands.specs.declared.command.Register.TheVariants.{Crb, Crc, Crd, ChipId, SpiGo, SpiData0, SpiData1, SpiData2, SpiData3, Datain, Ints, Intenable, Seu}
+use Rattle.commands.specs.declared.request.Fault.{Fault}
+use Rattle.commands.specs.declared.request.Fault.TheVariants.{TrnWrong, ChUnknown, NotEnabled, Busy, CmdUnknown, LenWrong}
 use Rattle.commands.specs.declared.request.Reply.{Reply}
-use Rattle.commands.specs.declared.request.Reply.TheVariants.{Sent, Later}
 use Rattle.commands.specs.declared.request.Request.{Request}
-use Rattle.commands.specs.Channels.{channel_of, command_of}
-use Rattle.commands.specs.Request.{no_transaction, interrupt_transaction, trn_wrong, ch_unknown, not_enabled, busy, cmd_unknown, len_wrong}
+use Rattle.commands.specs.Channels.{channel_of, command_of, command_at}
+use Rattle.commands.specs.Command.{lengths, known}
+use Rattle.commands.specs.Request.{no_transaction, interrupt_transaction, fault_bit, trn_wrong, ch_unknown, not_enabled, busy, cmd_unknown, len_wrong, granted}
 use Rattle.registers.specs.Registers as registers
 use Rattle.registers.specs.Registers.{size, bank, read, store, written, zeroed, are_zero, is_within, four_within, each, each_master, within}
 use Rattle.registers.proofs.Rows.{place, wide, end, apart, bank_from, bank_to, or_any, is_open, open_apart, bank_at, one_number}
@@ -46,25 +47,18 @@ use Rattle.registers.proofs.Laws.{zeroed_zero, read_zero, zero_bytes, each_throu
 use Rattle.registers.specs.Pins.{datain_after, firing_lines, interrupts, sampled}
 use Rattle.registers.specs.Transfer.{with_data, completed}
 use Rattle.registers.specs.Transaction.{allows, success, status_after, filled_word, filled, fills_data, ended}
-use Rattle.channels.specs.Rows.{master_control, master_bit, master_group, row_of, register_of, dropping, all_dropping, is_on, is_at_work, is_known, is_enabled, is_busy, held, held_all, settled, still_held, are_held, all_held}
+use Rattle.channels.specs.Rows.{by_bit, master_control, master_bit, master_group, row_of, register_of, dropping, all_dropping, is_on, is_at_work, is_enabled, is_busy, held, held_all, settled, still_held, are_held, all_held}
 use Rattle.channels.proofs.Owners.{first, many, last, is_own, switches, switched_by, busy_by, own_inside, switched_by_lem, busy_by_lem}
 use Rattle.channels.proofs.Owners.{Twin, one_or_apart, canonical_number, below_16, own_first, own_last, apart_own, touches, changes, proper, commands_proper}
-use Rattle.channels.proofs.Owners.{lone, lone_again, IsMaster, lone_or_master, only_controller, spares, is_number, the_number, field_own, field_grouped}
-use Rattle.channels.proofs.Owners.{begins, ends, grouped, behind_core, is_by, dropped_by, all, all_dropped, Dropper, dropper, control_front, one_control}
+use Rattle.channels.proofs.Owners.{lone, lone_again, IsMaster, lone_or_master, only_controller, spares, the_number, field_own, field_grouped}
+use Rattle.channels.proofs.Owners.{begins, ends, grouped, behind_core, is_control, is_by, dropped_by, all, all_dropped, Dropper, dropper, control_front, one_control}
 pub use Rattle.channels.proofs.Owners.{Own, controls_own}
 use Rattle.channels.specs.Groups.{core_size, span_of, by_does, by_command, group_for}
-use Rattle.channels.specs.Errors.{can_move, of_command, decoded}
+use Rattle.channels.specs.Errors.{can_move, of_command, of_channel, decoded}
 use Rattle.channels.specs.Starts.{is_start, open_sound, opens_sound, sound_registers}
 use Rattle.channels.specs.Inner.{master_sound, none_on, Enables}
 use Rattle.channels.specs.Perform.{told, left, with_invcom, marked, reply_to, left_by, replied, performed}
-use Rattle.channels.specs.declared.groups.Group.{Group}
-use Rattle.channels.specs.declared.groups.Group.TheVariants.{Nothing, Switched}
-use Rattle.channels.specs.declared.rows.Busy.{Busy}
-use Rattle.channels.specs.declared.rows.Busy.TheVariants as busy-variants
 use Rattle.channels.specs.declared.rows.Switch.{Switch as RowSwitch}
-use Rattle.channels.specs.declared.rows.Switch.TheVariants.{Always, Never, Bit}
-use Rattle.channels.specs.declared.errors.Decoded.{Decoded}
-use Rattle.channels.specs.declared.errors.Decoded.TheVariants.{Wrong, Right}
 
 -- ---- what a request is decoded into
 
@@ -74,22 +68,37 @@ pub record ErrorBit (e : ℕ) : Type 0 where
 
 -- what the tables and the rows say of a request that has no error
 pub record Granted (rs : List ℕ) (q : Request) (given : ℕ) (does : Does) : Type 0 where
-  pub enabled : is_enabled rs (channel_of q.ch) ≡ true
-  pub idle : is_busy rs (channel_of q.ch) ≡ false
+  pub which : Channel
+  pub named : channel_of q.ch ≡ Some which
+  pub enabled : is_enabled rs which ≡ true
+  pub idle : is_busy rs which ≡ false
   pub transaction : (eqb q.trn no_transaction || eqb q.trn interrupt_transaction) ≡ false
-  pub known : is_known (channel_of q.ch) ≡ true
-  pub command : command_of (channel_of q.ch) q.cmd ≡ Known (record { asked = q.len; given = given }) does
+  pub command : command_of which q.cmd ≡ known (lengths q.len given) does
   pub moved : can_move rs does ≡ true
   pub byte : given < 256
-  pub own : touches (channel_of q.ch) does ≡ true
-  pub changed : changes (row_of (channel_of q.ch)).group does ≡ true
+  pub own : touches which does ≡ true
+  pub changed : changes (row_of which).group does ≡ true
+
+-- what they say of one with a command that its channel does not know: it is enabled and idle
+pub record Unlisted (rs : List ℕ) (q : Request) : Type 0 where
+  pub which : Channel
+  pub named : channel_of q.ch ≡ Some which
+  pub enabled : is_enabled rs which ≡ true
+  pub idle : is_busy rs which ≡ false
+  pub unknown : command_of which q.cmd ≡ None
 
 -- what they say of one that has an error: 0x04 comes of an enabled, idle channel alone
 pub record Refused (rs : List ℕ) (q : Request) (e : ℕ) : Type 0 where
   pub bit : ErrorBit e
-  pub enabled : e ≡ cmd_unknown → is_enabled rs (channel_of q.ch) ≡ true
-  pub idle : e ≡ cmd_unknown → is_busy rs (channel_of q.ch) ≡ false
-  pub unknown : e ≡ cmd_unknown → command_of (channel_of q.ch) q.cmd ≡ Unknown
+  pub unlisted : e ≡ cmd_unknown → Unlisted rs q
+
+-- the command that a request without an error asks for
+abbrev pub command_asked : Request → ℕ → Does → Command
+command_asked q given does = record { lengths = lengths q.len given; does = does }
+
+-- it is that of the request's channel and code
+pub granted_command : (rs : List ℕ) (q : Request) (given : ℕ) (does : Does) → Granted rs q given does → command_at q.ch q.cmd ≡ Some (command_asked q given does)
+granted_command rs q given does g = ap (option_and_then (λ (ch : Channel). command_of ch q.cmd)) g.named ∙ g.command
 
 bit : (e : ℕ) → (ltb e 256 && not (eqb e 0)) ≡ true → ErrorBit e
 bit e h =
@@ -103,49 +112,56 @@ bit e h =
 other_error : (rs : List ℕ) (q : Request) (e : ℕ) → (ltb e 256 && not (eqb e 0)) ≡ true → eqb e cmd_unknown ≡ false → Refused rs q e
 other_error rs q e h n =
     let no : e ≡ cmd_unknown → ⊥ = eqb-false e cmd_unknown n in
-    record { bit = bit e h; enabled = λ f. absurd (no f); idle = λ f. absurd (no f); unknown = λ f. absurd (no f) }
+    record { bit = bit e h; unlisted = λ f. absurd (no f) }
 
 -- what holds of every error, and of all that is granted, holds of what a request is decoded into
-module _ (rs : List ℕ) (q : Request) (P : Decoded → Type 0) (wrong : (e : ℕ) → Refused rs q e → P (Wrong e))
-    (right : (given : ℕ) (does : Does) → Granted rs q given does → P (Right given does)) where
-  abbrev ch : Channel
-  ch = channel_of q.ch
+module _ (rs : List ℕ) (q : Request) (P : Result Command Fault → Type 0) (wrong : (f : Fault) → Refused rs q (fault_bit f) → P (Err f))
+    (right : (given : ℕ) (does : Does) → Granted rs q given does → P (Ok (command_asked q given does))) where
+  abbrev answered : Type 0
+  answered = (eqb q.trn no_transaction || eqb q.trn interrupt_transaction) ≡ false
 
-  of_command_lem : (eqb q.trn no_transaction || eqb q.trn interrupt_transaction) ≡ false → is_known ch ≡ true → is_enabled rs ch ≡ true → is_busy rs ch ≡ false
-      → (k : Command) → command_of ch q.cmd ≡ k → proper ch k ≡ true → P (of_command rs k q.len)
-  of_command_lem trn known on idle Unknown e h = wrong cmd_unknown (record { bit = bit cmd_unknown refl; enabled = λ _. on; idle = λ _. idle; unknown = λ _. e })
-  of_command_lem trn known on idle (Known l does) e h =
-      cond_cases P (not (eqb q.len l.asked)) (λ _. wrong len_wrong (other_error rs q len_wrong refl refl))
-      (λ f. cond_cases P (not (can_move rs does)) (λ _. wrong len_wrong (other_error rs q len_wrong refl refl))
-      (λ m. right l.given does
+  of_command_lem : (ch : Channel) → channel_of q.ch ≡ Some ch → answered → is_enabled rs ch ≡ true → is_busy rs ch ≡ false
+      → (k : Option Command) → command_of ch q.cmd ≡ k → proper ch k ≡ true → P (of_command rs k q.len)
+  of_command_lem ch n trn on idle None e h =
+      wrong CmdUnknown (record { bit = bit cmd_unknown refl; unlisted = λ _. record { which = ch; named = n; enabled = on; idle = idle; unknown = e } })
+  of_command_lem ch n trn on idle (Some k) e h =
+      cond_cases P (not (eqb q.len k.lengths.asked)) (λ _. wrong LenWrong (other_error rs q len_wrong refl refl))
+      (λ f. cond_cases P (not (can_move rs k.does)) (λ _. wrong LenWrong (other_error rs q len_wrong refl refl))
+      (λ m. let same : q.len ≡ k.lengths.asked = eqb-true q.len k.lengths.asked (not-false (eqb q.len k.lengths.asked) f) in
+      let with_asked : ℕ → Command = λ (len : ℕ). record { lengths = lengths len k.lengths.given; does = k.does } in
+      subst (λ (len : ℕ). P (Ok (with_asked len))) same
+      (right k.lengths.given k.does
       (record {
-        moved = not-false (can_move rs does) m;
+        which = ch;
+        named = n;
+        moved = not-false (can_move rs k.does) m;
         transaction = trn;
-        known = known;
         enabled = on;
         idle = idle;
-        command =
-            e ∙ ap (λ (n : ℕ). Known (record { asked = n; given = l.given }) does) (sym (eqb-true q.len l.asked (not-false (eqb q.len l.asked) f)));
-        byte = ltb-true l.given 256 (and_left (ltb l.given 256) _ (and_left (ltb l.given 256 && touches ch does) _ h));
-        own = and_right (ltb l.given 256) _ (and_left (ltb l.given 256 && touches ch does) _ h);
-        changed = and_right (ltb l.given 256 && touches ch does) _ h;
-      })))
+        command = e ∙ ap (λ (len : ℕ). Some (with_asked len)) (sym same);
+        byte = ltb-true k.lengths.given 256 (and_left (ltb k.lengths.given 256) _ (and_left (ltb k.lengths.given 256 && touches ch k.does) _ h));
+        own = and_right (ltb k.lengths.given 256) _ (and_left (ltb k.lengths.given 256 && touches ch k.does) _ h);
+        changed = and_right (ltb k.lengths.given 256 && touches ch k.does) _ h;
+      }))))
+
+  of_channel_lem : answered → (o : Option Channel) → channel_of q.ch ≡ o → P (of_channel rs o q)
+  of_channel_lem trn None e = wrong ChUnknown (other_error rs q ch_unknown refl refl)
+  of_channel_lem trn (Some ch) e =
+      cond_cases P (not (is_enabled rs ch)) (λ _. wrong NotEnabled (other_error rs q not_enabled refl refl))
+      (λ on. cond_cases P (is_busy rs ch) (λ _. wrong Busy (other_error rs q busy refl refl))
+      (λ idle. of_command_lem ch e trn (not-false (is_enabled rs ch) on) idle (command_of ch q.cmd) refl (commands_proper ch q.cmd)))
 
   pub decoded_cases : P (decoded rs q)
   unfolding decoded
   decoded_cases =
-      cond_cases P (eqb q.trn no_transaction || eqb q.trn interrupt_transaction) (λ _. wrong trn_wrong (other_error rs q trn_wrong refl refl))
-      (λ trn. cond_cases P (not (is_known ch)) (λ _. wrong ch_unknown (other_error rs q ch_unknown refl refl))
-      (λ known. cond_cases P (not (is_enabled rs ch)) (λ _. wrong not_enabled (other_error rs q not_enabled refl refl))
-      (λ on. cond_cases P (is_busy rs ch) (λ _. wrong busy (other_error rs q busy refl refl))
-      (λ idle. of_command_lem trn (not-false (is_known ch) known) (not-false (is_enabled rs ch) on) idle (command_of ch q.cmd) refl
-      (commands_proper ch q.cmd)))))
+      cond_cases P (eqb q.trn no_transaction || eqb q.trn interrupt_transaction) (λ _. wrong TrnWrong (other_error rs q trn_wrong refl refl))
+      (λ trn. of_channel_lem trn (channel_of q.ch) refl)
 
 -- and it is decoded into just that
-pub granted_decoded : (rs : List ℕ) (q : Request) (given : ℕ) (does : Does) → Granted rs q given does → decoded rs q ≡ Right given does
+pub granted_decoded : (rs : List ℕ) (q : Request) (given : ℕ) (does : Does) → Granted rs q given does → decoded rs q ≡ Ok (command_asked q given does)
 unfolding decoded
 granted_decoded rs q given does g =
-    simp (g.transaction, g.known, g.enabled, g.idle, g.command, eq-eqb q.len q.len refl, g.moved)
+    simp (g.transaction, g.named, g.enabled, g.idle, g.command, eq-eqb q.len q.len refl, g.moved)
 
 -- ---- a channel's own bytes
 
@@ -164,10 +180,9 @@ own_read ch rs ss e r o =
 pub enabled_alike : (rs ss : List ℕ) → SameOwn channel.Controller rs ss → (ch : Channel) → is_enabled rs ch ≡ is_enabled ss ch
 enabled_alike rs ss e ch = by (row_of ch).switch (switched_by_lem ch)
   where
-    by : (s : RowSwitch) → switched_by s ≡ true → is_on rs s ≡ is_on ss s
-    by Always h = refl
-    by Never h = refl
-    by (Bit c bit) h = ap (λ (x : ℕ). not (eqb (bit_and x bit) 0)) (own_read channel.Controller rs ss e (register_of c) h)
+    by : (s : Option RowSwitch) → switched_by s ≡ true → is_on rs s ≡ is_on ss s
+    by None h = refl
+    by (Some s) h = ap (λ (x : ℕ). not (eqb (bit_and x s.bit) 0)) (own_read channel.Controller rs ss e (register_of s.control) h)
 
 -- a store into another channel's own leaves them
 pub own_elsewhere : (ch k : Channel) (rs : List ℕ) (r q : Register) (v : ℕ) → length rs ≡ size → Own ch q → Own k r → Apart (first ch) (many ch) (first k) (many k)
@@ -187,23 +202,23 @@ module _ (rs ss : List ℕ) (k : Channel) (same : is_enabled ss k ≡ is_enabled
   held_through (inl on) h = simp (same, on)
   held_through (inr e) h = rw (same, e) h
 
-abbrev pub among : ℕ → List ℕ → Type 0
-among c [] = ⊥
-among c (d ∷ ds) = (c ≡ d) ⊎ among c ds
+abbrev pub among : {A : Type 0} → A → List A → Type 0
+among x [] = ⊥
+among x (y ∷ ys) = (x ≡ y) ⊎ among x ys
 
--- by their numbers, one after the other
-held_at : (cs rs : List ℕ) → are_held cs rs ≡ true → (c : ℕ) → among c cs → still_held rs (channel_of c) ≡ true
+-- one after the other
+held_at : (chs : List Channel) (rs : List ℕ) → are_held chs rs ≡ true → (ch : Channel) → among ch chs → still_held rs ch ≡ true
 unfolding are_held
-held_at [] rs h c m = absurd m
-held_at (d ∷ ds) rs h c (inl e) = rw e (and_left (still_held rs (channel_of d)) _ h)
-held_at (d ∷ ds) rs h c (inr m) = held_at ds rs (and_right (still_held rs (channel_of d)) _ h) c m
+held_at [] rs h ch m = absurd m
+held_at (d ∷ ds) rs h ch (inl e) = rw e (and_left (still_held rs d) _ h)
+held_at (d ∷ ds) rs h ch (inr m) = held_at ds rs (and_right (still_held rs d) _ h) ch m
 
 -- all are those of each register
-held_append : (cs ds rs : List ℕ) → are_held (cs ++ ds) rs ≡ (are_held cs rs && are_held ds rs)
+held_append : (cs ds : List Channel) (rs : List ℕ) → are_held (cs ++ ds) rs ≡ (are_held cs rs && are_held ds rs)
 unfolding are_held
 held_append [] ds rs = refl
 held_append (c ∷ cs) ds rs =
-    ap (λ (t : Bool). still_held rs (channel_of c) && t) (held_append cs ds rs) ∙ and_assoc (still_held rs (channel_of c)) (are_held cs rs) (are_held ds rs)
+    ap (λ (t : Bool). still_held rs c && t) (held_append cs ds rs) ∙ and_assoc (still_held rs c) (are_held cs rs) (are_held ds rs)
 
 all_three : (rs : List ℕ) → all_held rs ≡ (are_held (dropping B) rs && (are_held (dropping C) rs && are_held (dropping D) rs))
 all_three rs =
@@ -225,13 +240,13 @@ held_by rs h =
 held_each : (rs : List ℕ) → ((d : Control) → are_held (dropping d) rs ≡ true) → all_held rs ≡ true
 held_each rs f = all_three rs ∙ ap₂ ◌&&◌ (f B) (ap₂ ◌&&◌ (f C) (f D))
 
-module _ (d : Control) (rs ss : List ℕ) (step : (c : ℕ) → Dropper d c → still_held rs (channel_of c) ≡ true → still_held ss (channel_of c) ≡ true) where
-  all_through : (cs : List ℕ) → all (dropped_by d) cs ≡ true → are_held cs rs ≡ true → are_held cs ss ≡ true
+module _ (d : Control) (rs ss : List ℕ) (step : (ch : Channel) → Dropper d ch → still_held rs ch ≡ true → still_held ss ch ≡ true) where
+  all_through : (cs : List Channel) → all (dropped_by d) cs ≡ true → are_held cs rs ≡ true → are_held cs ss ≡ true
   unfolding are_held
   all_through [] a h = refl
   all_through (c ∷ cs) a h =
       let k = both (dropped_by d c) (all (dropped_by d) cs) a in
-      let e = both (still_held rs (channel_of c)) (are_held cs rs) h in
+      let e = both (still_held rs c) (are_held cs rs) h in
       ap₂ ◌&&◌ (step c (dropper d c k.0) e.0) (all_through cs k.1 e.1)
 
   through : all_held rs ≡ true → are_held (dropping d) ss ≡ true
@@ -239,7 +254,7 @@ module _ (d : Control) (rs ss : List ℕ) (step : (c : ℕ) → Dropper d c → 
 
 -- SPI, GPIO, and the masters
 pub held_parts : (rs : List ℕ) → all_held rs ≡ (still_held rs channel.Spi && (still_held rs channel.Gpio && each_master (λ i. still_held rs (channel.Master i))))
-unfolding are_held channel_of
+unfolding are_held
 held_parts rs = refl
 
 pub master_held : (rs : List ℕ) → all_held rs ≡ true → (i : ℕ) → i < 16 → still_held rs (channel.Master i) ≡ true
@@ -248,12 +263,11 @@ master_held rs h i l =
     (and_right (still_held rs channel.Gpio) _ (and_right (still_held rs channel.Spi) _ (sym (held_parts rs) ∙ h))) i (omega arith) l
 
 -- A DISABLED CHANNEL THAT DROPS ITS REGISTERS HOLDS THEM ALL AT 0
-pub disabled_holds : (rs : List ℕ) → all_held rs ≡ true → (c : ℕ) → among c all_dropping → is_enabled rs (channel_of c) ≡ false
-    → (r : Register) → Own (channel_of c) r → read rs r ≡ 0
+pub disabled_holds : (rs : List ℕ) → all_held rs ≡ true → (ch : Channel) → among ch all_dropping → is_enabled rs ch ≡ false
+    → (r : Register) → Own ch r → read rs r ≡ 0
 unfolding still_held
-disabled_holds rs h c m off r o =
-    let ch = channel_of c in
-    let zeros = or_second (is_enabled rs ch) (are_zero (first ch) (many ch) rs) (held_at all_dropping rs h c m) off in
+disabled_holds rs h ch m off r o =
+    let zeros = or_second (is_enabled rs ch) (are_zero (first ch) (many ch) rs) (held_at all_dropping rs h ch m) off in
     read_zero (first ch) (many ch) rs r zeros (own_first ch r o) (own_last ch r o)
 
 -- ---- sound registers: bytes, as many as they should be, no bit set that reads 0, what a channel drops at 0 while it is disabled, and every open
@@ -268,8 +282,7 @@ pub record Sound (rs : List ℕ) : Type 0 where
 -- a register that may be stored into: no switch, and of no channel that is disabled and drops it
 pub record Free (rs : List ℕ) (r : Register) : Type 0 where
   pub behind : switches ≤ place r
-  pub apart : (c : ℕ) → behind_core ≤ first (channel_of c)
-      → (is_enabled rs (channel_of c) ≡ true) ⊎ Apart (first (channel_of c)) (many (channel_of c)) (place r) (wide r)
+  pub apart : (ch : Channel) → behind_core ≤ first ch → (is_enabled rs ch ≡ true) ⊎ Apart (first ch) (many ch) (place r) (wide r)
 
 -- ---- the open starts
 
@@ -300,7 +313,7 @@ turn_apart q r h = by (leb (end q) (place r)) h
     by false f = simp (f)
 
 -- what a start is
-open_is : (rs : List ℕ) (i trn cmd control : ℕ) (k : Command) → read rs (master i Open) ≡ trn + 256 * cmd → trn < 256 → cmd < 256 → eqb trn 0 ≡ false
+open_is : (rs : List ℕ) (i trn cmd control : ℕ) (k : Option Command) → read rs (master i Open) ≡ trn + 256 * cmd → trn < 256 → cmd < 256 → eqb trn 0 ≡ false
     → read rs (master i Ctrl) ≡ control → command_of (channel.Master i) cmd ≡ k → is_start control k ≡ true → open_sound rs i ≡ true
 unfolding open_sound
 open_is rs i trn cmd control k h l u z c e f =
@@ -326,7 +339,7 @@ module _ (rs : List ℕ) (r : Register) (v : ℕ) (f : Free rs r) (s : Sound rs)
         held =
             held_each (store rs r v)
             (λ d. through d rs (store rs r v)
-            (λ c k h. held_through rs (store rs r v) (channel_of c) (stays_enabled (channel_of c)) (same_own (channel_of c) (f.apart c k.behind)) h) s.held);
+            (λ ch k h. held_through rs (store rs r v) ch (stays_enabled ch) (same_own ch (f.apart ch k.behind)) h) s.held);
         opens = each_through 16 0 (open_sound rs) (open_sound (store rs r v)) o s.opens;
       }
 
@@ -347,7 +360,7 @@ stored_sound rs r v f calm s = stored_opens rs r v f s (λ i _ h. by i h (calm i
 -- an enabled channel's own registers are free
 pub own_free : (rs : List ℕ) (ch : Channel) (r : Register) → is_enabled rs ch ≡ true → (is_own ch r && leb switches (place r)) ≡ true → Free rs r
 own_free rs ch r on h =
-    record { behind = leb-true switches (place r) (and_right (is_own ch r) _ h); apart = λ c _. decide (channel_of c) (one_or_apart (channel_of c) ch) }
+    record { behind = leb-true switches (place r) (and_right (is_own ch r) _ h); apart = λ k _. decide k (one_or_apart k ch) }
   where
     decide : (k : Channel) → Twin k ch ⊎ Apart (first k) (many k) (first ch) (many ch)
         → (is_enabled rs k ≡ true) ⊎ Apart (first k) (many k) (place r) (wide r)
@@ -393,8 +406,8 @@ core_calm rs r e i = let b = bank_from i in inl (inr (omega arith))
 
 -- ---- after a switch
 
-behind_switches : (d : Control) (c : ℕ) → Dropper d c → switches ≤ first (channel_of c)
-behind_switches d c k = let l = k.behind in omega arith
+behind_switches : (d : Control) (ch : Channel) → Dropper d ch → switches ≤ first ch
+behind_switches d ch k = let l = k.behind in omega arith
 
 or_true : (t : Bool) → (t || true) ≡ true
 or_true true = refl
@@ -460,7 +473,7 @@ module _ (k : Channel) (rs : List ℕ) (n : length rs ≡ size) where
   unfolding held
   held_cases P p z = cond_cases P (is_enabled rs k) (λ _. p) (λ _. z)
 
-  length_held : length (held rs k) ≡ size
+  pub length_held : length (held rs k) ≡ size
   length_held = held_cases (λ s. length s ≡ size) n (length_zeroed (first k) (many k) rs room ∙ n)
 
   held_zero : (j : Channel) (r : Register) → Own j r → read rs r ≡ 0 → read (held rs k) r ≡ 0
@@ -489,70 +502,71 @@ module _ (k : Channel) (rs : List ℕ) (n : length rs ≡ size) where
             (inr (held_cases (λ s. SameOwn j s rs) refl (zeroed_apart (first k) (many k) rs room (first j) (many j) a))) h
 
 -- what each one's holding keeps, the holding of all keeps
-module _ (d : Control) (P : List ℕ → Type 0) (step : (c : ℕ) (rs : List ℕ) → length rs ≡ size → Dropper d c → P rs → P (held rs (channel_of c))) where
-  all_keep : (cs : List ℕ) → all (dropped_by d) cs ≡ true → (rs : List ℕ) → length rs ≡ size → P rs → P (held_all cs rs)
+module _ (d : Control) (P : List ℕ → Type 0) (step : (ch : Channel) (rs : List ℕ) → length rs ≡ size → Dropper d ch → P rs → P (held rs ch)) where
+  all_keep : (cs : List Channel) → all (dropped_by d) cs ≡ true → (rs : List ℕ) → length rs ≡ size → P rs → P (held_all cs rs)
   unfolding held_all
   all_keep [] a rs n p = p
   all_keep (c ∷ cs) a rs n p =
       let k = both (dropped_by d c) (all (dropped_by d) cs) a in
-      all_keep cs k.1 (held rs (channel_of c)) (length_held (channel_of c) rs n) (step c rs n (dropper d c k.0) p)
+      all_keep cs k.1 (held rs c) (length_held c rs n) (step c rs n (dropper d c k.0) p)
 
   settled_keeps : (rs : List ℕ) → length rs ≡ size → P rs → P (settled d rs)
   settled_keeps = all_keep (dropping d) (all_dropped d)
 
 module _ (d : Control) (rs : List ℕ) (n : length rs ≡ size) where
   pub length_settled : length (settled d rs) ≡ size
-  length_settled = settled_keeps d (λ s. length s ≡ size) (λ c s m _ _. length_held (channel_of c) s m) rs n n
+  length_settled = settled_keeps d (λ s. length s ≡ size) (λ ch s m _ _. length_held ch s m) rs n n
 
   settled_switches : SameOwn channel.Controller (settled d rs) rs
   settled_switches =
-      settled_keeps d (λ s. SameOwn channel.Controller s rs) (λ c s m k e. held_switches (channel_of c) s m (behind_switches d c k) ∙ e) rs n refl
+      settled_keeps d (λ s. SameOwn channel.Controller s rs) (λ ch s m k e. held_switches ch s m (behind_switches d ch k) ∙ e) rs n refl
 
   pub settled_enabled : (ch : Channel) → is_enabled (settled d rs) ch ≡ is_enabled rs ch
   settled_enabled = enabled_alike (settled d rs) rs settled_switches
 
   -- settling takes nothing from a 0
   pub settled_zero : (j : Channel) (r : Register) → Own j r → read rs r ≡ 0 → read (settled d rs) r ≡ 0
-  settled_zero j r o z = settled_keeps d (λ s. read s r ≡ 0) (λ c s m _ e. held_zero (channel_of c) s m j r o e) rs n z
+  settled_zero j r o z = settled_keeps d (λ s. read s r ≡ 0) (λ ch s m _ e. held_zero ch s m j r o e) rs n z
 
   settled_still : (ch : Channel) → still_held rs ch ≡ true → still_held (settled d rs) ch ≡ true
   settled_still ch h =
-      settled_keeps d (λ s. still_held s ch ≡ true) (λ c s m k e. held_others (channel_of c) s m (behind_switches d c k) ch e) rs n h
+      settled_keeps d (λ s. still_held s ch ≡ true) (λ c s m k e. held_others c s m (behind_switches d c k) ch e) rs n h
 
-all_settled : (d : Control) (cs : List ℕ) → all (dropped_by d) cs ≡ true → (rs : List ℕ) → length rs ≡ size → are_held cs (held_all cs rs) ≡ true
+all_settled : (d : Control) (cs : List Channel) → all (dropped_by d) cs ≡ true → (rs : List ℕ) → length rs ≡ size → are_held cs (held_all cs rs) ≡ true
 unfolding are_held held_all
 all_settled d [] a rs n = refl
 all_settled d (c ∷ cs) a rs n =
     let e = both (dropped_by d c) (all (dropped_by d) cs) a in
-    let ch = channel_of c in
     ap₂ ◌&&◌
-    (all_keep d (λ s. still_held s ch ≡ true) (λ j s m k h. held_others (channel_of j) s m (behind_switches d j k) ch h) cs e.1 (held rs ch)
-    (length_held ch rs n) (held_itself ch rs n (behind_switches d c (dropper d c e.0))))
-    (all_settled d cs e.1 (held rs ch) (length_held ch rs n))
+    (all_keep d (λ s. still_held s c ≡ true) (λ j s m k h. held_others j s m (behind_switches d j k) c h) cs e.1 (held rs c)
+    (length_held c rs n) (held_itself c rs n (behind_switches d c (dropper d c e.0))))
+    (all_settled d cs e.1 (held rs c) (length_held c rs n))
 
 -- WHAT A REGISTER DISABLES DROPS ALL THAT IT HELD
-pub settled_drops : (d : Control) (rs : List ℕ) → length rs ≡ size → (c : ℕ) → among c (dropping d) → is_enabled rs (channel_of c) ≡ false
-    → (r : Register) → Own (channel_of c) r → read (settled d rs) r ≡ 0
+pub settled_drops : (d : Control) (rs : List ℕ) → length rs ≡ size → (ch : Channel) → among ch (dropping d) → is_enabled rs ch ≡ false
+    → (r : Register) → Own ch r → read (settled d rs) r ≡ 0
 unfolding still_held
-settled_drops d rs n c m off r o =
-    let ch = channel_of c in
+settled_drops d rs n ch m off r o =
     let now = settled_enabled d rs n ch ∙ off in
-    let held = held_at (dropping d) (settled d rs) (all_settled d (dropping d) (all_dropped d) rs n) c m in
+    let held = held_at (dropping d) (settled d rs) (all_settled d (dropping d) (all_dropped d) rs n) ch m in
     read_zero (first ch) (many ch) (settled d rs) r (or_second (is_enabled (settled d rs) ch) _ held now) (own_first ch r o) (own_last ch r o)
 
 -- a channel that another register switches does not notice
-other_switch : (d : Control) (s : RowSwitch) (rs ss : List ℕ) → is_by d s ≡ true → read ss (register_of d) ≡ read rs (register_of d) → is_on ss s ≡ is_on rs s
-other_switch d Always rs ss h e = refl
-other_switch d Never rs ss h e = refl
-other_switch B (Bit B bit) rs ss h e = ap (λ (x : ℕ). not (eqb (bit_and x bit) 0)) e
-other_switch B (Bit C bit) rs ss h e = absurd (false≢true h)
-other_switch B (Bit D bit) rs ss h e = absurd (false≢true h)
-other_switch C (Bit B bit) rs ss h e = absurd (false≢true h)
-other_switch C (Bit C bit) rs ss h e = ap (λ (x : ℕ). not (eqb (bit_and x bit) 0)) e
-other_switch C (Bit D bit) rs ss h e = absurd (false≢true h)
-other_switch D (Bit B bit) rs ss h e = absurd (false≢true h)
-other_switch D (Bit C bit) rs ss h e = absurd (false≢true h)
-other_switch D (Bit D bit) rs ss h e = ap (λ (x : ℕ). not (eqb (bit_and x bit) 0)) e
+other_switch : (d : Control) (s : Option RowSwitch) (rs ss : List ℕ) → is_by d s ≡ true → read ss (register_of d) ≡ read rs (register_of d) → is_on ss s ≡ is_on rs s
+other_switch d None rs ss h e = refl
+other_switch d (Some s) rs ss h e = by d s.control h e
+  where
+    by : (d c : Control) → is_control d c ≡ true → read ss (register_of d) ≡ read rs (register_of d)
+        → not (eqb (bit_and (read ss (register_of c)) s.bit) 0) ≡ not (eqb (bit_and (read rs (register_of c)) s.bit) 0)
+    by B B h e = ap (λ (x : ℕ). not (eqb (bit_and x s.bit) 0)) e
+    by B C h e = absurd (false≢true h)
+    by B D h e = absurd (false≢true h)
+    by C B h e = absurd (false≢true h)
+    by C C h e = ap (λ (x : ℕ). not (eqb (bit_and x s.bit) 0)) e
+    by C D h e = absurd (false≢true h)
+    by D B h e = absurd (false≢true h)
+    by D C h e = absurd (false≢true h)
+    by D D h e = ap (λ (x : ℕ). not (eqb (bit_and x s.bit) 0)) e
 
 -- whatever a register of the controller's is given, what is left is sound
 module _ (c : Control) (rs : List ℕ) (v : ℕ) (s : Sound rs) where
@@ -562,15 +576,15 @@ module _ (c : Control) (rs : List ℕ) (v : ℕ) (s : Sound rs) where
   fitting : RegistersFit switched
   fitting = store_fits rs (register_of c) _ s.fits
 
-  other_held : (d : Control) → apart (register_of d) (register_of c) ≡ true → (k : ℕ) → Dropper d k → still_held rs (channel_of k) ≡ true
-      → still_held (settled c switched) (channel_of k) ≡ true
-  other_held d o k j h =
+  other_held : (d : Control) → apart (register_of d) (register_of c) ≡ true → (ch : Channel) → Dropper d ch → still_held rs ch ≡ true
+      → still_held (settled c switched) ch ≡ true
+  other_held d o ch j h =
       let l = j.behind in
       let e = control_front c in
-      settled_still c switched fitting.long (channel_of k)
-      (held_through rs switched (channel_of k)
-      (other_switch d (row_of (channel_of k)).switch rs switched j.switched (read_other rs (register_of c) _ s.fits.long (register_of d) o))
-      (inr (part_stays rs (register_of c) _ s.fits.long (first (channel_of k)) (many (channel_of k)) (inr (omega arith)))) h)
+      settled_still c switched fitting.long ch
+      (held_through rs switched ch
+      (other_switch d (row_of ch).switch rs switched j.switched (read_other rs (register_of c) _ s.fits.long (register_of d) o))
+      (inr (part_stays rs (register_of c) _ s.fits.long (first ch) (many ch) (inr (omega arith)))) h)
 
   switched_held : (d : Control) → are_held (dropping d) (settled c switched) ≡ true
   switched_held d = by (one_control c d)
@@ -590,18 +604,18 @@ module _ (c : Control) (rs : List ℕ) (v : ℕ) (s : Sound rs) where
             record {
               long = length_settled c switched fitting.long;
               bytes =
-                  settled_keeps c AreBytes (λ k s n _ b. held_cases (channel_of k) s n AreBytes b (zeroed_bytes (first (channel_of k)) (many (channel_of k)) s b))
+                  settled_keeps c AreBytes (λ k s n _ b. held_cases k s n AreBytes b (zeroed_bytes (first k) (many k) s b))
                   switched fitting.long fitting.bytes;
             };
         masked =
             settled_keeps c (λ s. within s ≡ true)
-            (λ k s n _ w. held_cases (channel_of k) s n (λ s. within s ≡ true) w (cleared_within (channel_of k) s n w)) switched fitting.long
+            (λ k s n _ w. held_cases k s n (λ s. within s ≡ true) w (cleared_within k s n w)) switched fitting.long
             (store_within rs (register_of c) _ s.fits.long s.masked);
         held = held_each (settled c switched) switched_held;
         opens =
             settled_keeps c (λ s. opens_sound s ≡ true)
-            (λ k s n _ o. held_cases (channel_of k) s n (λ s. opens_sound s ≡ true) o
-            (each_through 16 0 (open_sound s) (open_sound (cleared (channel_of k) s n)) (λ i _. cleared_open (channel_of k) s n i) o)) switched fitting.long
+            (λ k s n _ o. held_cases k s n (λ s. opens_sound s ≡ true) o
+            (each_through 16 0 (open_sound s) (open_sound (cleared k s n)) (λ i _. cleared_open k s n i) o)) switched fitting.long
             (each_through 16 0 (open_sound rs) (open_sound switched)
             (λ i _. open_alike rs switched i (part_stays rs (register_of c) _ s.fits.long (bank i) 21 (front i))) s.opens);
       }
@@ -609,9 +623,9 @@ module _ (c : Control) (rs : List ℕ) (v : ℕ) (s : Sound rs) where
 -- ---- every request leaves sound registers
 
 -- ERR and LEN of a reply are bytes
-abbrev pub ReplyBytes : Reply → Type 0
-ReplyBytes (Sent error length value) = (error < 256) × (length < 256)
-ReplyBytes Later = Unit
+abbrev pub ReplyBytes : Option Reply → Type 0
+ReplyBytes None = Unit
+ReplyBytes (Some reply) = (reply.error < 256) × (reply.length < 256)
 
 -- TRN and code of a request are bytes
 pub record RequestBytes (q : Request) : Type 0 where
@@ -619,13 +633,10 @@ pub record RequestBytes (q : Request) : Type 0 where
   pub cmd : q.cmd < 256
 
 module _ (rs : List ℕ) (q : Request) (s : Sound rs) where
-  abbrev to : Channel
-  to = channel_of q.ch
-
   -- into a register of an idle channel's own, but for the one that makes it busy
-  own_sound : (r : Register) (v : ℕ) → is_enabled rs to ≡ true → is_busy rs to ≡ false
+  own_sound : (to : Channel) (r : Register) (v : ℕ) → is_enabled rs to ≡ true → is_busy rs to ≡ false
       → (is_own to r && leb switches (place r) && spares (row_of to).busy r) ≡ true → Sound (store rs r v)
-  own_sound r v on idle h =
+  own_sound to r v on idle h =
       let e = both (is_own to r && leb switches (place r)) _ h in
       stored_sound rs r v (own_free rs to r on e.0) (idle_calm rs to r (and_left (is_own to r) _ e.0) idle e.1) s
 
@@ -634,8 +645,8 @@ module _ (rs : List ℕ) (q : Request) (s : Sound rs) where
     abbrev started : List ℕ
     started = store rs (master i Open) (q.trn + 256 * q.cmd)
 
-    the_master : to ≡ channel.Master i
-    the_master = the_number to i g.own
+    the_master : g.which ≡ channel.Master i
+    the_master = the_number g.which i g.own
 
     pub kept_start : read started (master i Open) ≡ q.trn + 256 * q.cmd
     kept_start =
@@ -644,7 +655,7 @@ module _ (rs : List ℕ) (q : Request) (s : Sound rs) where
         read_same rs (master i Open) (q.trn + 256 * q.cmd) s.fits.long ∙ and_mask (q.trn + 256 * q.cmd) 16
         ∙ mod-eq_of_lt (omega arith)
 
-    start_own : (is_own to (master i Open) && leb switches (place (master i Open))) ≡ true
+    start_own : (is_own g.which (master i Open) && leb switches (place (master i Open))) ≡ true
     start_own =
         let f = bank_from i in
         rw the_master (ap₂ ◌&&◌ (field_own i Open) (le-leb switches (bank i + 3) (omega arith)))
@@ -653,64 +664,64 @@ module _ (rs : List ℕ) (q : Request) (s : Sound rs) where
     start_open =
         open_is started i q.trn q.cmd (read rs (master i Ctrl)) _ kept_start b.trn b.cmd (or_none (eqb q.trn 0) _ g.transaction)
         (read_other rs (master i Open) _ s.fits.long (master i Ctrl) (turn_apart (master i Open) (master i Ctrl) (open_apart i Ctrl refl)))
-        (subst (λ (k : Channel). command_of k q.cmd ≡ Known (record { asked = q.len; given = given }) (Transact i t)) the_master g.command) g.moved
+        (subst (λ (k : Channel). command_of k q.cmd ≡ known (lengths q.len given) (Transact i t)) the_master g.command) g.moved
 
     start_sound : Sound started
     start_sound =
-        stored_opens rs (master i Open) _ (own_free rs to (master i Open) g.enabled start_own) s (λ j l h. by j l h (one_or_apart (channel.Master j) (channel.Master i)))
+        stored_opens rs (master i Open) _ (own_free rs g.which (master i Open) g.enabled start_own) s (λ j l h. by j l h (one_or_apart (channel.Master j) (channel.Master i)))
       where
         by : (j : ℕ) → j < 16 → open_sound rs j ≡ true → Twin (channel.Master j) (channel.Master i) ⊎ Apart (bank j) 21 (bank i) 21 → open_sound started j ≡ true
-        by j l h (inl e) = rw (one_number j i e.firsts l (below_16 q.ch i the_master)) start_open
+        by j l h (inl e) = rw (one_number j i e.firsts l (below_16 q.ch i (g.named ∙ ap Some the_master))) start_open
         by j l h (inr a) =
             open_alike rs started j
             (part_stays rs (master i Open) _ s.fits.long (bank j) 21 (apart_own (channel.Master i) (master i Open) (field_own i Open) (bank j) 21 a)) h
 
   left_sound : RequestBytes q → (given : ℕ) (does : Does) → Granted rs q given does → Sound (left rs q does)
-  left_sound b given (Write r) g = own_sound r _ g.enabled g.idle g.own
+  left_sound b given (Write r) g = own_sound g.which r _ g.enabled g.idle g.own
   left_sound b given (Switch c) g = switched_sound c rs q.value s
   left_sound b given (Read r) g = s
-  left_sound b given (Clear r) g = own_sound r 0 g.enabled g.idle g.own
+  left_sound b given (Clear r) g = own_sound g.which r 0 g.enabled g.idle g.own
   left_sound b given (Start r) g =
-      let e = both (is_own to r && leb switches (place r)) _ g.own in
-      stored_sound rs r q.trn (own_free rs to r g.enabled e.0) (lone_calm rs to r (and_left (is_own to r) _ e.0) e.1) s
+      let e = both (is_own g.which r && leb switches (place r)) _ g.own in
+      stored_sound rs r q.trn (own_free rs g.which r g.enabled e.0) (lone_calm rs g.which r (and_left (is_own g.which r) _ e.0) e.1) s
   left_sound b given (Transact i t) g = start_sound b given i t g
 
   -- INVCOM is of an enabled, idle master
   marked_sound : (e : ℕ) → Refused rs q e → Sound (marked rs q.ch e)
   unfolding marked
-  marked_sound e r = cond_cases Sound (eqb e cmd_unknown) (λ h. by to refl (r.enabled (eqb-true e cmd_unknown h)) (r.idle (eqb-true e cmd_unknown h))) (λ _. s)
+  marked_sound e r =
+      cond_cases Sound (eqb e cmd_unknown) (λ h. let u = r.unlisted (eqb-true e cmd_unknown h) in rw u.named (by u.which u.enabled u.idle)) (λ _. s)
     where
-      status : (i v : ℕ) → to ≡ channel.Master i → is_enabled rs to ≡ true → is_busy rs to ≡ false → Sound (store rs (master i Status) v)
-      status i v e on idle =
+      status : (i v : ℕ) → is_enabled rs (channel.Master i) ≡ true → is_busy rs (channel.Master i) ≡ false → Sound (store rs (master i Status) v)
+      status i v on idle =
           let f = bank_from i in
-          own_sound (master i Status) v on idle
-          (rw e (ap₂ ◌&&◌ (ap₂ ◌&&◌ (field_own i Status) (le-leb switches (bank i + 2) (omega arith))) (open_apart i Status refl)))
+          own_sound (channel.Master i) (master i Status) v on idle
+          (ap₂ ◌&&◌ (ap₂ ◌&&◌ (field_own i Status) (le-leb switches (bank i + 2) (omega arith))) (open_apart i Status refl))
 
-      by : (ch : Channel) → to ≡ ch → is_enabled rs to ≡ true → is_busy rs to ≡ false → Sound (with_invcom rs ch)
-      by channel.Controller e on idle = s
-      by channel.Spi e on idle = s
-      by channel.Gpio e on idle = s
-      by (channel.Master i) e on idle = status i _ e on idle
-      by channel.Seu e on idle = s
-      by channel.Id e on idle = s
-      by channel.Dac e on idle = s
-      by channel.Unknown e on idle = s
+      by : (ch : Channel) → is_enabled rs ch ≡ true → is_busy rs ch ≡ false → Sound (with_invcom rs (Some ch))
+      by channel.Controller on idle = s
+      by channel.Spi on idle = s
+      by channel.Gpio on idle = s
+      by (channel.Master i) on idle = status i _ on idle
+      by channel.Seu on idle = s
+      by channel.Id on idle = s
+      by channel.Dac on idle = s
 
   pub performed_sound : RequestBytes q → Sound (performed rs q)
   unfolding performed
-  performed_sound b = decoded_cases rs q (λ d. Sound (left_by rs q d)) marked_sound (left_sound b)
+  performed_sound b = decoded_cases rs q (λ d. Sound (left_by rs q d)) (λ f. marked_sound (fault_bit f)) (left_sound b)
 
 -- so is the LEN of every known command's reply
-abbrev pub GivenByte : Command → Type 0
-GivenByte Unknown = Unit
-GivenByte (Known l does) = l.given < 256
+abbrev pub GivenByte : Option Command → Type 0
+GivenByte None = Unit
+GivenByte (Some command) = command.lengths.given < 256
 
 pub given_byte : (ch : Channel) (cmd : ℕ) → GivenByte (command_of ch cmd)
 given_byte ch cmd = by (command_of ch cmd) (commands_proper ch cmd)
   where
-    by : (k : Command) → proper ch k ≡ true → GivenByte k
-    by Unknown h = tt
-    by (Known l does) h = ltb-true l.given 256 (and_left (ltb l.given 256) _ (and_left (ltb l.given 256 && touches ch does) _ h))
+    by : (k : Option Command) → proper ch k ≡ true → GivenByte k
+    by None h = tt
+    by (Some k) h = ltb-true k.lengths.given 256 (and_left (ltb k.lengths.given 256) _ (and_left (ltb k.lengths.given 256 && touches ch k.does) _ h))
 
 module _ (rs : List ℕ) (q : Request) where
   told_bytes : (given : ℕ) (does : Does) → Granted rs q given does → ReplyBytes (told rs given does)
@@ -723,12 +734,12 @@ module _ (rs : List ℕ) (q : Request) where
 
   pub replied_bytes : ReplyBytes (replied rs q)
   unfolding replied
-  replied_bytes = decoded_cases rs q (λ d. ReplyBytes (reply_to rs d)) (λ e r. (r.bit.byte, lit< tt)) told_bytes
+  replied_bytes = decoded_cases rs q (λ d. ReplyBytes (reply_to rs d)) (λ f r. (r.bit.byte, lit< tt)) told_bytes
 
 -- ---- so do a pin sample, a transfer and an upset, each stored where it may be
 
 zeros_sound : Sound (replicate size 0)
-unfolding read are_held still_held are_zero part number all_zero channel_of bank master_control master_bit open_sound
+unfolding read are_held still_held are_zero part number all_zero bank master_control master_bit open_sound
 zeros_sound = record { fits = record { long = refl; bytes = zero_bytes size }; masked = refl; held = refl; opens = refl }
 
 -- nothing but an ID
@@ -802,13 +813,12 @@ module _ (rs : List ℕ) (s : Sound rs) where
 
   -- a GO is open only where SPI is enabled
   pub busy_enabled : is_busy rs channel.Spi ≡ true → is_enabled rs channel.Spi ≡ true
-  unfolding channel_of
   busy_enabled b = by (is_enabled rs channel.Spi) refl
     where
       by : (t : Bool) → is_enabled rs channel.Spi ≡ t → is_enabled rs channel.Spi ≡ true
       by true e = e
       by false e =
-          let none = disabled_holds rs s.held 0x01 (inl refl) e SpiGo refl in
+          let none = disabled_holds rs s.held channel.Spi (inl refl) e SpiGo refl in
           absurd (true≢false (sym b ∙ ap (λ (x : ℕ). not (eqb x 0)) none))
 
   pub completed_sound : (received : List ℕ) → is_busy rs channel.Spi ≡ true → Sound (completed rs received)
@@ -896,6 +906,8 @@ module _ (rs : List ℕ) (i : ℕ) (on : Bool) (o : on ≡ is_enabled rs (channe
 pub bank_in : (rs : List ℕ) (i first : ℕ) → length rs ≡ size → first ≡ bank i → first + 21 ≤ length rs
 bank_in rs i first n e = rw (n, e) (bank_to i)
 
+pub ruleset one_master = (sound_on, bank_in, zero_at)
+
 -- ---- no master is enabled
 
 bit_on : (n k : ℕ) → not (eqb (bit_and n (2 ^ k)) 0) ≡ bit_of n k
@@ -934,13 +946,10 @@ none_enabled rs h i = by (ltb (i % 16) 5) (ltb (i % 16) 13) refl refl
     d = eqb-true (read rs Crd % 8) 0 (search (and_left, and_right))
 
     by : (s t : Bool) → ltb (i % 16) 5 ≡ s → ltb (i % 16) 13 ≡ t
-        → is_on rs (Bit (cond s B (cond t C D)) (cond s (2 ^ (i % 16 + 3)) (cond t (2 ^ (i % 16 - 5)) (2 ^ (i % 16 - 13))))) ≡ false
+        → is_on rs (by_bit (cond s B (cond t C D)) (cond s (2 ^ (i % 16 + 3)) (cond t (2 ^ (i % 16 - 5)) (2 ^ (i % 16 - 13))))) ≡ false
     by true t e f = bit_off (read rs Crb) (i % 16 + 3) (high_zero (read rs Crb) (i % 16) b)
     by false true e f = rw c refl
     by false false e f = bit_off (read rs Crd) (i % 16 - 13) (low_three (i % 16 - 13) (read rs Crd) (omega arith) d)
-
-pub none_is_on_lem : (rs : List ℕ) (b c d : ℕ) → b ≡ read rs Crb → c ≡ read rs Crc → d ≡ read rs Crd → (ltb b 8 && eqb c 0 && eqb (d % 8) 0) ≡ none_on rs
-none_is_on_lem rs b c d e f g = simp (e, f, g)
 
 -- ---- bit by bit
 
@@ -972,21 +981,14 @@ by_crd rs v e k l =
     bit_on (v % 8) k ∙ ap (λ (b : ℕ). eqb b 1) (low_same k v l) ∙ sym (bit_on v k)
     ∙ simp (m, n, le-ltb (13 + k) 5 (omega arith), le-ltb (13 + k) 13 (omega arith), e)
 
+pub ruleset bit_by_bit = (by_crb, by_crc, by_crd)
+
 module _ (rs : List ℕ) (bits first many k : ℕ) (l : k < many) (u : first + many ≤ 16) where
   pub enabled_bit : Enables rs bits first many → not (eqb (bit_and bits (1 * 2 ^ k % 2 ^ 32)) 0) ≡ is_enabled rs (channel.Master (first + k))
   enabled_bit h =
       let e : 1 * 2 ^ k ≡ 2 ^ k = omega arith in
       let s : 1 * 2 ^ k % 2 ^ 32 ≡ 2 ^ k = rw e (mod-eq_of_lt (pow-lt {i = k} {j = 32} (omega arith))) in
       subst (λ (m : ℕ). not (eqb (bit_and bits m) 0) ≡ is_enabled rs (channel.Master (first + k))) (sym s) (h k l)
-
-  pub first_fits : first + k < 256
-  first_fits = omega arith
-
-  pub wide_fits : k < 2 ^ 32
-  wide_fits = omega arith
-
-  pub shift_fits : k < 32
-  shift_fits = omega arith
 
 each_split : (m n k : ℕ) (f : ℕ → Bool) → each (m + n) k f ≡ (each m k f && each n (k + m) f)
 each_split zero n k f =
@@ -1004,15 +1006,16 @@ three_parts rs b c d e f g =
     rw (e, f, g) (sym (each_split 13 3 0 (master_sound rs) ∙ ap (λ (t : Bool). t && each 3 13 (master_sound rs)) (each_split 5 8 0 (master_sound rs))))
 
 module _ (rs : List ℕ) (first many at : ℕ) (u : first + many ≤ 16) (a : at ≡ bank first) where
-  part_inside : length rs ≡ size → at + 21 * many ≤ length rs
+  pub part_inside : length rs ≡ size → at + many * 21 ≤ length rs
   unfolding bank
   part_inside n = rw (n, a) (omega arith)
 
   -- no bit set: none of the part is enabled
-  part_off : (bits : ℕ) (z : Bool) → Enables rs bits first many → bits ≡ 0 → z ≡ are_zero at (21 * many) rs → z ≡ each many first (master_sound rs)
+  pub part_off : (bits : ℕ) (z : Bool) → Enables rs bits first many → bits ≡ 0 → z ≡ are_zero at (many * 21) rs → z ≡ each many first (master_sound rs)
   unfolding bank
   part_off bits z h o e =
-      e ∙ ap (λ (p : ℕ). are_zero p (21 * many) rs) a ∙ sym (each_zero many (first % 16) rs) ∙ from many u
+      let t : many * 21 ≡ 21 * many = omega arith in
+      e ∙ ap₂ (λ (p n : ℕ). are_zero p n rs) a t ∙ sym (each_zero many (first % 16) rs) ∙ from many u
       ∙ each_within many first _ _ (λ i l m. zero_off rs i false (off i l m) _ refl (ap (λ (p : ℕ). are_zero p 21 rs) (sym (bank_at i (omega arith)))))
     where
       from : (n : ℕ) → first + n ≤ 16 → each n (first % 16) (λ (i : ℕ). are_zero (70 + 21 * i) 21 rs) ≡ each n first (λ (i : ℕ). are_zero (70 + 21 * i) 21 rs)
@@ -1026,30 +1029,29 @@ module _ (rs : List ℕ) (first many at : ℕ) (u : first + many ≤ 16) (a : at
           let g : first + (i - first) ≡ i = omega arith in
           rw (o, g) at (h (i - first) (omega arith))
 
-module _ (rs : List ℕ) (v at : ℕ) (z : Bool) where
-  pub off_b : at ≡ bank 0 → v ≡ read rs Crb → v / 8 ≡ 0 → z ≡ are_zero at 105 rs → z ≡ each 5 0 (master_sound rs)
-  off_b a e o h = part_off rs 0 5 at (lit≤ tt) a (v / 8) z (by_crb rs v e) o h
+-- one by one
+pub every_one : (n k : ℕ) (f : ℕ → Bool) → ((j : ℕ) → j < n → f (k + j) ≡ true) → each n k f ≡ true
+every_one zero k f h = refl
+every_one (suc n) k f h =
+    let z : k + 0 ≡ k = omega arith in
+    ap₂ ◌&&◌ (rw z at (h 0 (omega arith)))
+    (every_one n (suc k) f (λ j l. let e : k + (j + 1) ≡ suc k + j = omega arith in rw e at (h (j + 1) (omega arith))))
 
-  pub off_c : at ≡ bank 5 → v ≡ read rs Crc → v ≡ 0 → z ≡ are_zero at 168 rs → z ≡ each 8 5 (master_sound rs)
-  off_c a e o h = part_off rs 5 8 at (lit≤ tt) a v z (by_crc rs v e) o h
+pub not_one : (n k : ℕ) (f : ℕ → Bool) (j : ℕ) → j < n → f (k + j) ≡ false → each n k f ≡ false
+not_one n k f j l h = by (each n k f) refl
+  where
+    by : (t : Bool) → each n k f ≡ t → t ≡ false
+    by true e = absurd (true≢false (sym (each_at n k f e (k + j) (omega arith) (omega arith)) ∙ h))
+    by false e = refl
 
-  pub off_d : at ≡ bank 13 → v ≡ read rs Crd → v % 8 ≡ 0 → z ≡ are_zero at 63 rs → z ≡ each 3 13 (master_sound rs)
-  off_d a e o h = part_off rs 13 3 at (lit≤ tt) a (v % 8) z (by_crd rs v e) o h
-
-module _ (rs : List ℕ) (at : ℕ) (n : length rs ≡ size) where
-  pub in_b : at ≡ bank 0 → at + 105 ≤ length rs
-  in_b a = part_inside rs 0 5 at (lit≤ tt) a n
-
-  pub in_c : at ≡ bank 5 → at + 168 ≤ length rs
-  in_c a = part_inside rs 5 8 at (lit≤ tt) a n
-
-  pub in_d : at ≡ bank 13 → at + 63 ≤ length rs
-  in_d a = part_inside rs 13 3 at (lit≤ tt) a n
+pub ruleset part_of_them = (part_off, enabled_bit, every_one, not_one)
 
 pub all_off : (rs : List ℕ) (none z : Bool) → none ≡ none_on rs → none ≡ true → z ≡ are_zero 70 336 rs → z ≡ each_master (master_sound rs)
 all_off rs none z n t e =
     e ∙ sym (each_zero 16 0 rs)
     ∙ each_same 16 0 _ _ (λ i l. zero_off rs i false (sym (none_enabled rs (sym n ∙ t) i)) _ refl (ap (λ (p : ℕ). are_zero p 21 rs) (sym (bank_at i l))))
+
+pub ruleset all_of_them = (all_off, three_parts)
 
 each_three : (n k : ℕ) (f g h : ℕ → Bool) → each n k (λ (i : ℕ). f i && (g i && h i)) ≡ (each n k f && (each n k g && each n k h))
 each_three zero k f g h = refl
@@ -1083,73 +1085,62 @@ stored_own ch rs r v n o =
     (rw (length_digits (wide r) (bit_and v (registers.row_of r).mask)) (own_last ch r o)) (rw n (own_inside ch))
 
 module _ (rs ss : List ℕ) (n : length rs ≡ size) (m : length ss ≡ size) (q : Request)
-    (on : is_enabled rs (channel_of q.ch) ≡ is_enabled ss (channel_of q.ch)) (own : SameOwn (channel_of q.ch) rs ss) where
-  abbrev which : Channel
-  which = channel_of q.ch
+    (on : (ch : Channel) → channel_of q.ch ≡ Some ch → is_enabled rs ch ≡ is_enabled ss ch)
+    (own : (ch : Channel) → channel_of q.ch ≡ Some ch → SameOwn ch rs ss) where
+  module _ (which : Channel) (named : channel_of q.ch ≡ Some which) where
+    busy_alike : is_busy rs which ≡ is_busy ss which
+    busy_alike = by (row_of which).busy (busy_by_lem which)
+      where
+        by : (b : Option Register) → busy_by which b ≡ true → is_at_work rs b ≡ is_at_work ss b
+        by None h = refl
+        by (Some r) h = ap (λ (x : ℕ). not (eqb x 0)) (own_read which rs ss (own which named) r h)
 
-  busy_alike : is_busy rs which ≡ is_busy ss which
-  busy_alike = by (row_of which).busy (busy_by_lem which)
-    where
-      by : (b : Busy) → busy_by which b ≡ true → is_at_work rs b ≡ is_at_work ss b
-      by busy-variants.Never h = refl
-      by (busy-variants.While r) h = ap (λ (x : ℕ). not (eqb x 0)) (own_read which rs ss own r h)
+    moves_alike : (does : Does) → touches which does ≡ true → can_move rs does ≡ can_move ss does
+    moves_alike (Write r) h = refl
+    moves_alike (Switch c) h = refl
+    moves_alike (Read r) h = refl
+    moves_alike (Clear r) h = refl
+    moves_alike (Start r) h = refl
+    moves_alike (Transact i t) h =
+        ap (λ (x : ℕ). allows x t) (own_read which rs ss (own which named) (master i Ctrl) (rw (the_number which i h) (field_own i Ctrl)))
 
-  command_alike : (k : Command) → proper which k ≡ true → of_command rs k q.len ≡ of_command ss k q.len
-  command_alike Unknown h = refl
-  command_alike (Known l (Write r)) h = refl
-  command_alike (Known l (Switch c)) h = refl
-  command_alike (Known l (Read r)) h = refl
-  command_alike (Known l (Clear r)) h = refl
-  command_alike (Known l (Start r)) h = refl
-  command_alike (Known l (Transact i t)) h =
-      let mine = the_number which i (and_right (ltb l.given 256) _ (and_left (ltb l.given 256 && is_number which i) _ h)) in
-      ap (λ (x : ℕ). of_transaction l i t x) (own_read which rs ss own (master i Ctrl) (rw mine (field_own i Ctrl)))
-    where
-      of_transaction : Lengths → ℕ → Transaction → ℕ → Decoded
-      of_transaction l i t control =
-          cond (not (eqb q.len l.asked)) (Wrong len_wrong) (cond (not (allows control t)) (Wrong len_wrong) (Right l.given (Transact i t)))
+    command_alike : (k : Option Command) → proper which k ≡ true → of_command rs k q.len ≡ of_command ss k q.len
+    command_alike None h = refl
+    command_alike (Some k) h =
+        rw (moves_alike k.does (and_right (ltb k.lengths.given 256) _ (and_left (ltb k.lengths.given 256 && touches which k.does) _ h))) refl
+
+    stored_alike : (r : Register) (v : ℕ) → Own which r → SameOwn which (store rs r v) (store ss r v)
+    stored_alike r v o = stored_own which rs r v n o ∙ ap (put (place r - first which) _) (own which named) ∙ sym (stored_own which ss r v m o)
+
+  channel_alike : (o : Option Channel) → channel_of q.ch ≡ o → of_channel rs o q ≡ of_channel ss o q
+  channel_alike None e = refl
+  channel_alike (Some ch) e = rw (on ch e, busy_alike ch e, command_alike ch e (command_of ch q.cmd) (commands_proper ch q.cmd)) refl
 
   pub decoded_alike : decoded rs q ≡ decoded ss q
   unfolding decoded
-  decoded_alike = rw (on, busy_alike, command_alike (command_of which q.cmd) (commands_proper which q.cmd)) refl
+  decoded_alike = rw (channel_alike (channel_of q.ch) refl) refl
 
-  stored_alike : (r : Register) (v : ℕ) → Own which r → SameOwn which (store rs r v) (store ss r v)
-  stored_alike r v o = stored_own which rs r v n o ∙ ap (put (place r - first which) _) own ∙ sym (stored_own which ss r v m o)
-
-  left_alike : (given : ℕ) (does : Does) → Granted rs q given does → SameOwn which (left rs q does) (left ss q does)
-  left_alike given (Write r) g = stored_alike r _ (and_left (is_own which r) _ (and_left (is_own which r && leb switches (place r)) _ g.own))
+  left_alike : (given : ℕ) (does : Does) (g : Granted rs q given does) → SameOwn g.which (left rs q does) (left ss q does)
+  left_alike given (Write r) g =
+      stored_alike g.which g.named r _ (and_left (is_own g.which r) _ (and_left (is_own g.which r && leb switches (place r)) _ g.own))
   left_alike given (Switch c) g =
       let r = register_of c in
-      let mine = and_left (is_own which r) _ g.own in
-      let e : which ≡ channel.Controller = only_controller which r mine (and_right (is_own which r) _ g.own) in
-      let settle : (s : List ℕ) → length s ≡ size → SameOwn which (settled c s) s = λ s l. rw e (settled_switches c s l) in
-      settle (written rs r q.value) (length_store rs r _ n) ∙ stored_alike r _ mine ∙ sym (settle (written ss r q.value) (length_store ss r _ m))
-  left_alike given (Read r) g = own
-  left_alike given (Clear r) g = stored_alike r 0 (and_left (is_own which r) _ (and_left (is_own which r && leb switches (place r)) _ g.own))
-  left_alike given (Start r) g = stored_alike r q.trn (and_left (is_own which r) _ (and_left (is_own which r && leb switches (place r)) _ g.own))
-  left_alike given (Transact i t) g = stored_alike (master i Open) _ (rw (the_number which i g.own) (field_own i Open))
-
-  marked_alike : (e : ℕ) → SameOwn which (marked rs q.ch e) (marked ss q.ch e)
-  unfolding marked
-  marked_alike e = two_cases (λ (x y : List ℕ). SameOwn which x y) (eqb e cmd_unknown) (by which refl) own
-    where
-      by : (ch : Channel) → which ≡ ch → SameOwn which (with_invcom rs ch) (with_invcom ss ch)
-      by channel.Controller n = own
-      by channel.Spi n = own
-      by channel.Gpio n = own
-      by (channel.Master i) n =
-          let mine : Own which (master i Status) = rw n (field_own i Status) in
-          subst (λ (v : ℕ). SameOwn which (store rs (master i Status) (bit_or (read rs (master i Status)) 32)) (store ss (master i Status) (bit_or v 32)))
-          (own_read which rs ss own (master i Status) mine) (stored_alike (master i Status) _ mine)
-      by channel.Seu n = own
-      by channel.Id n = own
-      by channel.Dac n = own
-      by channel.Unknown n = own
+      let mine = and_left (is_own g.which r) _ g.own in
+      let e : g.which ≡ channel.Controller = only_controller g.which r mine (and_right (is_own g.which r) _ g.own) in
+      let settle : (s : List ℕ) → length s ≡ size → SameOwn g.which (settled c s) s = λ s l. rw e (settled_switches c s l) in
+      settle (written rs r q.value) (length_store rs r _ n) ∙ stored_alike g.which g.named r _ mine ∙ sym (settle (written ss r q.value) (length_store ss r _ m))
+  left_alike given (Read r) g = own g.which g.named
+  left_alike given (Clear r) g =
+      stored_alike g.which g.named r 0 (and_left (is_own g.which r) _ (and_left (is_own g.which r && leb switches (place r)) _ g.own))
+  left_alike given (Start r) g =
+      stored_alike g.which g.named r q.trn (and_left (is_own g.which r) _ (and_left (is_own g.which r && leb switches (place r)) _ g.own))
+  left_alike given (Transact i t) g = stored_alike g.which g.named (master i Open) _ (rw (the_number g.which i g.own) (field_own i Open))
 
   told_alike : (given : ℕ) (does : Does) → Granted rs q given does → told rs given does ≡ told ss given does
   told_alike given (Write r) g = refl
   told_alike given (Switch c) g = refl
-  told_alike given (Read r) g = ap (λ (x : ℕ). Sent 0 given (x * 2 ^ (registers.row_of r).low % 2 ^ 32)) (own_read which rs ss own r g.own)
+  told_alike given (Read r) g =
+      ap (λ (x : ℕ). Some (granted given (x * 2 ^ (registers.row_of r).low % 2 ^ 32))) (own_read g.which rs ss (own g.which g.named) r g.own)
   told_alike given (Clear r) g = refl
   told_alike given (Start r) g = refl
   told_alike given (Transact i t) g = refl
@@ -1159,66 +1150,81 @@ module _ (rs ss : List ℕ) (n : length rs ≡ size) (m : length ss ≡ size) (q
   unfolding replied
   reply_alike = rw (← decoded_alike) (decoded_cases rs q (λ d. reply_to rs d ≡ reply_to ss d) (λ _ _. refl) told_alike)
 
-  -- its own bytes
-  pub own_alike : SameOwn which (performed rs q) (performed ss q)
-  unfolding performed
-  own_alike = rw (← decoded_alike) (decoded_cases rs q (λ d. SameOwn which (left_by rs q d) (left_by ss q d)) (λ e _. marked_alike e) left_alike)
+  module _ (which : Channel) (named : channel_of q.ch ≡ Some which) where
+    marked_alike : (e : ℕ) → SameOwn which (marked rs q.ch e) (marked ss q.ch e)
+    unfolding marked
+    marked_alike e = two_cases (λ (x y : List ℕ). SameOwn which x y) (eqb e cmd_unknown) (rw named (by which refl)) (own which named)
+      where
+        by : (ch : Channel) → which ≡ ch → SameOwn which (with_invcom rs (Some ch)) (with_invcom ss (Some ch))
+        by channel.Controller e = own which named
+        by channel.Spi e = own which named
+        by channel.Gpio e = own which named
+        by (channel.Master i) e =
+            let mine : Own which (master i Status) = rw e (field_own i Status) in
+            subst (λ (v : ℕ). SameOwn which (store rs (master i Status) (bit_or (read rs (master i Status)) 32)) (store ss (master i Status) (bit_or v 32)))
+            (own_read which rs ss (own which named) (master i Status) mine) (stored_alike which named (master i Status) _ mine)
+        by channel.Seu e = own which named
+        by channel.Id e = own which named
+        by channel.Dac e = own which named
+
+    -- its own bytes
+    pub own_alike : SameOwn which (performed rs q) (performed ss q)
+    unfolding performed
+    own_alike =
+        rw (← decoded_alike) (decoded_cases rs q (λ d. SameOwn which (left_by rs q d) (left_by ss q d)) (λ f _. marked_alike (fault_bit f))
+        (λ given does g. let e : g.which ≡ which = cc (sym g.named ∙ named) in
+        subst (λ (ch : Channel). SameOwn ch (left rs q does) (left ss q does)) e (left_alike given does g)))
 
 -- ---- a request to another channel, but for the controller's, leaves a channel's own bytes
 
-module _ (rs : List ℕ) (n : length rs ≡ size) (q : Request) (c : ℕ) (other : channel_of q.ch ≡ channel_of c → ⊥)
-    (no_switch : channel_of q.ch ≡ channel.Controller → ⊥) where
-  abbrev asked : Channel
-  asked = channel_of q.ch
+module _ (rs : List ℕ) (n : length rs ≡ size) (q : Request) (c : ℕ) (ours : Channel) (its : channel_of c ≡ Some ours)
+    (other : channel_of q.ch ≡ Some ours → ⊥) (no_switch : channel_of q.ch ≡ Some channel.Controller → ⊥) where
+  module _ (asked : Channel) (named : channel_of q.ch ≡ Some asked) where
+    stored_elsewhere : (r : Register) (v : ℕ) → Own asked r → SameOwn ours (store rs r v) rs
+    stored_elsewhere r v mine = part_stays rs r v n (first ours) (many ours) (by (one_or_apart ours asked))
+      where
+        by : Twin ours asked ⊎ Apart (first ours) (many ours) (first asked) (many asked) → Apart (first ours) (many ours) (place r) (wide r)
+        by (inl e) = absurd (other (named ∙ ap Some (sym (canonical_number q.ch asked named) ∙ sym e.same ∙ canonical_number c ours its)))
+        by (inr a) = apart_own asked r mine (first ours) (many ours) a
 
-  abbrev ours : Channel
-  ours = channel_of c
-
-  stored_elsewhere : (r : Register) (v : ℕ) → Own asked r → SameOwn ours (store rs r v) rs
-  stored_elsewhere r v mine = part_stays rs r v n (first ours) (many ours) (by (one_or_apart ours asked))
-    where
-      by : Twin ours asked ⊎ Apart (first ours) (many ours) (first asked) (many asked) → Apart (first ours) (many ours) (place r) (wide r)
-      by (inl e) = absurd (other (sym (sym (canonical_number c) ∙ e.same ∙ canonical_number q.ch)))
-      by (inr a) = apart_own asked r mine (first ours) (many ours) a
-
-  written_elsewhere : (r : Register) (v : ℕ) (b : Bool) → (is_own asked r && leb switches (place r) && b) ≡ true → SameOwn ours (store rs r v) rs
-  written_elsewhere r v b h = stored_elsewhere r v (and_left (is_own asked r) _ (and_left (is_own asked r && leb switches (place r)) b h))
+    written_elsewhere : (r : Register) (v : ℕ) (b : Bool) → (is_own asked r && leb switches (place r) && b) ≡ true → SameOwn ours (store rs r v) rs
+    written_elsewhere r v b h = stored_elsewhere r v (and_left (is_own asked r) _ (and_left (is_own asked r && leb switches (place r)) b h))
 
   left_elsewhere : (given : ℕ) (does : Does) → Granted rs q given does → SameOwn ours (left rs q does) rs
-  left_elsewhere given (Write r) g = written_elsewhere r _ _ g.own
+  left_elsewhere given (Write r) g = written_elsewhere g.which g.named r _ _ g.own
   left_elsewhere given (Switch d) g =
       let r = register_of d in
-      absurd (no_switch (only_controller asked r (and_left (is_own asked r) _ g.own) (and_right (is_own asked r) _ g.own)))
+      absurd (no_switch (g.named ∙ ap Some (only_controller g.which r (and_left (is_own g.which r) _ g.own) (and_right (is_own g.which r) _ g.own))))
   left_elsewhere given (Read r) g = refl
-  left_elsewhere given (Clear r) g = written_elsewhere r 0 _ g.own
-  left_elsewhere given (Start r) g = written_elsewhere r q.trn _ g.own
-  left_elsewhere given (Transact i t) g = stored_elsewhere (master i Open) _ (rw (the_number asked i g.own) (field_own i Open))
+  left_elsewhere given (Clear r) g = written_elsewhere g.which g.named r 0 _ g.own
+  left_elsewhere given (Start r) g = written_elsewhere g.which g.named r q.trn _ g.own
+  left_elsewhere given (Transact i t) g = stored_elsewhere g.which g.named (master i Open) _ (rw (the_number g.which i g.own) (field_own i Open))
 
   marked_elsewhere : (e : ℕ) → SameOwn ours (marked rs q.ch e) rs
   unfolding marked
-  marked_elsewhere e = cond_cases (λ s. SameOwn ours s rs) (eqb e cmd_unknown) (λ _. by asked refl) (λ _. refl)
+  marked_elsewhere e = cond_cases (λ s. SameOwn ours s rs) (eqb e cmd_unknown) (λ _. by (channel_of q.ch) refl) (λ _. refl)
     where
-      by : (ch : Channel) → asked ≡ ch → SameOwn ours (with_invcom rs ch) rs
-      by channel.Controller h = refl
-      by channel.Spi h = refl
-      by channel.Gpio h = refl
-      by (channel.Master i) h = stored_elsewhere (master i Status) _ (rw h (field_own i Status))
-      by channel.Seu h = refl
-      by channel.Id h = refl
-      by channel.Dac h = refl
-      by channel.Unknown h = refl
+      by : (o : Option Channel) → channel_of q.ch ≡ o → SameOwn ours (with_invcom rs o) rs
+      by None h = refl
+      by (Some channel.Controller) h = refl
+      by (Some channel.Spi) h = refl
+      by (Some channel.Gpio) h = refl
+      by (Some (channel.Master i)) h = stored_elsewhere (channel.Master i) h (master i Status) _ (field_own i Status)
+      by (Some channel.Seu) h = refl
+      by (Some channel.Id) h = refl
+      by (Some channel.Dac) h = refl
 
   pub others_stay : SameOwn ours (performed rs q) rs
   unfolding performed
-  others_stay = decoded_cases rs q (λ d. SameOwn ours (left_by rs q d) rs) (λ e _. marked_elsewhere e) left_elsewhere
+  others_stay = decoded_cases rs q (λ d. SameOwn ours (left_by rs q d) rs) (λ f _. marked_elsewhere (fault_bit f)) left_elsewhere
 
 -- ---- A REQUEST CHANGES NOTHING BUT THE CORE AND ITS GROUP, and neither does what happens to a channel
 
 -- every byte behind the core, the ID first, that is not the group's
-abbrev pub SameOutside : Group → List ℕ → List ℕ → Type 0
+abbrev pub SameOutside : Option Control → List ℕ → List ℕ → Type 0
 SameOutside g ss rs = (p m : ℕ) → core_size ≤ p → Apart p m (begins g) (span_of g).many → part p m ss ≡ part p m rs
 
-grouped_apart : (g : Group) (r : Register) → grouped g r ≡ true → (p m : ℕ) → core_size ≤ p → Apart p m (begins g) (span_of g).many
+grouped_apart : (g : Option Control) (r : Register) → grouped g r ≡ true → (p m : ℕ) → core_size ≤ p → Apart p m (begins g) (span_of g).many
     → Apart p m (place r) (wide r)
 grouped_apart g r h p m l a = by (leb (end r) core_size) refl h
   where
@@ -1232,54 +1238,54 @@ grouped_apart g r h p m l a = by (leb (end r) core_size) refl h
         let i = both (leb (begins g) (place r)) (leb (end r) (ends g)) f in
         inside (leb-true (begins g) (place r) i.0, leb-true (end r) (ends g) i.1) a
 
-module _ (g : Group) (rs : List ℕ) (n : length rs ≡ size) where
+module _ (g : Option Control) (rs : List ℕ) (n : length rs ≡ size) where
   pub stored_outside : (r : Register) (v : ℕ) → grouped g r ≡ true → SameOutside g (store rs r v) rs
   stored_outside r v h p m l a = part_stays rs r v n p m (grouped_apart g r h p m l a)
 
 -- and then a store more
-also_outside : (g : Group) (rs ss : List ℕ) (r : Register) (v : ℕ) → length ss ≡ size → grouped g r ≡ true → SameOutside g ss rs → SameOutside g (store ss r v) rs
+also_outside : (g : Option Control) (rs ss : List ℕ) (r : Register) (v : ℕ) → length ss ≡ size → grouped g r ≡ true → SameOutside g ss rs → SameOutside g (store ss r v) rs
 also_outside g rs ss r v n h u p m l a = stored_outside g ss n r v h p m l a ∙ u p m l a
 
-front_grouped : (c : Control) (g : Group) → grouped g (register_of c) ≡ true
+front_grouped : (c : Control) (g : Option Control) → grouped g (register_of c) ≡ true
 front_grouped B g = refl
 front_grouped C g = refl
 front_grouped D g = refl
 
 module _ (rs : List ℕ) (n : length rs ≡ size) where
-  switched_outside : (c : Control) (v : ℕ) → SameOutside (Switched c) (settled c (written rs (register_of c) v)) rs
+  switched_outside : (c : Control) (v : ℕ) → SameOutside (Some c) (settled c (written rs (register_of c) v)) rs
   switched_outside c v =
-      settled_keeps c (λ s. SameOutside (Switched c) s rs)
-      (λ k s m d u p w l a. held_cases (channel_of k) s m (λ t. part p w t ≡ part p w rs) (u p w l a)
-      (zeroed_apart (first (channel_of k)) (many (channel_of k)) s (room (channel_of k) s m) p w (outside k d p w a) ∙ u p w l a))
-      (written rs (register_of c) v) (length_store rs (register_of c) _ n) (stored_outside (Switched c) rs n (register_of c) _ (front_grouped c (Switched c)))
+      settled_keeps c (λ s. SameOutside (Some c) s rs)
+      (λ k s m d u p w l a. held_cases k s m (λ t. part p w t ≡ part p w rs) (u p w l a)
+      (zeroed_apart (first k) (many k) s (room k s m) p w (outside k d p w a) ∙ u p w l a))
+      (written rs (register_of c) v) (length_store rs (register_of c) _ n) (stored_outside (Some c) rs n (register_of c) _ (front_grouped c (Some c)))
     where
-      outside : (k : ℕ) → Dropper c k → (p w : ℕ) → Apart p w (begins (Switched c)) (span_of (Switched c)).many
-          → Apart p w (first (channel_of k)) (many (channel_of k))
+      outside : (k : Channel) → Dropper c k → (p w : ℕ) → Apart p w (begins (Some c)) (span_of (Some c)).many → Apart p w (first k) (many k)
       outside k d p w (inl b) = let f = d.from in inl (omega arith)
       outside k d p w (inr b) = let f = d.to in inr (omega arith)
 
   module _ (q : Request) where
     -- what the tables say of it
-    its_group : (given : ℕ) (does : Does) → Granted rs q given does → by_does (row_of (channel_of q.ch)).group does ≡ group_for q
+    its_group : (given : ℕ) (does : Does) (g : Granted rs q given does) → by_does (row_of g.which).group does ≡ group_for q
     unfolding group_for
-    its_group given does g = ap (by_command (row_of (channel_of q.ch)).group) (sym g.command)
+    its_group given does g =
+        sym (ap (option_and_then (λ (ch : Channel). by_command (row_of ch).group (command_of ch q.cmd))) g.named ∙ ap (by_command (row_of g.which).group) g.command)
 
-    left_outside : (given : ℕ) (does : Does) → Granted rs q given does → SameOutside (by_does (row_of (channel_of q.ch)).group does) (left rs q does) rs
-    left_outside given (Write r) g = stored_outside (row_of (channel_of q.ch)).group rs n r _ g.changed
+    left_outside : (given : ℕ) (does : Does) (g : Granted rs q given does) → SameOutside (by_does (row_of g.which).group does) (left rs q does) rs
+    left_outside given (Write r) g = stored_outside (row_of g.which).group rs n r _ g.changed
     left_outside given (Switch c) g = switched_outside c q.value
     left_outside given (Read r) g = λ p m l a. refl
-    left_outside given (Clear r) g = stored_outside (row_of (channel_of q.ch)).group rs n r 0 g.changed
-    left_outside given (Start r) g = stored_outside (row_of (channel_of q.ch)).group rs n r q.trn g.changed
-    left_outside given (Transact i t) g = stored_outside (row_of (channel_of q.ch)).group rs n (master i Open) _ g.changed
+    left_outside given (Clear r) g = stored_outside (row_of g.which).group rs n r 0 g.changed
+    left_outside given (Start r) g = stored_outside (row_of g.which).group rs n r q.trn g.changed
+    left_outside given (Transact i t) g = stored_outside (row_of g.which).group rs n (master i Open) _ g.changed
 
     -- a master's unknown command is of its group
     marked_outside : (e : ℕ) → Refused rs q e → SameOutside (group_for q) (marked rs q.ch e) rs
     unfolding marked group_for
     marked_outside e r =
-        cond_cases (λ s. SameOutside (group_for q) s rs) (eqb e cmd_unknown) (λ h. rw (r.unknown (eqb-true e cmd_unknown h)) (by (channel_of q.ch)))
-        (λ _ p m l a. refl)
+        cond_cases (λ s. SameOutside (group_for q) s rs) (eqb e cmd_unknown)
+        (λ h. let u = r.unlisted (eqb-true e cmd_unknown h) in rw (u.named, u.unknown) (by u.which)) (λ _ p m l a. refl)
       where
-        by : (ch : Channel) → SameOutside (row_of ch).group (with_invcom rs ch) rs
+        by : (ch : Channel) → SameOutside (row_of ch).group (with_invcom rs (Some ch)) rs
         by channel.Controller = λ p m l a. refl
         by channel.Spi = λ p m l a. refl
         by channel.Gpio = λ p m l a. refl
@@ -1287,33 +1293,32 @@ module _ (rs : List ℕ) (n : length rs ≡ size) where
         by channel.Seu = λ p m l a. refl
         by channel.Id = λ p m l a. refl
         by channel.Dac = λ p m l a. refl
-        by channel.Unknown = λ p m l a. refl
 
     pub performed_outside : SameOutside (group_for q) (performed rs q) rs
     unfolding performed
     performed_outside =
-        decoded_cases rs q (λ d. SameOutside (group_for q) (left_by rs q d) rs) marked_outside
-        (λ given does g. subst (λ (k : Group). SameOutside k (left rs q does) rs) (its_group given does g) (left_outside given does g))
+        decoded_cases rs q (λ d. SameOutside (group_for q) (left_by rs q d) rs) (λ f. marked_outside (fault_bit f))
+        (λ given does g. subst (λ (k : Option Control). SameOutside k (left rs q does) rs) (its_group given does g) (left_outside given does g))
 
-  pub sampled_outside : (levels kind : ℕ) → SameOutside (Switched B) (sampled rs levels kind) rs
+  pub sampled_outside : (levels kind : ℕ) → SameOutside (Some B) (sampled rs levels kind) rs
   unfolding sampled
   sampled_outside levels kind =
-      let taken = stored_outside (Switched B) rs n Datain (datain_after rs levels kind) refl in
-      cond_cases (λ s. SameOutside (Switched B) s rs) (interrupts rs levels kind)
-      (λ _. also_outside (Switched B) rs _ Ints (firing_lines rs (datain_after rs levels kind)) (length_store rs Datain _ n) refl taken) (λ _. taken)
+      let taken = stored_outside (Some B) rs n Datain (datain_after rs levels kind) refl in
+      cond_cases (λ s. SameOutside (Some B) s rs) (interrupts rs levels kind)
+      (λ _. also_outside (Some B) rs _ Ints (firing_lines rs (datain_after rs levels kind)) (length_store rs Datain _ n) refl taken) (λ _. taken)
 
-  pub completed_outside : (received : List ℕ) → SameOutside (Switched B) (completed rs received) rs
+  pub completed_outside : (received : List ℕ) → SameOutside (Some B) (completed rs received) rs
   unfolding completed with_data
   completed_outside received =
       let n0 = length_store rs SpiData0 _ n in
       let n1 = length_store _ SpiData1 _ n0 in
       let n2 = length_store _ SpiData2 _ n1 in
       let n3 = length_store _ SpiData3 _ n2 in
-      let u0 = stored_outside (Switched B) rs n SpiData0 _ refl in
-      let u1 = also_outside (Switched B) rs _ SpiData1 _ n0 refl u0 in
-      let u2 = also_outside (Switched B) rs _ SpiData2 _ n1 refl u1 in
-      let u3 = also_outside (Switched B) rs _ SpiData3 _ n2 refl u2 in
-      also_outside (Switched B) rs _ SpiGo 0 n3 refl u3
+      let u0 = stored_outside (Some B) rs n SpiData0 _ refl in
+      let u1 = also_outside (Some B) rs _ SpiData1 _ n0 refl u0 in
+      let u2 = also_outside (Some B) rs _ SpiData2 _ n1 refl u1 in
+      let u3 = also_outside (Some B) rs _ SpiData3 _ n2 refl u2 in
+      also_outside (Some B) rs _ SpiGo 0 n3 refl u3
 
   pub ended_outside : (i : ℕ) (t : Transaction) (acknowledge low : Bool) (received : List ℕ)
       → SameOutside (master_group i) (ended i t acknowledge low received rs) rs
@@ -1335,5 +1340,5 @@ module _ (rs : List ℕ) (n : length rs ≡ size) where
       also_outside g rs _ (master i Data3) _ n4 (field_grouped i Data3) u4)
       (λ _. u1)
 
-  pub upset_outside : (v : ℕ) → SameOutside Nothing (store rs Seu v) rs
-  upset_outside v = stored_outside Nothing rs n Seu v refl
+  pub upset_outside : (v : ℕ) → SameOutside None (store rs Seu v) rs
+  upset_outside v = stored_outside None rs n Seu v refl

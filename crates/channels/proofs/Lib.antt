@@ -1,4 +1,4 @@
--- Owners: what all rows have. Cases: what code finds. Laws: for what stands above.
+-- Owners: what all rows have. Cases: what a command switches, what is held. Laws: for what stands above.
 pub mod Owners
 pub mod Cases
 pub mod Laws

@@ -9,17 +9,17 @@ use mathlib.Core.Path.{◌≡◌, refl, sym, ap, ap₂, ◌∙◌}
 use native.Mathlib.Omega.{arith}
 use borrow.Author.Tests.{leb-true, leb-false, le-leb, lt-ltb, le-ltb, ltb-true, ltb-false, eq-eqb, eqb-true}
 use lib.Dec.{eqb, leb, ltb, lit<, lit≤}
+use Rattle.std.specs.Prelude.{Option, Some, None}
 use Rattle.bits.specs.Table.{look}
 use Rattle.bits.proofs.Tests.{and_left, and_right, le_or_le, cond_cases}
 use Rattle.parts.proofs.Laws.{Apart}
 use Rattle.commands.specs.declared.channel.Channel.{Channel}
-use Rattle.commands.specs.declared.channel.Channel.TheVariants.{Controller, Spi, Gpio, Master, Seu, Id, Dac, Unknown}
+use Rattle.commands.specs.declared.channel.Channel.TheVariants.{Controller, Spi, Gpio, Master, Seu, Id, Dac}
 use Rattle.bits.proofs.Rows.{every, look_every}
 use Rattle.commands.specs.Channels.{channels, is_master, channel_of, commands_of, command_of}
 use Rattle.commands.specs.I2c.{i2c_commands}
 use Rattle.commands.specs.Command.{code_of}
 use Rattle.commands.specs.declared.command.Command.{Command}
-use Rattle.commands.specs.declared.command.Command.TheVariants as command
 use Rattle.commands.specs.declared.command.Does.{Does}
 use Rattle.commands.specs.declared.command.Control.{Control}
 use Rattle.commands.specs.declared.command.Control.TheVariants.{B, C, D}
@@ -35,12 +35,7 @@ use Rattle.registers.specs.Registers.{size, bank}
 use Rattle.registers.proofs.Rows.{place, wide, end, apart, bank_from, bank_to, among, or_any, is_open, open_apart}
 use Rattle.channels.specs.Rows.{master_control, master_bit, master_group, row_of, register_of, dropping}
 use Rattle.channels.specs.Groups.{core_size, span_of}
-use Rattle.channels.specs.declared.groups.Group.{Group}
-use Rattle.channels.specs.declared.groups.Group.TheVariants.{Nothing, Switched}
-use Rattle.channels.specs.declared.rows.Busy.{Busy}
-use Rattle.channels.specs.declared.rows.Busy.TheVariants as busy
 use Rattle.channels.specs.declared.rows.Switch.{Switch}
-use Rattle.channels.specs.declared.rows.Switch.TheVariants.{Always, Never, Bit}
 
 -- a channel's first byte, how many it has, and where another's may start
 abbrev pub first : Channel → ℕ
@@ -63,14 +58,13 @@ Own ch r = is_own ch r ≡ true
 abbrev pub switches : ℕ
 switches = 3
 
-abbrev pub switched_by : Switch → Bool
-switched_by Always = true
-switched_by Never = true
-switched_by (Bit c bit) = is_own Controller (register_of c)
+abbrev pub switched_by : Option Switch → Bool
+switched_by None = true
+switched_by (Some switch) = is_own Controller (register_of switch.control)
 
-abbrev pub busy_by : Channel → Busy → Bool
-busy_by ch busy.Never = true
-busy_by ch (busy.While r) = is_own ch r
+abbrev pub busy_by : Channel → Option Register → Bool
+busy_by ch None = true
+busy_by ch (Some r) = is_own ch r
 
 -- a master's number counts modulo 16
 abbrev pub canonical : Channel → Channel
@@ -81,7 +75,6 @@ canonical (Master i) = Master (i % 16)
 canonical Seu = Seu
 canonical Id = Id
 canonical Dac = Dac
-canonical Unknown = Unknown
 
 -- whose a byte is
 abbrev pub owner_at : ℕ → Channel
@@ -127,7 +120,6 @@ bounds (Master i) = master_bounded i
 bounds Seu = refl
 bounds Id = refl
 bounds Dac = refl
-bounds Unknown = refl
 
 owned_master : (i p : ℕ) → bank i ≤ p → p < bank i + 21 → owner_at p ≡ Master (i % 16)
 unfolding bank
@@ -160,7 +152,6 @@ owned Gpio p l u =
       lt-ltb p 70 (omega arith),
     )
 owned (Master i) p l u = owned_master i p l u
-owned Unknown p l u = absurd (omega arith)
 
 -- ---- for every channel
 
@@ -209,7 +200,6 @@ first_again (Master i) = ap (λ (m : ℕ). 70 + 21 * m) (again i)
 first_again Seu = refl
 first_again Id = refl
 first_again Dac = refl
-first_again Unknown = refl
 
 many_again : (ch : Channel) → many (canonical ch) ≡ many ch
 many_again Controller = refl
@@ -219,7 +209,6 @@ many_again (Master i) = refl
 many_again Seu = refl
 many_again Id = refl
 many_again Dac = refl
-many_again Unknown = refl
 
 switch_again : (ch : Channel) → (row_of (canonical ch)).switch ≡ (row_of ch).switch
 unfolding master_control master_bit
@@ -230,7 +219,6 @@ switch_again (Master i) = simp (again i)
 switch_again Seu = refl
 switch_again Id = refl
 switch_again Dac = refl
-switch_again Unknown = refl
 
 twin : (j k : Channel) → canonical j ≡ canonical k → Twin j k
 twin j k e =
@@ -256,8 +244,8 @@ one_or_apart j k = by (leb (last j) (first k)) (leb (last k) (first j)) refl ref
     by false true e f = inr (inr (leb-true _ _ f))
     by false false e f = inl (meet (leb (first j) (first k)) refl (leb-false _ _ e) (leb-false _ _ f))
 
-abbrev Named : Channel → Type 0
-Named ch = canonical ch ≡ ch
+abbrev Named : Option Channel → Type 0
+Named o = (ch : Channel) → o ≡ Some ch → canonical ch ≡ ch
 
 abbrev number_of : Channel → ℕ
 number_of Controller = 0
@@ -267,29 +255,32 @@ number_of (Master i) = i
 number_of Seu = 0
 number_of Id = 0
 number_of Dac = 0
-number_of Unknown = 0
 
 -- the channel of a number is named by its own number
-pub canonical_number : (c : ℕ) → canonical (channel_of c) ≡ channel_of c
+pub canonical_number : (c : ℕ) (ch : Channel) → channel_of c ≡ Some ch → canonical ch ≡ ch
 unfolding channel_of
 canonical_number c = cond_cases Named (is_master c) masters others
   where
-    masters : is_master c ≡ true → canonical (Master (c - 3)) ≡ Master (c - 3)
+    at : (k : Channel) → canonical k ≡ k → Named (Some k)
+    at k h ch e = let f : k ≡ ch = cc in rw (← f) h
+
+    masters : is_master c ≡ true → Named (Some (Master (c - 3)))
     masters h =
         let l = leb-true 3 c (and_left (leb 3 c) (leb c 18) h) in
         let u = leb-true c 18 (and_right (leb 3 c) (leb c 18) h) in
         let e : (c - 3) % 16 ≡ c - 3 = omega arith in
-        ap Master e
+        at (Master (c - 3)) (ap Master e)
 
-    others : is_master c ≡ false → canonical (look channels Unknown c) ≡ look channels Unknown c
+    others : is_master c ≡ false → Named (look channels None c)
     others h =
-        cond_cases Named (eqb c 0) (λ _. refl) (λ _. cond_cases Named (eqb c 1) (λ _. refl) (λ _. cond_cases Named (eqb c 2) (λ _. refl)
-        (λ _. cond_cases Named (eqb c 19) (λ _. refl) (λ _. cond_cases Named (eqb c 20) (λ _. refl) (λ _. cond_cases Named (eqb c 21) (λ _. refl) (λ _. refl))))))
+        cond_cases Named (eqb c 0) (λ _. at Controller refl) (λ _. cond_cases Named (eqb c 1) (λ _. at Spi refl) (λ _. cond_cases Named (eqb c 2) (λ _. at Gpio refl)
+        (λ _. cond_cases Named (eqb c 19) (λ _. at Seu refl) (λ _. cond_cases Named (eqb c 20) (λ _. at Id refl)
+        (λ _. cond_cases Named (eqb c 21) (λ _. at Dac refl) (λ _ ch e. absurd (cc)))))))
 
 -- and a master's is below 16
-pub below_16 : (c i : ℕ) → channel_of c ≡ Master i → i < 16
+pub below_16 : (c i : ℕ) → channel_of c ≡ Some (Master i) → i < 16
 below_16 c i e =
-    let m : i % 16 ≡ i = ap number_of (ap canonical (sym e) ∙ canonical_number c ∙ e) in
+    let m : i % 16 ≡ i = ap number_of (canonical_number c (Master i) e) in
     omega arith
 
 -- ---- the bytes of a register of a channel's own
@@ -315,7 +306,6 @@ lone (Master i) = false
 lone Seu = true
 lone Id = true
 lone Dac = true
-lone Unknown = true
 
 pub lone_again : (ch : Channel) → lone (canonical ch) ≡ lone ch
 lone_again Controller = refl
@@ -325,7 +315,6 @@ lone_again (Master i) = refl
 lone_again Seu = refl
 lone_again Id = refl
 lone_again Dac = refl
-lone_again Unknown = refl
 
 -- every other channel is a master
 pub record IsMaster (ch : Channel) : Type 0 where
@@ -340,7 +329,6 @@ lone_or_master (Master i) = inr (record { index = i; named = refl })
 lone_or_master Seu = inl refl
 lone_or_master Id = inl refl
 lone_or_master Dac = inl refl
-lone_or_master Unknown = inl refl
 
 -- a register of the controller's is no other channel's
 pub only_controller : (ch : Channel) (r : Register) → Own ch r → Own Controller r → ch ≡ Controller
@@ -365,14 +353,13 @@ only_controller ch r a b =
     by Seu e = e
     by Id e = e
     by Dac e = e
-    by Unknown e = e
 
 -- ---- what a command touches is its channel's own, and only a controller's command switches
 
 -- what makes a channel busy is not a register's
-abbrev pub spares : Busy → Register → Bool
-spares busy.Never r = true
-spares (busy.While b) r = apart b r
+abbrev pub spares : Option Register → Register → Bool
+spares None r = true
+spares (Some b) r = apart b r
 
 abbrev pub is_number : Channel → ℕ → Bool
 is_number Controller i = false
@@ -382,7 +369,6 @@ is_number (Master j) i = eqb j i
 is_number Seu i = false
 is_number Id i = false
 is_number Dac i = false
-is_number Unknown i = false
 
 pub the_number : (ch : Channel) (i : ℕ) → is_number ch i ≡ true → ch ≡ Master i
 the_number Controller i h = absurd (false≢true h)
@@ -392,7 +378,6 @@ the_number (Master j) i h = ap Master (eqb-true j i h)
 the_number Seu i h = absurd (false≢true h)
 the_number Id i h = absurd (false≢true h)
 the_number Dac i h = absurd (false≢true h)
-the_number Unknown i h = absurd (false≢true h)
 
 abbrev pub touches : Channel → Does → Bool
 touches ch (Write r) = is_own ch r && leb switches (place r) && spares (row_of ch).busy r
@@ -403,17 +388,17 @@ touches ch (Start r) = is_own ch r && leb switches (place r) && lone ch
 touches ch (Transact i transaction) = is_number ch i
 
 -- a group's first byte, and where another's may start
-abbrev pub begins : Group → ℕ
+abbrev pub begins : Option Control → ℕ
 begins g = (span_of g).first
 
-abbrev pub ends : Group → ℕ
+abbrev pub ends : Option Control → ℕ
 ends g = begins g + (span_of g).many
 
 -- a register of the core, but for the ID, or of a group
-abbrev pub grouped : Group → Register → Bool
+abbrev pub grouped : Option Control → Register → Bool
 grouped g r = leb (end r) core_size || leb (begins g) (place r) && leb (end r) (ends g)
 
-abbrev pub changes : Group → Does → Bool
+abbrev pub changes : Option Control → Does → Bool
 changes g (Write r) = grouped g r
 changes g (Switching c) = true
 changes g (Read r) = true
@@ -422,9 +407,9 @@ changes g (Start r) = grouped g r
 changes g (Transact i transaction) = grouped g (master i Open)
 
 -- and its reply's LEN is a byte
-abbrev pub proper : Channel → Command → Bool
-proper ch (command.Known l does) = ltb l.given 256 && touches ch does && changes (row_of ch).group does
-proper ch command.Unknown = true
+abbrev pub proper : Channel → Option Command → Bool
+proper ch None = true
+proper ch (Some command) = ltb command.lengths.given 256 && touches ch command.does && changes (row_of ch).group command.does
 
 -- the masters' registers are of their group
 module _ (i : ℕ) where
@@ -433,7 +418,7 @@ module _ (i : ℕ) where
   master_span = by (ltb (i % 16) 5) (ltb (i % 16) 13) refl refl
     where
       by : (s t : Bool) → ltb (i % 16) 5 ≡ s → ltb (i % 16) 13 ≡ t
-          → (begins (Switched (cond s B (cond t C D))) ≤ 70 + 21 * (i % 16)) × (70 + 21 * (i % 16) + 21 ≤ ends (Switched (cond s B (cond t C D))))
+          → (begins (Some (cond s B (cond t C D))) ≤ 70 + 21 * (i % 16)) × (70 + 21 * (i % 16) + 21 ≤ ends (Some (cond s B (cond t C D))))
       by true t e f = let l = ltb-true (i % 16) 5 e in (omega arith, omega arith)
       by false true e f = let l = ltb-false (i % 16) 5 e in let m = ltb-true (i % 16) 13 f in (omega arith, omega arith)
       by false false e f = let l = ltb-false (i % 16) 13 f in (omega arith, omega arith)
@@ -499,63 +484,62 @@ tables (Master i) = master_table i
 tables Seu = refl
 tables Id = refl
 tables Dac = refl
-tables Unknown = refl
 
 pub commands_proper : (ch : Channel) (cmd : ℕ) → proper ch (command_of ch cmd) ≡ true
 unfolding code_of
-commands_proper ch cmd = look_every (proper ch) (commands_of ch) command.Unknown cmd (tables ch) refl
+commands_proper ch cmd = look_every (proper ch) (commands_of ch) None cmd (tables ch) refl
 
 -- ---- the channels that drop their registers: these stand behind the core, in the group that their switch is of
 
 abbrev pub behind_core : ℕ
-behind_core = begins Nothing
+behind_core = begins None
 
-abbrev pub dropped : ℕ → Bool
-dropped c = leb behind_core (first (channel_of c))
+abbrev pub dropped : Channel → Bool
+dropped ch = leb behind_core (first ch)
 
-abbrev pub is_by : Control → Switch → Bool
-is_by c Always = false
-is_by c Never = false
-is_by B (Bit B bit) = true
-is_by B (Bit C bit) = false
-is_by B (Bit D bit) = false
-is_by C (Bit B bit) = false
-is_by C (Bit C bit) = true
-is_by C (Bit D bit) = false
-is_by D (Bit B bit) = false
-is_by D (Bit C bit) = false
-is_by D (Bit D bit) = true
+abbrev pub is_control : Control → Control → Bool
+is_control B B = true
+is_control B C = false
+is_control B D = false
+is_control C B = false
+is_control C C = true
+is_control C D = false
+is_control D B = false
+is_control D C = false
+is_control D D = true
 
-abbrev pub dropped_by : Control → ℕ → Bool
-dropped_by d c =
-    dropped c && is_by d (row_of (channel_of c)).switch && (leb (begins (Switched d)) (first (channel_of c)) && leb (last (channel_of c)) (ends (Switched d)))
+abbrev pub is_by : Control → Option Switch → Bool
+is_by c None = false
+is_by c (Some switch) = is_control c switch.control
 
-abbrev pub all : (ℕ → Bool) → List ℕ → Bool
+abbrev pub dropped_by : Control → Channel → Bool
+dropped_by d ch = dropped ch && is_by d (row_of ch).switch && (leb (begins (Some d)) (first ch) && leb (last ch) (ends (Some d)))
+
+abbrev pub all : (Channel → Bool) → List Channel → Bool
 all f [] = true
-all f (c ∷ cs) = f c && all f cs
+all f (ch ∷ chs) = f ch && all f chs
 
 pub all_dropped : (d : Control) → all (dropped_by d) (dropping d) ≡ true
-unfolding channel_of bank master_control
+unfolding bank master_control
 all_dropped B = refl
 all_dropped C = refl
 all_dropped D = refl
 
-pub record Dropper (d : Control) (c : ℕ) : Type 0 where
-  pub behind : behind_core ≤ first (channel_of c)
-  pub switched : is_by d (row_of (channel_of c)).switch ≡ true
-  pub from : begins (Switched d) ≤ first (channel_of c)
-  pub to : last (channel_of c) ≤ ends (Switched d)
+pub record Dropper (d : Control) (ch : Channel) : Type 0 where
+  pub behind : behind_core ≤ first ch
+  pub switched : is_by d (row_of ch).switch ≡ true
+  pub from : begins (Some d) ≤ first ch
+  pub to : last ch ≤ ends (Some d)
 
-pub dropper : (d : Control) (c : ℕ) → dropped_by d c ≡ true → Dropper d c
-dropper d c h =
-    let ch = channel_of c in
-    let front : Bool = dropped c && is_by d (row_of ch).switch in
+pub dropper : (d : Control) (ch : Channel) → dropped_by d ch ≡ true → Dropper d ch
+dropper d ch h =
+    let front : Bool = dropped ch && is_by d (row_of ch).switch in
     let span = and_right front _ h in
     record {
-      behind = leb-true behind_core (first ch) (and_left (dropped c) _ (and_left front _ h));
-      switched = and_right (dropped c) _ (and_left front _ h);
-      from = leb-true (begins (Switched d)) (first ch) (and_left (leb (begins (Switched d)) (first ch)) _ span);
-      to = leb-true (last ch) (ends (Switched d)) (and_right (leb (begins (Switched d)) (first ch)) _ span);
+      behind = leb-true behind_core (first ch) (and_left (dropped ch) _ (and_left front _ h));
+      switched = and_right (dropped ch) _ (and_left front _ h);
+      from = leb-true (begins (Some d)) (first ch) (and_left (leb (begins (Some d)) (first ch)) _ span);
+      to = leb-true (last ch) (ends (Some d)) (and_right (leb (begins (Some d)) (first ch)) _ span);
     }
 
 -- the registers of the controller stand in front, one behind the other

@@ -3,6 +3,8 @@ use Rattle.std.specs.Prelude.{ℕ, ◌+◌, ◌%◌, ◌^◌, ◌<◌, Bool, not
 use Rattle.std.specs.Int.Bits.{bit_and}
 use Rattle.commands.specs.declared.channel.Channel.TheVariants as channel
 use Rattle.commands.specs.Field.{Status, master}
+use Rattle.commands.specs.declared.command.Control.{Control}
+use Rattle.commands.specs.declared.command.Control.TheVariants.{B, C, D}
 use Rattle.commands.specs.declared.command.Register.TheVariants.{Crb, Crc, Crd}
 use Rattle.registers.specs.Registers.{read, is_within}
 use Rattle.channels.specs.Rows.{is_enabled, still_held}
@@ -14,6 +16,17 @@ master_sound rs i = is_within rs (master i Status) && (still_held rs (channel.Ma
 -- no master is enabled
 abbrev pub none_on : List ℕ → Bool
 none_on rs = ltb (read rs Crb) 8 && eqb (read rs Crc) 0 && eqb (read rs Crd % 8) 0
+
+-- the masters that a register of the controller's switches: so many, from the first on
+abbrev pub first_by : Control → ℕ
+first_by B = 0
+first_by C = 5
+first_by D = 13
+
+abbrev pub many_by : Control → ℕ
+many_by B = 5
+many_by C = 8
+many_by D = 3
 
 -- bit k of a number enables the k-th of so many masters, from the first on
 abbrev pub Enables : List ℕ → ℕ → ℕ → ℕ → Type 0

@@ -1,9 +1,8 @@
 -- The open starts of the masters: what one has to be, so that its completion has a reply.
-use Rattle.std.specs.Prelude.{ℕ, ◌/◌, ◌%◌, Bool, false, not, ◌&&◌, ◌||◌, List, eqb}
+use Rattle.std.specs.Prelude.{ℕ, ◌/◌, ◌%◌, Bool, false, not, ◌&&◌, ◌||◌, List, eqb, Option, Some, None}
 use Rattle.commands.specs.Channels.{command_of}
 use Rattle.commands.specs.declared.channel.Channel.TheVariants as channel
 use Rattle.commands.specs.declared.command.Command.{Command}
-use Rattle.commands.specs.declared.command.Command.TheVariants.{Known, Unknown}
 use Rattle.commands.specs.declared.command.Does.{Does}
 use Rattle.commands.specs.declared.command.Does.TheVariants.{Write, Switch, Read, Clear, Start, Transact}
 use Rattle.commands.specs.Field.{Ctrl, Open, master}
@@ -27,9 +26,9 @@ start_does control (Clear r) = false
 start_does control (Start r) = false
 start_does control (Transact i transaction) = allows control transaction
 
-abbrev pub is_start : ℕ → Command → Bool
-is_start control Unknown = false
-is_start control (Known l does) = start_does control does
+abbrev pub is_start : ℕ → Option Command → Bool
+is_start control None = false
+is_start control (Some command) = start_does control command.does
 
 -- Not one of these: exactly one of the open start's TRN and code 0; a code other than 0 that is no start; an open multi-byte start with NBYTE
 -- outside 1 to 16. (0 is no start's code.)

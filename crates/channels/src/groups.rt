@@ -1,19 +1,13 @@
-// A group is the registers that are held at 0 while CRB, CRC or CRD disables their channel; all others are the core's. A request may change the
-// core, and the registers of one group or of none.
+// A group is the registers that are held at 0 while CRB, CRC or CRD disables their channel, and goes by what switches them; all others are the
+// core's. A request may change the core, and the registers of one group or of none.
 ghost use Rattle.std.specs.Prelude.{◌≡◌};
-ghost use Rattle.channels.specs.Groups.{by_does, by_command, group_for};
+ghost use Rattle.channels.specs.Groups.{span_of, by_does, group_for};
 
 use crate::rows;
 use commands::channel;
 use commands::channel::Channel;
-use commands::command::{Command, Control, Does};
+use commands::command::{Control, Does};
 use commands::request::Request;
-
-#[derive(Clone, Copy)]
-pub enum Group {
-    Nothing,
-    Switched(Control),
-}
 
 // So many bytes among the registers, from a place on.
 #[derive(Clone, Copy)]
@@ -25,58 +19,48 @@ pub struct Span {
 // The bytes of the core but for the ID, which stands behind them.
 pub const CORE_SIZE: usize = 11;
 
-// The bytes of each group. NOTHING has none; its place is behind the core, where the first group starts.
-pub const NOTHING: Span = Span { first: 15, many: 0 };
-
-pub const OF_B: Span = Span {
-    first: 15,
-    many: 160,
-};
-
-pub const OF_C: Span = Span {
-    first: 175,
-    many: 168,
-};
-
-pub const OF_D: Span = Span {
-    first: 343,
-    many: 63,
-};
-
 // The most bytes of a group.
 pub const SPAN_MOST: usize = 168;
 
-fn by_does(group: Group, does: Does) -> Group
-    ensures { result ≡ by_does group does }
+// The bytes of a group. Where there is none, their place is behind the core, where the first group starts.
+pub fn span_of(group: Option<Control>) -> Span
+    ensures { result ≡ span_of group }
 {
-    match does {
-        Does::Write(_) => group,
-        Does::Switch(control) => Group::Switched(control),
-        Does::Read(_) => group,
-        Does::Clear(_) => group,
-        Does::Start(_) => group,
-        Does::Transact(_, _) => group,
+    match group {
+        None => Span { first: 15, many: 0 },
+        Some(Control::B) => Span {
+            first: 15,
+            many: 160,
+        },
+        Some(Control::C) => Span {
+            first: 175,
+            many: 168,
+        },
+        Some(Control::D) => Span {
+            first: 343,
+            many: 63,
+        },
     }
 }
 
-fn by_command(group: Group, command: Command) -> Group
-    ensures { result ≡ by_command group command }
+fn by_does(group: Option<Control>, does: Does) -> Option<Control>
+    ensures { result ≡ by_does group does }
 {
-    match command {
-        Command::Unknown => group,
-        Command::Known(_, does) => by_does(group, does),
+    match does {
+        Does::Switch(control) => Some(control),
+        _ => group,
     }
 }
 
 // The group that a request may change, whatever its answer is. Only the controller's commands switch, so that only they are looked up.
-pub fn group_for(q: Request) -> Group
+#[tactic(auto, using(crate::proofs::Cases::others_group), unfolding(crate::specs::Groups::group_for))]
+pub fn group_for(q: Request) -> Option<Control>
     ensures { result ≡ group_for q }
 {
-    let which = channel::channel_of(q.ch);
-    let row = rows::row_of(which);
-    let group = row.group;
+    let which = channel::channel_of(q.ch)?;
+    let own = rows::row_of(which).group;
     match which {
-        Channel::Controller => by_command(group, channel::command_of(Channel::Controller, q.cmd)),
-        _ => group,
+        Channel::Controller => by_does(own, channel::command_of(which, q.cmd)?.does),
+        _ => own,
     }
 }

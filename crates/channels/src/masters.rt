@@ -3,36 +3,24 @@ ghost use Rattle.std.specs.Prelude.{◌≡◌, length, ◌+◌, ◌≤◌};
 ghost use Rattle.commands.specs.declared.channel.Channel.TheVariants as Channel;
 ghost use Rattle.registers.specs.Registers.{size, each, each_master};
 ghost use Rattle.channels.specs.Rows.{is_enabled};
-ghost use Rattle.channels.specs.Starts.{start_does, is_start, open_sound};
-ghost use Rattle.channels.specs.Inner.{master_sound, none_on, Enables};
+ghost use Rattle.channels.specs.Starts.{start_does, open_sound};
+ghost use Rattle.channels.specs.Inner.{master_sound, none_on, first_by, many_by, Enables};
 
 use commands::channel;
 use commands::channel::Channel;
-use commands::command::{Command, Does, Register};
+use commands::command::{Control, Does, Register};
 use registers::{FIRST_MASTER, MASTER_BYTES, SIZE, are_zero, bank, i2c, read};
 
 fn start_does(control: u32, does: Does) -> bool
     ensures { result ≡ start_does control does }
 {
     match does {
-        Does::Write(_) => false,
-        Does::Switch(_) => false,
-        Does::Read(_) => false,
-        Does::Clear(_) => false,
-        Does::Start(_) => false,
         Does::Transact(_, transaction) => i2c::allows(control, transaction),
+        _ => false,
     }
 }
 
-fn is_start(control: u32, command: Command) -> bool
-    ensures { result ≡ is_start control command }
-{
-    match command {
-        Command::Unknown => false,
-        Command::Known(_, does) => start_does(control, does),
-    }
-}
-
+#[tactic(auto, unfolding(crate::specs::Starts::open_sound))]
 fn is_open_sound(registers: &[u8], index: u8) -> bool
     requires { length registers.now ≡ size }
     ensures { result ≡ open_sound registers.now index }
@@ -46,10 +34,14 @@ fn is_open_sound(registers: &[u8], index: u8) -> bool
     }
     let control = read(registers, Register::I2cCtrl(index));
     let code = ((open / 0x100) % 0x100) as u8;
-    is_start(control, channel::command_of(Channel::Master(index), code))
+    channel::command_of(Channel::Master(index), code).is_some_and(|command| start_does(
+        control,
+        command.does,
+    ))
 }
 
 // A disabled master that holds zeros has nothing else to be looked at.
+#[tactic(auto, using(crate::proofs::Laws::one_master))]
 fn is_sound(registers: &[u8], index: u8, on: bool) -> bool
     requires registers_len { length registers.now ≡ size }
     requires on_value { on ≡ is_enabled registers.now (Channel.Master index) }
@@ -62,67 +54,62 @@ fn is_sound(registers: &[u8], index: u8, on: bool) -> bool
     are_zero(registers, bank(index), MASTER_BYTES)
 }
 
-// So many masters, from the first on: bit k of `bits` enables the k-th of them.
-fn some_are_sound(registers: &[u8], bits: u32, first: u8, many: u8) -> bool
-    requires registers_len { length registers.now ≡ size }
-    requires many_bound { first + many ≤ 16 }
-    requires enables { Enables registers.now bits first many }
-    ensures { result ≡ each many first (master_sound registers.now) }
-{
-    let mut all = true;
-    let mut k = 0;
-    while k < many {
-        all = all & is_sound(registers, first + k, bits & (1 << k) != 0);
-        k += 1;
-    }
-    all
+// The masters that one register of the controller's switches: so many, from the first on. Bit k of `bits` enables the k-th of them.
+#[derive(Clone, Copy)]
+struct Switched {
+    bits: u32,
+    first: u8,
+    many: u8,
 }
 
-// The masters that one register of the controller's switches. Where none of them is enabled, one look at all their bytes tells.
-// CRB bits 3 to 7 are masters 0 to 4.
-fn b_is_sound(registers: &[u8]) -> bool
+// CRB bits 3 to 7 are masters 0 to 4, CRC bits 0 to 7 are 5 to 12, CRD bits 0 to 2 are 13 to 15.
+#[tactic(auto, using(crate::proofs::Laws::bit_by_bit))]
+fn switched_by(registers: &[u8], control: Control) -> Switched
     requires { length registers.now ≡ size }
-    ensures { result ≡ each 5 0 (master_sound registers.now) }
+    ensures first { result.first ≡ first_by control }
+    ensures many { result.many ≡ many_by control }
+    ensures few { result.first + result.many ≤ 16 }
+    ensures enables { Enables registers.now result.bits result.first result.many }
 {
-    let bits = read(registers, Register::Crb) / 8;
-    if bits == 0 {
-        return are_zero(registers, bank(0), 5 * MASTER_BYTES);
+    match control {
+        Control::B => Switched {
+            bits: read(registers, Register::Crb) / 8,
+            first: 0,
+            many: 5,
+        },
+        Control::C => Switched {
+            bits: read(registers, Register::Crc),
+            first: 5,
+            many: 8,
+        },
+        Control::D => Switched {
+            bits: read(registers, Register::Crd) % 8,
+            first: 13,
+            many: 3,
+        },
     }
-    some_are_sound(registers, bits, 0, 5)
 }
 
-// CRC bits 0 to 7 are masters 5 to 12.
-fn c_is_sound(registers: &[u8]) -> bool
+// Where none of them is enabled, one look at all their bytes tells.
+#[tactic(auto, using(crate::proofs::Laws::part_of_them))]
+fn some_are_sound(registers: &[u8], control: Control) -> bool
     requires { length registers.now ≡ size }
-    ensures { result ≡ each 8 5 (master_sound registers.now) }
+    ensures { result ≡ each (many_by control) (first_by control) (master_sound registers.now) }
 {
-    let bits = read(registers, Register::Crc);
-    if bits == 0 {
-        return are_zero(registers, bank(5), 8 * MASTER_BYTES);
+    let some = switched_by(registers, control);
+    if some.bits == 0 {
+        return are_zero(
+            registers,
+            bank(some.first),
+            usize::from(some.many) * MASTER_BYTES,
+        );
     }
-    some_are_sound(registers, bits, 5, 8)
-}
-
-// CRD bits 0 to 2 are masters 13 to 15.
-fn d_is_sound(registers: &[u8]) -> bool
-    requires { length registers.now ≡ size }
-    ensures { result ≡ each 3 13 (master_sound registers.now) }
-{
-    let bits = read(registers, Register::Crd) % 8;
-    if bits == 0 {
-        return are_zero(registers, bank(13), 3 * MASTER_BYTES);
+    for k in 0..some.many {
+        if !is_sound(registers, some.first + k, some.bits & (1 << k) != 0) {
+            return false;
+        }
     }
-    some_are_sound(registers, bits, 13, 3)
-}
-
-fn each_is_sound(registers: &[u8]) -> bool
-    requires { length registers.now ≡ size }
-    ensures { result ≡ each_master (master_sound registers.now) }
-{
-    let b = b_is_sound(registers);
-    let c = c_is_sound(registers);
-    let d = d_is_sound(registers);
-    b & c & d
+    true
 }
 
 // CRB bits 3 to 7, CRC, and CRD bits 0 to 2 enable the masters.
@@ -137,6 +124,7 @@ fn none_is_on(registers: &[u8]) -> bool
 }
 
 // Whether each master is in range. Where none is enabled, one look at all their bytes tells.
+#[tactic(auto, using(crate::proofs::Laws::all_of_them))]
 pub(crate) fn are_sound(registers: &[u8]) -> bool
     requires { length registers.now ≡ size }
     ensures { result ≡ each_master (master_sound registers.now) }
@@ -144,5 +132,8 @@ pub(crate) fn are_sound(registers: &[u8]) -> bool
     if none_is_on(registers) {
         return are_zero(registers, FIRST_MASTER, SIZE - FIRST_MASTER);
     }
-    each_is_sound(registers)
+    let b = some_are_sound(registers, Control::B);
+    let c = some_are_sound(registers, Control::C);
+    let d = some_are_sound(registers, Control::D);
+    b & c & d
 }

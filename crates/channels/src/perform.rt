@@ -1,25 +1,23 @@
 // What a request without an error comes to: its reply, and the registers that it leaves.
 ghost use Rattle.std.specs.Prelude.{◌≡◌, length};
+ghost use Rattle.commands.specs.Request.{fault_bit};
 ghost use Rattle.registers.specs.Registers.{size};
-ghost use Rattle.channels.specs.Perform.{told, left, with_invcom, marked};
+ghost use Rattle.channels.specs.Perform.{told, left, marked};
 
 use crate::rows;
 use commands::channel::{Channel, channel_of};
 use commands::command::{Does, Register};
-use commands::request::{CMD_UNKNOWN, Reply, Request, granted};
+use commands::request::{Fault, Reply, Request, granted};
 use registers::i2c::INVCOM;
 
-pub(crate) fn tell(registers: &[u8], given: u8, does: Does) -> Reply
+pub(crate) fn tell(registers: &[u8], given: u8, does: Does) -> Option<Reply>
     requires { length registers.now ≡ size }
     ensures { result ≡ told registers.now given does }
 {
     match does {
-        Does::Write(_) => granted(given, 0),
-        Does::Switch(_) => granted(given, 0),
-        Does::Read(which) => granted(given, registers::show(registers, which)),
-        Does::Clear(_) => granted(given, 0),
-        Does::Start(_) => Reply::Later,
-        Does::Transact(_, _) => Reply::Later,
+        Does::Write(_) | Does::Switch(_) | Does::Clear(_) => Some(granted(given, 0)),
+        Does::Read(which) => Some(granted(given, registers::show(registers, which))),
+        Does::Start(_) | Does::Transact(_, _) => None,
     }
 }
 
@@ -32,39 +30,24 @@ pub(crate) fn leave(registers: &mut [u8], q: Request, does: Does)
         Does::Switch(control) => rows::switch_by(registers, control, q.value),
         Does::Read(_) => {}
         Does::Clear(which) => registers::store(registers, which, 0),
-        Does::Start(which) => registers::store(registers, which, q.trn as u32),
+        Does::Start(which) => registers::store(registers, which, u32::from(q.trn)),
         Does::Transact(index, _) => {
-            let open = (q.trn as u32) + 0x100 * (q.cmd as u32);
+            let open = u32::from(q.trn) + 0x100 * u32::from(q.cmd);
             registers::store(registers, Register::I2cOpen(index), open);
         }
     }
 }
 
-fn invalidate(registers: &mut [u8], which: Channel)
+// What an error leaves: a master notes a command that it does not know.
+#[tactic(auto, unfolding(crate::specs::Perform::marked))]
+pub(crate) fn mark(registers: &mut [u8], ch: u8, fault: Fault)
     requires { length registers.old ≡ size }
-    ensures { registers.new ≡ with_invcom registers.old which }
+    ensures { registers.new ≡ marked registers.old ch (fault_bit fault) }
 {
-    match which {
-        Channel::Controller => {}
-        Channel::Spi => {}
-        Channel::Gpio => {}
-        Channel::Master(index) => {
+    if fault == Fault::CmdUnknown {
+        if let Some(Channel::Master(index)) = channel_of(ch) {
             let status = registers::read(registers, Register::I2cStatus(index));
             registers::store(registers, Register::I2cStatus(index), status | INVCOM);
         }
-        Channel::Seu => {}
-        Channel::Id => {}
-        Channel::Dac => {}
-        Channel::Unknown => {}
-    }
-}
-
-// What an error leaves: a master notes a command that it does not know.
-pub(crate) fn mark(registers: &mut [u8], ch: u8, error: u8)
-    requires { length registers.old ≡ size }
-    ensures { registers.new ≡ marked registers.old ch error }
-{
-    if error == CMD_UNKNOWN {
-        invalidate(registers, channel_of(ch));
     }
 }

@@ -2,88 +2,93 @@
 // follows from it: what a disabled channel holds.
 ghost use Rattle.std.specs.Prelude.{◌≡◌, length};
 ghost use Rattle.registers.specs.Registers.{size, written};
-ghost use Rattle.channels.specs.Rows.{row, row_of, master_control, master_bit, master_row, register_of, is_on, is_at_work, is_enabled, is_busy, held, held_all, settled, still_held};
+ghost use Rattle.channels.specs.Rows.{by_bit, row, row_of, master_control, master_bit, master_group, master_row, dropping, register_of};
+ghost use Rattle.channels.specs.Rows.{is_enabled, is_busy, held, settled, still_held};
 
-use crate::groups::Group;
-use commands::channel::{Channel, channel_of};
+use commands::channel::Channel;
 use commands::command::{Control, Register};
 use registers::{MASTER_BYTES, read};
 
 // What enables a channel: a bit of a register of the controller.
 #[derive(Clone, Copy)]
-pub enum Switch {
-    Always,
-    Never,
-    Bit(Control, u32),
+pub struct Switch {
+    pub control: Control,
+    pub bit: u32,
 }
 
-// What makes a channel busy: a register that keeps the TRN of an open start.
-#[derive(Clone, Copy)]
-pub enum Busy {
-    Never,
-    While(Register),
-}
-
-// The channel's own bytes are so many, from a place on.
+// A channel without a switch is always enabled. What makes one busy is a register that keeps the TRN of an open start. Its group goes by what
+// switches it. Its own bytes are so many, from a place on.
 #[derive(Clone, Copy)]
 pub struct Row {
-    pub known: bool,
-    pub switch: Switch,
-    pub busy: Busy,
-    pub group: Group,
+    pub switch: Option<Switch>,
+    pub busy: Option<Register>,
+    pub group: Option<Control>,
     pub first: usize,
     pub many: usize,
 }
 
-// The row of a channel that is known.
-fn known(switch: Switch, busy: Busy, group: Group, first: usize, many: usize) -> Row
+fn row_with(
+    switch: Option<Switch>,
+    busy: Option<Register>,
+    group: Option<Control>,
+    first: usize,
+    many: usize,
+) -> Row
     ensures { result ≡ row switch busy group first many }
 {
     Row {
-        known: true,
-        switch: switch,
-        busy: busy,
-        group: group,
-        first: first,
-        many: many,
+        switch,
+        busy,
+        group,
+        first,
+        many,
     }
+}
+
+fn by_bit(control: Control, bit: u32) -> Option<Switch>
+    ensures { result ≡ by_bit control bit }
+{
+    Some(Switch { control, bit })
 }
 
 // What switches a master: CRB bits 3 to 7 are masters 0 to 4, CRC bits 0 to 7 are 5 to 12, CRD bits 0 to 2 are 13 to 15.
-pub(crate) fn master_control(index: u8) -> Control
+#[tactic(auto, unfolding(crate::specs::Rows::master_control))]
+fn master_control(index: u8) -> Control
     ensures { result ≡ master_control index }
 {
-    let master = index % 16;
-    if master < 5 {
-        return Control::B;
+    match index % 16 {
+        0..=4 => Control::B,
+        5..=12 => Control::C,
+        _ => Control::D,
     }
-    if master < 13 {
-        return Control::C;
-    }
-    Control::D
 }
 
+#[tactic(auto, unfolding(crate::specs::Rows::master_bit))]
 fn master_bit(index: u8) -> u32
     ensures { result ≡ master_bit index }
 {
     let master = index % 16;
-    if master < 5 {
-        return 1 << (master + 3);
+    match master {
+        0..=4 => 1 << (master + 3),
+        5..=12 => 1 << (master - 5),
+        _ => 1 << (master - 13),
     }
-    if master < 13 {
-        return 1 << (master - 5);
-    }
-    1 << (master - 13)
+}
+
+// The group of a master's registers.
+pub fn master_group(index: u8) -> Option<Control>
+    ensures { result ≡ master_group index }
+{
+    Some(master_control(index))
 }
 
 fn master_row(index: u8) -> Row
     ensures { result ≡ master_row index }
 {
-    let control = master_control(index);
-    known(
-        Switch::Bit(control, master_bit(index)),
-        Busy::While(Register::I2cOpen(index)),
-        Group::Switched(control),
+    row_with(
+        by_bit(master_control(index), master_bit(index)),
+        Some(Register::I2cOpen(index)),
+        master_group(index),
         registers::bank(index),
         MASTER_BYTES,
     )
@@ -93,54 +98,21 @@ pub(crate) fn row_of(which: Channel) -> Row
     ensures { result ≡ row_of which }
 {
     match which {
-        Channel::Controller => known(Switch::Always, Busy::Never, Group::Nothing, 0, 3),
-        Channel::Spi => known(
-            Switch::Bit(Control::B, 0x02),
-            Busy::While(Register::SpiGo),
-            Group::Switched(Control::B),
+        Channel::Controller => row_with(None, None, None, 0, 3),
+        Channel::Spi => row_with(
+            by_bit(Control::B, 0x02),
+            Some(Register::SpiGo),
+            Some(Control::B),
             15,
             22,
         ),
-        Channel::Gpio => known(
-            Switch::Bit(Control::B, 0x04),
-            Busy::Never,
-            Group::Switched(Control::B),
-            37,
-            33,
-        ),
+        Channel::Gpio => row_with(by_bit(Control::B, 0x04), None, Some(Control::B), 37, 33),
         Channel::Master(index) => master_row(index),
-        Channel::Seu => known(
-            Switch::Bit(Control::D, 0x08),
-            Busy::Never,
-            Group::Nothing,
-            3,
-            4,
-        ),
-        Channel::Id => known(
-            Switch::Bit(Control::D, 0x10),
-            Busy::Never,
-            Group::Nothing,
-            11,
-            4,
-        ),
-        Channel::Dac => known(Switch::Always, Busy::Never, Group::Nothing, 7, 4),
-        Channel::Unknown => Row {
-            known: false,
-            switch: Switch::Never,
-            busy: Busy::Never,
-            group: Group::Nothing,
-            first: 0,
-            many: 0,
-        },
+        Channel::Seu => row_with(by_bit(Control::D, 0x08), None, None, 3, 4),
+        Channel::Id => row_with(by_bit(Control::D, 0x10), None, None, 11, 4),
+        Channel::Dac => row_with(None, None, None, 7, 4),
     }
 }
-
-// The channels that hold their registers at 0 while they are disabled, by number, and what switches them: SPI, GPIO, the masters.
-const DROPPING_B: [u8; 7] = [0x01, 0x02, 0x03, 0x04, 0x05, 0x06, 0x07];
-
-const DROPPING_C: [u8; 8] = [0x08, 0x09, 0x0a, 0x0b, 0x0c, 0x0d, 0x0e, 0x0f];
-
-const DROPPING_D: [u8; 3] = [0x10, 0x11, 0x12];
 
 fn register_of(control: Control) -> Register
     ensures { result ≡ register_of control }
@@ -152,45 +124,23 @@ fn register_of(control: Control) -> Register
     }
 }
 
-fn is_on(registers: &[u8], switch: Switch) -> bool
-    requires { length registers.now ≡ size }
-    ensures { result ≡ is_on registers.now switch }
-{
-    match switch {
-        Switch::Always => true,
-        Switch::Never => false,
-        Switch::Bit(control, bit) => read(registers, register_of(control)) & bit != 0,
-    }
-}
-
-fn is_at_work(registers: &[u8], busy: Busy) -> bool
-    requires { length registers.now ≡ size }
-    ensures { result ≡ is_at_work registers.now busy }
-{
-    match busy {
-        Busy::Never => false,
-        Busy::While(which) => read(registers, which) != 0,
-    }
-}
-
-pub(crate) fn is_enabled(registers: &[u8], which: Channel) -> bool
+pub fn is_enabled(registers: &[u8], which: Channel) -> bool
     requires { length registers.now ≡ size }
     ensures { result ≡ is_enabled registers.now which }
 {
-    let row = row_of(which);
-    let switch = row.switch;
-    is_on(registers, switch)
+    let switch = row_of(which).switch;
+    switch.is_none_or(|by| read(registers, register_of(by.control)) & by.bit != 0)
 }
 
-pub(crate) fn is_busy(registers: &[u8], which: Channel) -> bool
+pub fn is_busy(registers: &[u8], which: Channel) -> bool
     requires { length registers.now ≡ size }
     ensures { result ≡ is_busy registers.now which }
 {
-    let row = row_of(which);
-    let busy = row.busy;
-    is_at_work(registers, busy)
+    let busy = row_of(which).busy;
+    busy.is_some_and(|open| read(registers, open) != 0)
 }
 
+#[tactic(auto, using(crate::proofs::Owners::own_inside), unfolding(crate::specs::Rows::held))]
 fn hold(registers: &mut [u8], which: Channel)
     requires { length registers.old ≡ size }
     ensures { registers.new ≡ held registers.old which }
@@ -202,35 +152,46 @@ fn hold(registers: &mut [u8], which: Channel)
     registers::clear(registers, row.first, row.many);
 }
 
-fn hold_all(registers: &mut [u8], numbers: &[u8])
-    requires { length registers.old ≡ size }
-    ensures { registers.new ≡ held_all numbers.now registers.old }
+// The channels that hold their registers at 0 while they are disabled, by what switches them: SPI, GPIO, the masters.
+fn dropping(control: Control) -> &'static [Channel]
+    ensures { result.now ≡ dropping control }
 {
-    let mut i = 0;
-    while i < numbers.len() {
-        hold(registers, channel_of(numbers[i]));
-        i += 1;
+    match control {
+        Control::B => &[
+            Channel::Spi,
+            Channel::Gpio,
+            Channel::Master(0),
+            Channel::Master(1),
+            Channel::Master(2),
+            Channel::Master(3),
+            Channel::Master(4),
+        ],
+        Control::C => &[
+            Channel::Master(5),
+            Channel::Master(6),
+            Channel::Master(7),
+            Channel::Master(8),
+            Channel::Master(9),
+            Channel::Master(10),
+            Channel::Master(11),
+            Channel::Master(12),
+        ],
+        Control::D => &[
+            Channel::Master(13),
+            Channel::Master(14),
+            Channel::Master(15),
+        ],
     }
 }
 
 // A disabled channel drops what it had, and what it had open: each that this register switches.
+#[tactic(auto, using(crate::proofs::Cases::held_next, crate::proofs::Cases::held_none, crate::proofs::Laws::length_held))]
 fn settle(registers: &mut [u8], control: Control)
     requires { length registers.old ≡ size }
     ensures { registers.new ≡ settled control registers.old }
 {
-    match control {
-        Control::B => {
-            let numbers = DROPPING_B;
-            hold_all(registers, &numbers);
-        }
-        Control::C => {
-            let numbers = DROPPING_C;
-            hold_all(registers, &numbers);
-        }
-        Control::D => {
-            let numbers = DROPPING_D;
-            hold_all(registers, &numbers);
-        }
+    for which in dropping(control) {
+        hold(registers, *which);
     }
 }
 
@@ -244,6 +205,7 @@ pub(crate) fn switch_by(registers: &mut [u8], control: Control, value: u32)
 }
 
 // A channel that is enabled may hold anything; its registers are looked at only where it is not.
+#[tactic(auto, using(crate::proofs::Owners::own_inside), unfolding(crate::specs::Rows::still_held))]
 pub(crate) fn still_holds(registers: &[u8], which: Channel) -> bool
     requires { length registers.now ≡ size }
     ensures { result ≡ still_held registers.now which }

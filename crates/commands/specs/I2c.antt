@@ -1,42 +1,47 @@
 -- The commands of channels 0x03 to 0x12, the I2C masters (000, tables 6.6 to 6.15), for the master of this number, 0 to 15.
-use Rattle.std.specs.Prelude.{ℕ, List, [], ◌∷◌}
+use Rattle.std.specs.Prelude.{ℕ, List, [], ◌∷◌, Option}
 use Rattle.bits.specs.Table.{Row, row}
 use Rattle.commands.specs.declared.command.Command.{Command}
-use Rattle.commands.specs.declared.command.Command.TheVariants.{Known}
-use Rattle.commands.specs.declared.command.Does.TheVariants as does
+use Rattle.commands.specs.declared.command.Does.TheVariants.{Write, Read, Transact}
 use Rattle.commands.specs.Field.{Mask, Ctrl, Status, Data0, Data1, Data2, Data3, master}
 use Rattle.commands.specs.declared.command.Lengths.{Lengths}
-use Rattle.commands.specs.declared.command.Register.{Register}
 use Rattle.commands.specs.declared.command.Transaction.{Transaction}
 use Rattle.commands.specs.declared.command.Transaction.TheVariants.{WriteOne, ReadOne, WriteMany, ReadMany, Modify}
-use Rattle.commands.specs.Command.{lengths}
+use Rattle.commands.specs.Command.{lengths, known}
 
-abbrev pub write : Lengths → Register → Command
-write l r = Known l (does.Write r)
+-- LEN counts the data bytes: of a register of one byte, and of a word of DATA
+abbrev write : Lengths
+write = lengths 1 0
 
-abbrev pub read : Lengths → Register → Command
-read l r = Known l (does.Read r)
+abbrev read : Lengths
+read = lengths 0 1
+
+abbrev write_word : Lengths
+write_word = lengths 4 0
+
+abbrev read_word : Lengths
+read_word = lengths 0 4
 
 -- a start, with its LEN: request, reply
-abbrev pub start : ℕ → ℕ → ℕ → Transaction → Command
-start i asked given transaction = Known (lengths asked given) (does.Transact i transaction)
+abbrev pub start : ℕ → ℕ → ℕ → Transaction → Option Command
+start i asked given transaction = known (lengths asked given) (Transact i transaction)
 
-abbrev pub i2c_commands : ℕ → List (Row Command)
+abbrev pub i2c_commands : ℕ → List (Row (Option Command))
 i2c_commands i =
-    -- the registers: LEN counts the data bytes
-    row 0x30 (write (lengths 1 0) (master i Ctrl))
-    ∷ row 0x31 (read (lengths 0 1) (master i Ctrl))
-    ∷ row 0x11 (read (lengths 0 1) (master i Status))
-    ∷ row 0x20 (write (lengths 1 0) (master i Mask))
-    ∷ row 0x21 (read (lengths 0 1) (master i Mask))
-    ∷ row 0x40 (write (lengths 4 0) (master i Data0))
-    ∷ row 0x41 (read (lengths 0 4) (master i Data0))
-    ∷ row 0x50 (write (lengths 4 0) (master i Data1))
-    ∷ row 0x51 (read (lengths 0 4) (master i Data1))
-    ∷ row 0x60 (write (lengths 4 0) (master i Data2))
-    ∷ row 0x61 (read (lengths 0 4) (master i Data2))
-    ∷ row 0x70 (write (lengths 4 0) (master i Data3))
-    ∷ row 0x71 (read (lengths 0 4) (master i Data3))
+    -- the registers
+    row 0x30 (known write (Write (master i Ctrl)))
+    ∷ row 0x31 (known read (Read (master i Ctrl)))
+    ∷ row 0x11 (known read (Read (master i Status)))
+    ∷ row 0x20 (known write (Write (master i Mask)))
+    ∷ row 0x21 (known read (Read (master i Mask)))
+    ∷ row 0x40 (known write_word (Write (master i Data0)))
+    ∷ row 0x41 (known read_word (Read (master i Data0)))
+    ∷ row 0x50 (known write_word (Write (master i Data1)))
+    ∷ row 0x51 (known read_word (Read (master i Data1)))
+    ∷ row 0x60 (known write_word (Write (master i Data2)))
+    ∷ row 0x61 (known read_word (Read (master i Data2)))
+    ∷ row 0x70 (known write_word (Write (master i Data3)))
+    ∷ row 0x71 (known read_word (Read (master i Data3)))
     -- one byte: 7-bit address, 10-bit address
     ∷ row 0x82 (start i 4 4 WriteOne)
     ∷ row 0x86 (start i 4 4 ReadOne)

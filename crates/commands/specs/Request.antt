@@ -1,7 +1,8 @@
 -- What requests to all channels have in common.
 use Rattle.std.specs.Prelude.{ℕ}
+use Rattle.commands.specs.declared.request.Fault.{Fault}
+use Rattle.commands.specs.declared.request.Fault.TheVariants.{TrnWrong, ChUnknown, NotEnabled, Busy, CmdUnknown, LenWrong}
 use Rattle.commands.specs.declared.request.Reply.{Reply}
-use Rattle.commands.specs.declared.request.Reply.TheVariants.{Sent}
 
 -- no request's TRN is one of these; the second is an interrupt's
 abbrev pub no_transaction : ℕ
@@ -29,10 +30,18 @@ cmd_unknown = 0x04
 abbrev pub len_wrong : ℕ
 len_wrong = 0x10
 
+abbrev pub fault_bit : Fault → ℕ
+fault_bit TrnWrong = trn_wrong
+fault_bit ChUnknown = ch_unknown
+fault_bit NotEnabled = not_enabled
+fault_bit Busy = busy
+fault_bit CmdUnknown = cmd_unknown
+fault_bit LenWrong = len_wrong
+
 -- an error reply has LEN 2 and zero data
-abbrev pub refusal : ℕ → Reply
-refusal error = Sent error 2 0
+abbrev pub refusal : Fault → Reply
+refusal fault = record { error = fault_bit fault; length = 2; value = 0 }
 
 -- a reply without an error
 abbrev pub granted : ℕ → ℕ → Reply
-granted length value = Sent 0 length value
+granted length value = record { error = 0; length = length; value = value }

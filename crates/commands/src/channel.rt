@@ -15,26 +15,26 @@ pub enum Channel {
     Seu,
     Id,
     Dac,
-    Unknown,
 }
 
-pub fn channel_of(ch: u8) -> Channel
+#[tactic(auto, unfolding(crate::specs::Channels::channel_of))]
+pub fn channel_of(ch: u8) -> Option<Channel>
     ensures { result ≡ channel_of ch }
 {
     match ch {
-        0x00 => Channel::Controller,
-        0x01 => Channel::Spi,
-        0x02 => Channel::Gpio,
-        0x03..=0x12 => Channel::Master(ch - 0x03),
-        0x13 => Channel::Seu,
-        0x14 => Channel::Id,
-        0x15 => Channel::Dac,
-        _ => Channel::Unknown,
+        0x00 => Some(Channel::Controller),
+        0x01 => Some(Channel::Spi),
+        0x02 => Some(Channel::Gpio),
+        0x03..=0x12 => Some(Channel::Master(ch - 0x03)),
+        0x13 => Some(Channel::Seu),
+        0x14 => Some(Channel::Id),
+        0x15 => Some(Channel::Dac),
+        _ => None,
     }
 }
 
 // The command of a channel's code.
-pub fn command_of(which: Channel, cmd: u8) -> Command
+pub fn command_of(which: Channel, cmd: u8) -> Option<Command>
     ensures { result ≡ command_of which cmd }
 {
     match which {
@@ -45,6 +45,5 @@ pub fn command_of(which: Channel, cmd: u8) -> Command
         Channel::Seu => seu::command_of(cmd),
         Channel::Id => chip_id::command_of(cmd),
         Channel::Dac => dac::command_of(cmd),
-        Channel::Unknown => Command::Unknown,
     }
 }

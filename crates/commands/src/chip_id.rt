@@ -3,15 +3,16 @@ ghost use Rattle.std.specs.Prelude.{◌≡◌};
 ghost use Rattle.commands.specs.Command.{code_of};
 ghost use Rattle.commands.specs.ChipId.{id_commands};
 
-use crate::command::{Command, Does, Lengths, Register};
+use crate::command::{Command, Does, Lengths, Register, known};
 
 const READ: Lengths = Lengths { asked: 4, given: 4 };
 
-pub(crate) fn command_of(cmd: u8) -> Command
+#[tactic(auto, unfolding(crate::specs::Command::code_of))]
+pub(crate) fn command_of(cmd: u8) -> Option<Command>
     ensures { result ≡ code_of id_commands cmd }
 {
     match cmd {
-        0xd1 => Command::Known(READ, Does::Read(Register::ChipId)),
-        _ => Command::Unknown,
+        0xd1 => known(READ, Does::Read(Register::ChipId)),
+        _ => None,
     }
 }

@@ -1,4 +1,6 @@
 // A command: the LEN that it asks and gives, and what it does to which register.
+ghost use Rattle.std.specs.Prelude.{◌≡◌};
+ghost use Rattle.commands.specs.Command.{known};
 
 // The registers of all channels, by their names; those of an I2C master with its number, 0 to 15. SpiGo and I2cOpen are no registers of the manual:
 // SpiGo has the TRN of an open GO, I2cOpen that of an open start and, above it, the start's code.
@@ -75,6 +77,7 @@ pub enum Transaction {
 }
 
 // LEN as a command asks it and as its reply gives it.
+// Kept: each channel's table names its own, as document 01 does; names such as READ_2_4 for all of them would be no plainer.
 #[derive(Clone, Copy)]
 pub struct Lengths {
     pub asked: u8,
@@ -82,7 +85,14 @@ pub struct Lengths {
 }
 
 #[derive(Clone, Copy)]
-pub enum Command {
-    Known(Lengths, Does),
-    Unknown,
+pub struct Command {
+    pub lengths: Lengths,
+    pub does: Does,
+}
+
+// What a table has at a code.
+pub(crate) fn known(lengths: Lengths, does: Does) -> Option<Command>
+    ensures { result ≡ known lengths does }
+{
+    Some(Command { lengths, does })
 }

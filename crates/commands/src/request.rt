@@ -1,6 +1,6 @@
 // What requests to all channels have in common: their fields, their errors and their answers.
 ghost use Rattle.std.specs.Prelude.{◌≡◌};
-ghost use Rattle.commands.specs.Request.{granted, refusal};
+ghost use Rattle.commands.specs.Request.{fault_bit, granted, refusal};
 
 // TRN, CH, LEN, CMD and D[31:0].
 #[derive(Clone, Copy)]
@@ -12,11 +12,12 @@ pub struct Request {
     pub value: u32,
 }
 
-// A reply's ERR, LEN and D[31:0]; or no reply yet.
+// A reply's ERR, LEN and D[31:0].
 #[derive(Clone, Copy)]
-pub enum Reply {
-    Sent { error: u8, length: u8, value: u32 },
-    Later,
+pub struct Reply {
+    pub error: u8,
+    pub length: u8,
+    pub value: u32,
 }
 
 // No request's TRN is one of these; the second is an interrupt's.
@@ -24,24 +25,38 @@ pub const NO_TRANSACTION: u8 = 0x00;
 
 pub const INTERRUPT: u8 = 0xFF;
 
-// The error bits, in the order in which the first that applies is taken.
-pub const TRN_WRONG: u8 = 0x08;
+// What is wrong with a request: the first that applies, in this order.
+#[derive(Clone, Copy, Debug, PartialEq, Eq)]
+pub enum Fault {
+    TrnWrong,
+    ChUnknown,
+    NotEnabled,
+    Busy,
+    CmdUnknown,
+    LenWrong,
+}
 
-pub const CH_UNKNOWN: u8 = 0x02;
+// The error bit of each.
+impl From<Fault> for u8 {
+    ghost from_gives = { λ f n. n ≡ fault_bit f };
 
-pub const NOT_ENABLED: u8 = 0x20;
+    fn from(fault: Fault) -> u8 {
+        match fault {
+            Fault::TrnWrong => 0x08,
+            Fault::ChUnknown => 0x02,
+            Fault::NotEnabled => 0x20,
+            Fault::Busy => 0x40,
+            Fault::CmdUnknown => 0x04,
+            Fault::LenWrong => 0x10,
+        }
+    }
+}
 
-pub const BUSY: u8 = 0x40;
-
-pub const CMD_UNKNOWN: u8 = 0x04;
-
-pub const LEN_WRONG: u8 = 0x10;
-
-pub fn refusal(error: u8) -> Reply
-    ensures { result ≡ refusal error }
+pub fn refusal(fault: Fault) -> Reply
+    ensures { result ≡ refusal fault }
 {
-    Reply::Sent {
-        error: error,
+    Reply {
+        error: u8::from(fault),
         length: 2,
         value: 0,
     }
@@ -50,9 +65,9 @@ pub fn refusal(error: u8) -> Reply
 pub fn granted(length: u8, value: u32) -> Reply
     ensures { result ≡ granted length value }
 {
-    Reply::Sent {
+    Reply {
         error: 0,
-        length: length,
-        value: value,
+        length,
+        value,
     }
 }

@@ -3,18 +3,19 @@ ghost use Rattle.std.specs.Prelude.{◌≡◌};
 ghost use Rattle.commands.specs.Command.{code_of};
 ghost use Rattle.commands.specs.Seu.{seu_commands};
 
-use crate::command::{Command, Does, Lengths, Register};
+use crate::command::{Command, Does, Lengths, Register, known};
 
 const READ: Lengths = Lengths { asked: 4, given: 4 };
 
 const CLEAR: Lengths = Lengths { asked: 4, given: 2 };
 
-pub(crate) fn command_of(cmd: u8) -> Command
+#[tactic(auto, unfolding(crate::specs::Command::code_of))]
+pub(crate) fn command_of(cmd: u8) -> Option<Command>
     ensures { result ≡ code_of seu_commands cmd }
 {
     match cmd {
-        0xf1 => Command::Known(READ, Does::Read(Register::Seu)),
-        0xf0 => Command::Known(CLEAR, Does::Clear(Register::Seu)),
-        _ => Command::Unknown,
+        0xf1 => known(READ, Does::Read(Register::Seu)),
+        0xf0 => known(CLEAR, Does::Clear(Register::Seu)),
+        _ => None,
     }
 }
