@@ -5,4 +5,4 @@ use Rattle.channels.specs.Rows.{held_all}
 use Rattle.channels.proofs.rows.settle.Given as goal
 
 abbrev pub invariant-loop-which : goal.invariant-loop-which
-invariant-loop-which l = (length l.registers ≡ size) × (held_all (drop l.which-index l.which-items) l.registers ≡ held_all l.which-items l.initial.registers)
+invariant-loop-which l = held_all (drop l.which-index l.which-items) l.registers ≡ held_all l.which-items l.initial.registers
