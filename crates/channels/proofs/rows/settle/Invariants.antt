@@ -1,6 +1,5 @@
 -- Those that are left are still to be held.
-use Rattle.std.proofs.Common.{◌≡◌, length, drop}
-use Rattle.registers.specs.Registers.{size}
+use Rattle.std.proofs.Common.{◌≡◌, drop}
 use Rattle.channels.specs.Rows.{held_all}
 use Rattle.channels.proofs.rows.settle.Given as goal
 
