@@ -1,7 +1,6 @@
 // A frame body on a port: document 01's checks 1 to 8, in order.
 ghost use Rattle.std.specs.Prelude.{◌≡◌, ℕ, ◌≤◌, List, length};
 ghost use Rattle.numbers.specs.Numbers.{body_least, body_most, output_least};
-ghost use Rattle.registers.specs.Registers.{size};
 ghost use Rattle.state.specs.State.{adapter};
 ghost use Rattle.chip.specs.Inner.{said, says};
 ghost use Rattle.chip.specs.Frame.{is_reset_frame, reset, acknowledges, commanded, numbered, carried, addressed, on_frame};
@@ -10,6 +9,7 @@ use crate::{Response, answer, request};
 use commands::command::Register;
 use link::{Link, LinkCommand};
 use numbers::Silence;
+use registers::SIZE;
 
 // Bit 0 of a control that carries no request.
 const UNNUMBERED: u8 = 0x01;
@@ -54,8 +54,7 @@ fn command(link: Link, after: Link, port: u8, body: &[u8], output: &mut [u8]) ->
 
 // RESET, unless it carries information.
 #[tactic(auto, unfolding(crate::specs::Frame::commanded))]
-fn reset(link: Link, registers: &mut [u8], port: u8, body: &[u8], output: &mut [u8]) -> Response
-    requires registers_len { length registers.old ≡ size }
+fn reset(link: Link, registers: &mut [u8; SIZE], port: u8, body: &[u8], output: &mut [u8]) -> Response
     requires body_least_in_bounds { body_least ≤ length body.now }
     requires output_least_in_bounds { output_least ≤ length output.old }
     ensures { said result registers.new output.new ≡ says (let a = adapter link registers.old in commanded a (reset a port) port body.now) output.old }
@@ -72,13 +71,12 @@ fn reset(link: Link, registers: &mut [u8], port: u8, body: &[u8], output: &mut [
 #[tactic(auto, unfolding(crate::specs::Frame::numbered))]
 fn in_order(
     link: Link,
-    registers: &mut [u8],
+    registers: &mut [u8; SIZE],
     port: u8,
     control: u8,
     info: &[u8],
     output: &mut [u8],
 ) -> Response
-    requires registers_len { length registers.old ≡ size }
     requires info_len { length info.now ≡ 8 }
     requires output_least_in_bounds { output_least ≤ length output.old }
     ensures { said result registers.new output.new ≡ says (numbered (adapter link registers.old) port control info.now) output.old }
@@ -93,8 +91,7 @@ fn in_order(
 
 // Checks 4 to 8.
 #[tactic(auto, unfolding(crate::specs::Frame::carried))]
-fn carry(link: Link, registers: &mut [u8], port: u8, body: &[u8], output: &mut [u8]) -> Response
-    requires registers_len { length registers.old ≡ size }
+fn carry(link: Link, registers: &mut [u8; SIZE], port: u8, body: &[u8], output: &mut [u8]) -> Response
     requires body_least_in_bounds { (body_least ≤ length body.now) × (length body.now ≤ body_most) }
     requires output_least_in_bounds { output_least ≤ length output.old }
     ensures { said result registers.new output.new ≡ says (carried (adapter link registers.old) port body.now) output.old }
@@ -123,12 +120,11 @@ fn carry(link: Link, registers: &mut [u8], port: u8, body: &[u8], output: &mut [
 #[tactic(auto, unfolding(crate::specs::Frame::addressed))]
 fn check_control(
     link: Link,
-    registers: &mut [u8],
+    registers: &mut [u8; SIZE],
     port: u8,
     body: &[u8],
     output: &mut [u8],
 ) -> Response
-    requires registers_len { length registers.old ≡ size }
     requires body_least_in_bounds { (body_least ≤ length body.now) × (length body.now ≤ body_most) }
     requires output_least_in_bounds { output_least ≤ length output.old }
     ensures { said result registers.new output.new ≡ says (addressed (adapter link registers.old) port body.now) output.old }
@@ -146,12 +142,11 @@ fn check_control(
 #[tactic(auto, unfolding(crate::specs::Frame::on_frame))]
 pub(crate) fn check(
     link: Link,
-    registers: &mut [u8],
+    registers: &mut [u8; SIZE],
     port: u8,
     body: &[u8],
     output: &mut [u8],
 ) -> Response
-    requires registers_len { length registers.old ≡ size }
     requires body_least_in_bounds { (body_least ≤ length body.now) × (length body.now ≤ body_most) }
     requires output_least_in_bounds { output_least ≤ length output.old }
     ensures { said result registers.new output.new ≡ says (on_frame (adapter link registers.old) port body.now) output.old }

@@ -1,8 +1,7 @@
 // The events, each as one step of the chip.
 ghost use Rattle.std.specs.Prelude.{◌≡◌, ℕ, ◌-◌, ◌≤◌, List, length};
-ghost use Rattle.numbers.specs.Numbers.{body_least, body_most, reply_bytes, output_least, transfer_bytes};
+ghost use Rattle.numbers.specs.Numbers.{body_least, body_most, reply_bytes, output_least};
 ghost use Rattle.commands.specs.Channels.{first_master};
-ghost use Rattle.registers.specs.Registers.{size};
 ghost use Rattle.channels.specs.Rows.{master_group};
 ghost use Rattle.state.specs.State.{adapter};
 ghost use Rattle.chip.specs.Event.{Completion, Event};
@@ -18,8 +17,8 @@ use commands::command::{Command, Control, Does, Register, Transaction};
 use commands::request::{INTERRUPT, granted};
 use commands::spi::GO;
 use link::Link;
-use numbers::Silence;
-use registers::{gpio, i2c, spi};
+use numbers::{Silence, TRANSFER_BYTES};
+use registers::{SIZE, gpio, i2c, spi};
 
 // The channels of a GO's reply and of an interrupt; an interrupt's LEN.
 const SPI_CHANNEL: u8 = 0x01;
@@ -38,12 +37,11 @@ const REQUEST_BODY: usize = 10;
 #[tactic(auto, unfolding(crate::specs::Chip::reaction))]
 pub fn on_frame(
     link: Link,
-    registers: &mut [u8],
+    registers: &mut [u8; SIZE],
     port: u8,
     body: &[u8],
     output: &mut [u8],
 ) -> Response
-    requires registers_len { length registers.old ≡ size }
     requires body_least_in_bounds { (body_least ≤ length body.now) × (length body.now ≤ body_most) }
     requires output_least_in_bounds { output_least ≤ length output.old }
     ensures { said result registers.new output.new ≡ says (reaction (adapter link registers.old) (Event.frame port body.now)) output.old }
@@ -73,10 +71,8 @@ pub fn group_of(body: &[u8]) -> Option<Control>
 
 // The GO's reply, with its own TRN.
 #[tactic(auto, unfolding(crate::specs::Chip::transferred))]
-fn transfer(link: Link, registers: &mut [u8], received: &[u8], output: &mut [u8]) -> Response
-    requires registers_len { length registers.old ≡ size }
-    requires received_len { length received.now ≡ transfer_bytes }
-    requires output_least_in_bounds { output_least ≤ length output.old }
+fn transfer(link: Link, registers: &mut [u8; SIZE], received: &[u8; TRANSFER_BYTES], output: &mut [u8]) -> Response
+    requires { output_least ≤ length output.old }
     ensures { said result registers.new output.new ≡ says (transferred (adapter link registers.old) received.now) output.old }
 {
     let [go, _, _, _] = registers::read(registers, Register::SpiGo).to_le_bytes();
@@ -86,10 +82,8 @@ fn transfer(link: Link, registers: &mut [u8], received: &[u8], output: &mut [u8]
 
 // An SPI completion with 16 received bytes.
 #[tactic(auto, unfolding(crate::specs::Chip::reaction, crate::specs::Chip::on_spi))]
-pub fn on_spi(link: Link, registers: &mut [u8], received: &[u8], output: &mut [u8]) -> Response
-    requires registers_len { length registers.old ≡ size }
-    requires received_len { length received.now ≡ transfer_bytes }
-    requires output_least_in_bounds { output_least ≤ length output.old }
+pub fn on_spi(link: Link, registers: &mut [u8; SIZE], received: &[u8; TRANSFER_BYTES], output: &mut [u8]) -> Response
+    requires { output_least ≤ length output.old }
     ensures { said result registers.new output.new ≡ says (reaction (adapter link registers.old) (Event.completion (Completion.spi received.now))) output.old }
 {
     if !channels::is_busy(registers, Channel::Spi) {
@@ -125,14 +119,13 @@ fn given_by(command: Option<Command>) -> u8
 // The start's reply, with its own TRN.
 fn transact(
     link: Link,
-    registers: &mut [u8],
+    registers: &mut [u8; SIZE],
     channel: u8,
     acknowledge: bool,
     low: bool,
     received: &[u8],
     output: &mut [u8],
 ) -> Response
-    requires registers_len { length registers.old ≡ size }
     requires first_master_le_channel { first_master ≤ channel }
     requires output_least_in_bounds { output_least ≤ length output.old }
     ensures { said result registers.new output.new ≡ says (transacted (adapter link registers.old) channel acknowledge low received.now) output.old }
@@ -156,14 +149,13 @@ fn transact(
 #[tactic(auto, unfolding(crate::specs::Chip::reaction, crate::specs::Chip::on_i2c))]
 pub fn on_i2c(
     link: Link,
-    registers: &mut [u8],
+    registers: &mut [u8; SIZE],
     channel: u8,
     acknowledge: bool,
     low: bool,
     received: &[u8],
     output: &mut [u8],
 ) -> Response
-    requires registers_len { length registers.old ≡ size }
     requires first_master_le_channel { first_master ≤ channel }
     requires output_least_in_bounds { output_least ≤ length output.old }
     ensures { said result registers.new output.new ≡ says (reaction (adapter link registers.old) (Event.completion (Completion.i2c channel acknowledge low received.now))) output.old }
@@ -186,13 +178,12 @@ pub fn group_of_i2c(channel: u8) -> Option<Control>
 #[tactic(auto, unfolding(crate::specs::Chip::reaction, crate::specs::Chip::on_sample))]
 pub fn on_sample(
     link: Link,
-    registers: &mut [u8],
+    registers: &mut [u8; SIZE],
     levels: u32,
     kind: u8,
     output: &mut [u8],
 ) -> Response
-    requires registers_len { length registers.old ≡ size }
-    requires reply_bytes_in_bounds { reply_bytes ≤ length output.old }
+    requires { reply_bytes ≤ length output.old }
     ensures { said result registers.new output.new ≡ says (reaction (adapter link registers.old) (Event.sample levels kind)) output.old }
 {
     if !channels::is_enabled(registers, Channel::Gpio) {
@@ -208,8 +199,7 @@ pub fn on_sample(
 
 // An upset: a 32-bit counter that wraps to 0. No frame is ever sent.
 #[tactic(auto, unfolding(crate::specs::Chip::reaction, crate::specs::Chip::on_upset))]
-pub fn on_upset(link: Link, registers: &mut [u8]) -> Response
-    requires { length registers.old ≡ size }
+pub fn on_upset(link: Link, registers: &mut [u8; SIZE]) -> Response
     ensures { (output : List ℕ) → said result registers.new output ≡ says (reaction (adapter link registers.old) Event.upset) output }
 {
     let count = registers::read(registers, Register::Seu).wrapping_add(1);

@@ -1,7 +1,6 @@
 // A request answered, and its reply.
 ghost use Rattle.std.specs.Prelude.{◌≡◌, ℕ, ◌≤◌, List, length};
 ghost use Rattle.numbers.specs.Numbers.{output_least, reply_bytes};
-ghost use Rattle.registers.specs.Registers.{size};
 ghost use Rattle.state.specs.State.{adapter};
 ghost use Rattle.chip.specs.Inner.{said, says};
 ghost use Rattle.chip.specs.Request.{replies, finished, requested};
@@ -10,6 +9,7 @@ use crate::{Response, answer};
 use commands::request::Reply;
 use link::Link;
 use numbers::Silence;
+use registers::SIZE;
 
 // A reply or an interrupt, on the active port; the send number then goes up. It is the same whatever the registers are.
 #[tactic(auto, unfolding(crate::specs::Request::replies))]
@@ -34,8 +34,7 @@ fn finish(link: Link, trn: u8, ch: u8, told: Option<Reply>, output: &mut [u8]) -
 }
 
 #[tactic(auto, unfolding(crate::specs::Request::requested))]
-pub(crate) fn request(link: Link, registers: &mut [u8], info: &[u8], output: &mut [u8]) -> Response
-    requires registers_len { length registers.old ≡ size }
+pub(crate) fn request(link: Link, registers: &mut [u8; SIZE], info: &[u8], output: &mut [u8]) -> Response
     requires info_len { length info.now ≡ 8 }
     requires output_least_in_bounds { output_least ≤ length output.old }
     ensures { said result registers.new output.new ≡ says (requested (adapter link registers.old) info.now) output.old }

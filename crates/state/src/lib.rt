@@ -75,7 +75,5 @@ pub fn is_state(s: &[u8]) -> bool
         && s[0] <= LAST_NUMBER
         && s[1] <= LAST_NUMBER
         && s[2] <= LAST_PORT
-        && s[LINK..]
-            .as_array::<SIZE>()
-            .is_some_and(channels::are_sound)
+        && s[LINK..].as_array().is_some_and(channels::are_sound)
 }
