@@ -1,17 +1,15 @@
 // The first error of a request: document 01's six, in its order; NBYTE comes with LEN.
-ghost use Rattle.std.specs.Prelude.{◌≡◌, length};
-ghost use Rattle.registers.specs.Registers.{size};
+ghost use Rattle.std.specs.Prelude.{◌≡◌};
 ghost use Rattle.channels.specs.Errors.{can_move, decoded};
 
 use crate::rows;
 use commands::channel;
 use commands::command::{Command, Does, Register};
 use commands::request::{Fault, INTERRUPT, NO_TRANSACTION, Request};
-use registers::{i2c, read};
+use registers::{SIZE, i2c, read};
 
 // A multi-byte start moves as many bytes as CTRL says, which has to be 1 to 16.
-fn can_move(registers: &[u8], does: Does) -> bool
-    requires { length registers.now ≡ size }
+fn can_move(registers: &[u8; SIZE], does: Does) -> bool
     ensures { result ≡ can_move registers.now does }
 {
     match does {
@@ -24,8 +22,7 @@ fn can_move(registers: &[u8], does: Does) -> bool
 
 // The command that a request asks for, unless it has an error.
 #[tactic(auto, unfolding(crate::specs::Errors::decoded))]
-pub(crate) fn decode(registers: &[u8], q: Request) -> Result<Command, Fault>
-    requires { length registers.now ≡ size }
+pub(crate) fn decode(registers: &[u8; SIZE], q: Request) -> Result<Command, Fault>
     ensures { result ≡ decoded registers.now q }
 {
     if q.trn == NO_TRANSACTION || q.trn == INTERRUPT {

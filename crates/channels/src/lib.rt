@@ -8,21 +8,18 @@ mod masters;
 mod perform;
 mod rows;
 
-ghost use Rattle.std.specs.Prelude.{◌≡◌, length};
-ghost use Rattle.registers.specs.Registers.{size};
+ghost use Rattle.std.specs.Prelude.{◌≡◌};
 ghost use Rattle.channels.specs.Perform.{replied, performed};
 ghost use Rattle.channels.specs.Starts.{sound_registers};
 
 use commands::channel::Channel;
 use commands::request::{Reply, Request, refusal};
+use registers::SIZE;
 pub use rows::{is_busy, is_enabled, master_group};
-
-// Kept: registers come as a slice, with a clause for its length: docs/PROMISES.md names these functions, so that no type may ask more of callers.
 
 // Errors are decided first; what is performed after that cannot fail. Its reply is made before anything is stored; a start's comes later.
 #[tactic(auto, unfolding(crate::specs::Perform::replied, crate::specs::Perform::performed))]
-pub fn answer(registers: &mut [u8], q: Request) -> Option<Reply>
-    requires { length registers.old ≡ size }
+pub fn answer(registers: &mut [u8; SIZE], q: Request) -> Option<Reply>
     ensures { (result ≡ replied registers.old q) × (registers.new ≡ performed registers.old q) }
 {
     match errors::decode(registers, q) {
@@ -41,8 +38,7 @@ pub fn answer(registers: &mut [u8], q: Request) -> Option<Reply>
 // Whether every register that does not keep all its bits has none of the others set, every disabled channel holds what it should, and every open
 // start of a master is one.
 #[tactic(auto, using(crate::proofs::Laws::all_sound))]
-pub fn are_sound(registers: &[u8]) -> bool
-    requires { length registers.now ≡ size }
+pub fn are_sound(registers: &[u8; SIZE]) -> bool
     ensures { result ≡ sound_registers registers.now }
 {
     let masked = registers::are_within(registers);

@@ -1,7 +1,7 @@
 // The masters' part of what is in range: STATUS without a bit that reads 0, zeros while it is disabled, and an open start that is one.
-ghost use Rattle.std.specs.Prelude.{◌≡◌, length, ◌+◌, ◌≤◌};
+ghost use Rattle.std.specs.Prelude.{◌≡◌, ◌+◌, ◌≤◌};
 ghost use Rattle.commands.specs.declared.channel.Channel.TheVariants as Channel;
-ghost use Rattle.registers.specs.Registers.{size, each, each_master};
+ghost use Rattle.registers.specs.Registers.{each, each_master};
 ghost use Rattle.channels.specs.Rows.{is_enabled};
 ghost use Rattle.channels.specs.Starts.{start_does, open_sound};
 ghost use Rattle.channels.specs.Inner.{master_sound, none_on, first_by, many_by, Enables};
@@ -21,8 +21,7 @@ fn start_does(control: u32, does: Does) -> bool
 }
 
 #[tactic(auto, unfolding(crate::specs::Starts::open_sound))]
-fn is_open_sound(registers: &[u8], index: u8) -> bool
-    requires { length registers.now ≡ size }
+fn is_open_sound(registers: &[u8; SIZE], index: u8) -> bool
     ensures { result ≡ open_sound registers.now index }
 {
     let open = read(registers, Register::I2cOpen(index));
@@ -42,9 +41,8 @@ fn is_open_sound(registers: &[u8], index: u8) -> bool
 
 // A disabled master that holds zeros has nothing else to be looked at.
 #[tactic(auto, using(crate::proofs::Laws::one_master))]
-fn is_sound(registers: &[u8], index: u8, on: bool) -> bool
-    requires registers_len { length registers.now ≡ size }
-    requires on_value { on ≡ is_enabled registers.now (Channel.Master index) }
+fn is_sound(registers: &[u8; SIZE], index: u8, on: bool) -> bool
+    requires { on ≡ is_enabled registers.now (Channel.Master index) }
     ensures { result ≡ master_sound registers.now index }
 {
     if on {
@@ -64,8 +62,7 @@ struct Switched {
 
 // CRB bits 3 to 7 are masters 0 to 4, CRC bits 0 to 7 are 5 to 12, CRD bits 0 to 2 are 13 to 15.
 #[tactic(auto, using(crate::proofs::Laws::bit_by_bit))]
-fn switched_by(registers: &[u8], control: Control) -> Switched
-    requires { length registers.now ≡ size }
+fn switched_by(registers: &[u8; SIZE], control: Control) -> Switched
     ensures first { result.first ≡ first_by control }
     ensures many { result.many ≡ many_by control }
     ensures few { result.first + result.many ≤ 16 }
@@ -92,8 +89,7 @@ fn switched_by(registers: &[u8], control: Control) -> Switched
 
 // Where none of them is enabled, one look at all their bytes tells.
 #[tactic(auto, using(crate::proofs::Laws::part_of_them))]
-fn some_are_sound(registers: &[u8], control: Control) -> bool
-    requires { length registers.now ≡ size }
+fn some_are_sound(registers: &[u8; SIZE], control: Control) -> bool
     ensures { result ≡ each (many_by control) (first_by control) (master_sound registers.now) }
 {
     let some = switched_by(registers, control);
@@ -113,8 +109,7 @@ fn some_are_sound(registers: &[u8], control: Control) -> bool
 }
 
 // CRB bits 3 to 7, CRC, and CRD bits 0 to 2 enable the masters.
-fn none_is_on(registers: &[u8]) -> bool
-    requires { length registers.now ≡ size }
+fn none_is_on(registers: &[u8; SIZE]) -> bool
     ensures { result ≡ none_on registers.now }
 {
     let b = read(registers, Register::Crb);
@@ -125,8 +120,7 @@ fn none_is_on(registers: &[u8]) -> bool
 
 // Whether each master is in range. Where none is enabled, one look at all their bytes tells.
 #[tactic(auto, using(crate::proofs::Laws::all_of_them))]
-pub(crate) fn are_sound(registers: &[u8]) -> bool
-    requires { length registers.now ≡ size }
+pub(crate) fn are_sound(registers: &[u8; SIZE]) -> bool
     ensures { result ≡ each_master (master_sound registers.now) }
 {
     if none_is_on(registers) {

@@ -1,17 +1,16 @@
 // What a request without an error comes to: its reply, and the registers that it leaves.
-ghost use Rattle.std.specs.Prelude.{◌≡◌, length};
+ghost use Rattle.std.specs.Prelude.{◌≡◌};
 ghost use Rattle.commands.specs.Request.{fault_bit};
-ghost use Rattle.registers.specs.Registers.{size};
 ghost use Rattle.channels.specs.Perform.{told, left, marked};
 
 use crate::rows;
 use commands::channel::{Channel, channel_of};
 use commands::command::{Does, Register};
 use commands::request::{Fault, Reply, Request, granted};
+use registers::SIZE;
 use registers::i2c::INVCOM;
 
-pub(crate) fn tell(registers: &[u8], given: u8, does: Does) -> Option<Reply>
-    requires { length registers.now ≡ size }
+pub(crate) fn tell(registers: &[u8; SIZE], given: u8, does: Does) -> Option<Reply>
     ensures { result ≡ told registers.now given does }
 {
     match does {
@@ -21,8 +20,7 @@ pub(crate) fn tell(registers: &[u8], given: u8, does: Does) -> Option<Reply>
     }
 }
 
-pub(crate) fn leave(registers: &mut [u8], q: Request, does: Does)
-    requires { length registers.old ≡ size }
+pub(crate) fn leave(registers: &mut [u8; SIZE], q: Request, does: Does)
     ensures { registers.new ≡ left registers.old q does }
 {
     match does {
@@ -40,8 +38,7 @@ pub(crate) fn leave(registers: &mut [u8], q: Request, does: Does)
 
 // What an error leaves: a master notes a command that it does not know.
 #[tactic(auto, unfolding(crate::specs::Perform::marked))]
-pub(crate) fn mark(registers: &mut [u8], ch: u8, fault: Fault)
-    requires { length registers.old ≡ size }
+pub(crate) fn mark(registers: &mut [u8; SIZE], ch: u8, fault: Fault)
     ensures { registers.new ≡ marked registers.old ch (fault_bit fault) }
 {
     if fault == Fault::CmdUnknown {

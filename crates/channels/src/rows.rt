@@ -1,13 +1,13 @@
 // A row for each channel: what enables it, what makes it busy, the group that its registers are in, its own bytes among the registers. And what
 // follows from it: what a disabled channel holds.
-ghost use Rattle.std.specs.Prelude.{◌≡◌, length};
-ghost use Rattle.registers.specs.Registers.{size, written};
+ghost use Rattle.std.specs.Prelude.{◌≡◌};
+ghost use Rattle.registers.specs.Registers.{written};
 ghost use Rattle.channels.specs.Rows.{by_bit, row, row_of, master_control, master_bit, master_group, master_row, dropping, register_of};
 ghost use Rattle.channels.specs.Rows.{is_enabled, is_busy, held, settled, still_held};
 
 use commands::channel::Channel;
 use commands::command::{Control, Register};
-use registers::{MASTER_BYTES, read};
+use registers::{MASTER_BYTES, SIZE, read};
 
 // What enables a channel: a bit of a register of the controller.
 #[derive(Clone, Copy)]
@@ -124,16 +124,14 @@ fn register_of(control: Control) -> Register
     }
 }
 
-pub fn is_enabled(registers: &[u8], which: Channel) -> bool
-    requires { length registers.now ≡ size }
+pub fn is_enabled(registers: &[u8; SIZE], which: Channel) -> bool
     ensures { result ≡ is_enabled registers.now which }
 {
     let switch = row_of(which).switch;
     switch.is_none_or(|by| read(registers, register_of(by.control)) & by.bit != 0)
 }
 
-pub fn is_busy(registers: &[u8], which: Channel) -> bool
-    requires { length registers.now ≡ size }
+pub fn is_busy(registers: &[u8; SIZE], which: Channel) -> bool
     ensures { result ≡ is_busy registers.now which }
 {
     let busy = row_of(which).busy;
@@ -141,8 +139,7 @@ pub fn is_busy(registers: &[u8], which: Channel) -> bool
 }
 
 #[tactic(auto, using(crate::proofs::Owners::own_inside), unfolding(crate::specs::Rows::held))]
-fn hold(registers: &mut [u8], which: Channel)
-    requires { length registers.old ≡ size }
+fn hold(registers: &mut [u8; SIZE], which: Channel)
     ensures { registers.new ≡ held registers.old which }
 {
     if is_enabled(registers, which) {
@@ -185,9 +182,8 @@ fn dropping(control: Control) -> &'static [Channel]
 }
 
 // A disabled channel drops what it had, and what it had open: each that this register switches.
-#[tactic(auto, using(crate::proofs::Cases::held_next, crate::proofs::Cases::held_none, crate::proofs::Laws::length_held))]
-fn settle(registers: &mut [u8], control: Control)
-    requires { length registers.old ≡ size }
+#[tactic(auto, using(crate::proofs::Cases::held_next, crate::proofs::Cases::held_none))]
+fn settle(registers: &mut [u8; SIZE], control: Control)
     ensures { registers.new ≡ settled control registers.old }
 {
     for which in dropping(control) {
@@ -196,8 +192,7 @@ fn settle(registers: &mut [u8], control: Control)
 }
 
 // A register of the controller's takes what stands for it in D.
-pub(crate) fn switch_by(registers: &mut [u8], control: Control, value: u32)
-    requires { length registers.old ≡ size }
+pub(crate) fn switch_by(registers: &mut [u8; SIZE], control: Control, value: u32)
     ensures { registers.new ≡ settled control (written registers.old (register_of control) value) }
 {
     registers::write(registers, register_of(control), value);
@@ -206,8 +201,7 @@ pub(crate) fn switch_by(registers: &mut [u8], control: Control, value: u32)
 
 // A channel that is enabled may hold anything; its registers are looked at only where it is not.
 #[tactic(auto, using(crate::proofs::Owners::own_inside), unfolding(crate::specs::Rows::still_held))]
-pub(crate) fn still_holds(registers: &[u8], which: Channel) -> bool
-    requires { length registers.now ≡ size }
+pub(crate) fn still_holds(registers: &[u8; SIZE], which: Channel) -> bool
     ensures { result ≡ still_held registers.now which }
 {
     if is_enabled(registers, which) {

@@ -4,6 +4,7 @@ ghost use Rattle.bits.specs.Bits.{bit_of, word};
 ghost use Rattle.registers.specs.Registers.{size};
 ghost use Rattle.registers.specs.Pins.{taken_lines, datain_after, fires, firing_lines, interrupts, sampled};
 
+use crate::SIZE;
 use commands::command::Register;
 
 // The lines that take their level at an edge kind.
@@ -21,8 +22,7 @@ fn taken_lines(direction: u32, clksel: u32, edgesel: u32, kind: u8) -> u32
 }
 
 #[tactic(auto, using(crate::proofs::Pins::datain_mask))]
-fn datain_after(registers: &[u8], levels: u32, kind: u8) -> u32
-    requires { length registers.now ≡ size }
+fn datain_after(registers: &[u8; SIZE], levels: u32, kind: u8) -> u32
     ensures { result ≡ datain_after registers.now levels kind }
 {
     let direction = crate::read(registers, Register::Direction);
@@ -43,8 +43,7 @@ fn fired(was: u32, is: u32, intsel: u32, inttrig: u32) -> u32
 
 // Those that went from DATAIN to `after`.
 #[tactic(auto, unfolding(crate::specs::Pins::firing_lines))]
-fn firing_lines(registers: &[u8], after: u32) -> u32
-    requires { length registers.now ≡ size }
+fn firing_lines(registers: &[u8; SIZE], after: u32) -> u32
     ensures { result ≡ firing_lines registers.now after }
 {
     let was = crate::read(registers, Register::Datain);
@@ -55,8 +54,7 @@ fn firing_lines(registers: &[u8], after: u32) -> u32
 
 // A pin sample. Tells whether an interrupt goes out: its data are INTS.
 #[tactic(auto, unfolding(crate::specs::Pins::interrupts, crate::specs::Pins::sampled))]
-pub fn sample(registers: &mut [u8], levels: u32, kind: u8) -> bool
-    requires { length registers.old ≡ size }
+pub fn sample(registers: &mut [u8; SIZE], levels: u32, kind: u8) -> bool
     ensures { (result ≡ interrupts registers.old levels kind) × (registers.new ≡ sampled registers.old levels kind) }
 {
     let after = datain_after(registers, levels, kind);

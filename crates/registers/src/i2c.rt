@@ -5,6 +5,7 @@ ghost use Rattle.commands.specs.Field.{Data0, Data1, Data2, Data3, master};
 ghost use Rattle.registers.specs.Registers.{size};
 ghost use Rattle.registers.specs.Transaction.{nbyte, allows, status_after, byte_after, word_after, filled_word, filled, fills_data, brings_byte, ended, end_data};
 
+use crate::SIZE;
 use commands::command::{Register, Transaction};
 
 // The most bytes that CTRL can ask for.
@@ -95,9 +96,8 @@ fn word_after(received: &[u8], count: u32, k: u32, was: u32) -> u32
 
 // One word of DATA, whose first byte is byte k, after a read of so many.
 #[tactic(auto, unfolding(crate::specs::Transaction::filled_word))]
-fn fill_word(registers: &mut [u8], which: Register, received: &[u8], count: u32, k: u32)
-    requires registers_len { length registers.old ≡ size }
-    requires within_data { k < 16 }
+fn fill_word(registers: &mut [u8; SIZE], which: Register, received: &[u8], count: u32, k: u32)
+    requires { k < 16 }
     ensures { registers.new ≡ filled_word which received.now count k registers.old }
 {
     let was = crate::read(registers, which);
@@ -106,8 +106,7 @@ fn fill_word(registers: &mut [u8], which: Register, received: &[u8], count: u32,
 
 // DATA bytes 0 to count - 1 become those received, lacking ones 0.
 #[tactic(auto, unfolding(crate::specs::Transaction::filled))]
-fn fill(registers: &mut [u8], index: u8, received: &[u8], count: u32)
-    requires { length registers.old ≡ size }
+fn fill(registers: &mut [u8; SIZE], index: u8, received: &[u8], count: u32)
     ensures { registers.new ≡ filled index received.now count registers.old }
 {
     fill_word(registers, Register::I2cData0(index), received, count, 0);
@@ -139,14 +138,13 @@ fn end_data(status: u8, received: &[u8], brought: bool) -> u32
 // The end of a transaction: the start is closed, STATUS is new, and on SUCC a multi-byte read fills DATA. Tells D of the reply.
 #[tactic(auto, unfolding(crate::specs::Transaction::ended, crate::specs::Transaction::end_data))]
 pub fn end(
-    registers: &mut [u8],
+    registers: &mut [u8; SIZE],
     index: u8,
     transaction: Transaction,
     acknowledge: bool,
     low: bool,
     received: &[u8],
 ) -> u32
-    requires { length registers.old ≡ size }
     ensures { (registers.new ≡ ended index transaction acknowledge low received.now registers.old) × (result ≡ end_data index transaction acknowledge low received.now registers.old) }
 {
     let was = crate::read(registers, Register::I2cStatus(index));

@@ -94,8 +94,7 @@ fn row_of(which: Register) -> Row
 }
 
 #[tactic(auto, unfolding(crate::specs::Registers::read))]
-pub fn read(registers: &[u8], which: Register) -> u32
-    requires { length registers.now ≡ size }
+pub fn read(registers: &[u8; SIZE], which: Register) -> u32
     ensures { result ≡ read registers.now which }
 {
     let row = row_of(which);
@@ -103,8 +102,7 @@ pub fn read(registers: &[u8], which: Register) -> u32
 }
 
 #[tactic(auto, unfolding(crate::specs::Registers::store))]
-pub fn store(registers: &mut [u8], which: Register, value: u32)
-    requires { length registers.old ≡ size }
+pub fn store(registers: &mut [u8; SIZE], which: Register, value: u32)
     ensures { registers.new ≡ store registers.old which value }
 {
     let row = row_of(which);
@@ -113,8 +111,7 @@ pub fn store(registers: &mut [u8], which: Register, value: u32)
 
 // A register as it stands in D.
 #[tactic(auto, unfolding(crate::specs::Registers::read))]
-pub fn show(registers: &[u8], which: Register) -> u32
-    requires { length registers.now ≡ size }
+pub fn show(registers: &[u8; SIZE], which: Register) -> u32
     ensures { result ≡ shown registers.now which }
 {
     let row = row_of(which);
@@ -123,8 +120,7 @@ pub fn show(registers: &[u8], which: Register) -> u32
 
 // A register takes what stands for it in D.
 #[tactic(auto, unfolding(crate::specs::Registers::store))]
-pub fn write(registers: &mut [u8], which: Register, value: u32)
-    requires { length registers.old ≡ size }
+pub fn write(registers: &mut [u8; SIZE], which: Register, value: u32)
     ensures { registers.new ≡ written registers.old which value }
 {
     let row = row_of(which);
@@ -160,8 +156,7 @@ pub fn are_zero(registers: &[u8], first: usize, many: usize) -> bool
     none_set(&registers[first..first + many])
 }
 
-pub fn is_within(registers: &[u8], which: Register) -> bool
-    requires { length registers.now ≡ size }
+pub fn is_within(registers: &[u8; SIZE], which: Register) -> bool
     ensures { result ≡ is_within registers.now which }
 {
     let value = read(registers, which);
@@ -169,8 +164,7 @@ pub fn is_within(registers: &[u8], which: Register) -> bool
 }
 
 // Whether no register of the core, SPI and GPIO has a bit set that reads 0.
-pub fn are_within(registers: &[u8]) -> bool
-    requires { length registers.now ≡ size }
+pub fn are_within(registers: &[u8; SIZE]) -> bool
     ensures { result ≡ four_within registers.now }
 {
     let crb = is_within(registers, Register::Crb);

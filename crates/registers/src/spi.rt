@@ -6,6 +6,7 @@ ghost use Rattle.commands.specs.declared.command.Register.TheVariants.{SpiData0}
 ghost use Rattle.registers.specs.Registers.{size, read, store};
 ghost use Rattle.registers.specs.Transfer.{transfer_length, filled, merged_word, data_after, with_data, completed};
 
+use crate::SIZE;
 use commands::command::Register;
 use parts::{Width, number_at};
 
@@ -41,8 +42,7 @@ fn merged(was: u32, received: u32, length: u8, from: u8) -> u32
     (was & !mask) | (received & mask)
 }
 
-fn fill_word(registers: &mut [u8], which: Register, received: u32, count: u8, from: u8)
-    requires { length registers.old ≡ size }
+fn fill_word(registers: &mut [u8; SIZE], which: Register, received: u32, count: u8, from: u8)
     ensures { registers.new ≡ store registers.old which (merged_word count from (read registers.old which) received) }
 {
     let was = crate::read(registers, which);
@@ -58,9 +58,7 @@ fn word(received: &[u8], at: usize) -> u32
 
 // DATA after a transfer, word by word.
 #[tactic(auto, using(crate::proofs::Transfer::words_filled))]
-fn fill(registers: &mut [u8], received: &[u8])
-    requires registers_len { length registers.old ≡ size }
-    requires received_len { length received.now ≡ 16 }
+fn fill(registers: &mut [u8; SIZE], received: &[u8; 16])
     ensures { registers.new ≡ with_data registers.old (data_after registers.old received.now) }
 {
     let count = transfer_length(crate::read(registers, Register::SpiControl));
@@ -72,9 +70,7 @@ fn fill(registers: &mut [u8], received: &[u8])
 
 // The end of a transfer of 16 received bytes. Tells DATA[31:0] after it.
 #[tactic(auto, unfolding(crate::specs::Transfer::completed))]
-pub fn complete(registers: &mut [u8], received: &[u8]) -> u32
-    requires registers_len { length registers.old ≡ size }
-    requires received_len { length received.now ≡ 16 }
+pub fn complete(registers: &mut [u8; SIZE], received: &[u8; 16]) -> u32
     ensures { (registers.new ≡ completed registers.old received.now) × (result ≡ read registers.new SpiData0) }
 {
     fill(registers, received);

@@ -4,7 +4,6 @@
 
 ghost use Rattle.std.specs.Prelude.{◌≡◌, ◌≤◌, length};
 ghost use Rattle.parts.specs.Parts.{put};
-ghost use Rattle.registers.specs.Registers.{size};
 ghost use Rattle.state.specs.State.{blank};
 ghost use Rattle.state.specs.Bytes.{link_bytes, link_image, link_of, is_state};
 
@@ -26,8 +25,7 @@ const LAST_PORT: u8 = 1;
 const LOOPING: u8 = 1;
 
 // The registers at power-on, of a chip of this ID.
-pub fn power_on(registers: &mut [u8], id: u32)
-    requires { length registers.old ≡ size }
+pub fn power_on(registers: &mut [u8; SIZE], id: u32)
     ensures { registers.new ≡ blank id }
 {
     registers.fill(0);
@@ -77,5 +75,5 @@ pub fn is_state(s: &[u8]) -> bool
         && s[0] <= LAST_NUMBER
         && s[1] <= LAST_NUMBER
         && s[2] <= LAST_PORT
-        && channels::are_sound(&s[LINK..])
+        && s[LINK..].as_array().is_some_and(channels::are_sound)
 }
