@@ -4,17 +4,18 @@ use mathlib.Core.Bool.{Bool, true, ◌&&◌}
 use mathlib.Core.List.{List, [], ◌∷◌, ◌++◌}
 use mathlib.Core.Path.{◌≡◌, refl, ap, ap₂, ◌∙◌}
 use native.Mathlib.Nat.{add-zero, div-div-eq-div-mul}
+use native.Mathlib.Numerals.{add-one}
 use native.Mathlib.Omega.{arith}
 use borrow.Author.Tests.{eqb-true}
 use lib.Dec.{eqb}
-use lib.ListN.{length, take, drop, get_or, replicate}
-use lib.Seq.{get_or-drop}
+use lib.ListN.{length, take, drop, get_or, set, replicate, length-append}
+use lib.Seq.{get_or-drop, set_split}
 use Rattle.bits.proofs.Tests.{both, and_true, and_assoc}
 use Rattle.parts.specs.declared.Width.{Width}
 use Rattle.parts.specs.declared.Width.TheVariants.{Byte, Half, Word}
-use Rattle.parts.specs.Parts.{part, all_zero}
+use Rattle.parts.specs.Parts.{part, put, all_zero}
 use Rattle.parts.specs.Digits.{word, number, digits, bytes_in}
-use Rattle.parts.proofs.Laws.{AreBytes}
+use Rattle.parts.proofs.Laws.{put_put, length_put, AreBytes}
 
 pub length_digits : (n v : ℕ) → length (digits n v) ≡ n
 unfolding digits
@@ -91,20 +92,6 @@ zeros_snoc (x ∷ s) b = ap (λ (t : Bool). eqb x 0 && t) (zeros_snoc s b) ∙ a
 
 -- ---- what `number_at` and `store_number` do, by their widths
 
-pub room : (w : Width) (at n : ℕ) → at + bytes_in w ≤ n → at < n
-room Byte at n h = omega arith
-room Half at n h = omega arith
-room Word at n h = omega arith
-
-pub room_half : (w : Width) (at n : ℕ) → at + bytes_in w ≤ n → w ≡ Half → at + 1 < n
-room_half w at n h e = omega (arith, rw e at h)
-
-pub room_four : (w : Width) (at n : ℕ) → at + bytes_in w ≤ n → w ≡ Word → at + 4 ≤ n
-room_four w at n h e = rw e at h
-
-pub room_word : (w : Width) (at n k : ℕ) → at + bytes_in w ≤ n → w ≡ Word → k < 4 → at + k < n
-room_word w at n k h e l = omega (arith, rw e at h)
-
 -- the number at the front of some bytes; what is not there counts as 0
 front_byte : (d : List ℕ) → word (get_or d 0 0) 0 0 0 ≡ number (take 1 d)
 unfolding number
@@ -137,6 +124,23 @@ module _ (s : List ℕ) (at v : ℕ) (w : Width) where
   pub reads_word : w ≡ Word → v ≡ word (get_or s at 0) (get_or s (at + 1) 0) (get_or s (at + 2) 0) (get_or s (at + 3) 0) → v ≡ number (part at (bytes_in w) s)
   unfolding part
   reads_word e f = rw (e, f, ← front_word (drop at s)) (simp (get_or-drop, add-zero))
+
+-- ---- one byte after the other
+
+pub set_put : (s : List ℕ) (p x : ℕ) → p < length s → set s p x ≡ put p (x ∷ []) s
+unfolding put
+set_put s p x h = rw add-one (set_split s p x h)
+
+-- one more behind those that were put
+pub set_next : (s d : List ℕ) (p q x : ℕ) → q ≡ p + length d → p + length (d ++ (x ∷ [])) ≤ length s → set (put p d s) q x ≡ put p (d ++ (x ∷ [])) s
+set_next s d p q x e h =
+    let n : length (d ++ (x ∷ [])) ≡ length d + 1 = length-append d (x ∷ []) in
+    let l : p + length d ≤ length s = omega arith in
+    let m = length_put p d s l in
+    set_put (put p d s) q x (omega arith) ∙ put_put p d (x ∷ []) s q e l
+
+pub set_two : (s : List ℕ) (p a b : ℕ) → p + 2 ≤ length s → set (set s p a) (p + 1) b ≡ put p (a ∷ b ∷ []) s
+set_two s p a b h = rw (set_put s p a (omega arith)) (set_next s (a ∷ []) p (p + 1) b refl h)
 
 -- the low bytes, as they are written
 pub digits_byte : (x : ℕ) → digits 1 x ≡ x % 256 ∷ []
