@@ -11,7 +11,7 @@ use Rattle.commands.specs.declared.command.Register.TheVariants.{ChipId}
 use Rattle.registers.specs.Registers.{read}
 use Rattle.channels.specs.Perform.{replied as replyDue, performed}
 use Rattle.commands.specs.declared.request.Reply.{Reply}
-use Rattle.commands.specs.declared.request.Reply.TheVariants.{Sent, Later}
+use Rattle.std.specs.Prelude.{Option, None, Some}
 use Rattle.chip.specs.Request.{replies, finished, requested}
 use Rattle.chip.specs.Frame.{is_reset_frame, address_of, control_of, information_of, commanded, addressed, on_frame}
 use Rattle.chip.specs.Chip.{reaction, accepted_reset}
@@ -91,11 +91,11 @@ pub judging : (a : Adapter) (info : List ℕ) → SameAnswer (requested a info) 
 unfolding requested replies
 judging a info = by (replyDue a.registers (request_of info))
   where
-    by : (p : Reply)
+    by : (p : Option Reply)
         → SameAnswer (finished (with_registers a (performed a.registers (request_of info))) (request_of info).trn (request_of info).ch p)
         (finished a (request_of info).trn (request_of info).ch p)
-    by (Sent err len d) = record { number = refl; port = refl; frames = refl }
-    by Later = record { number = refl; port = refl; frames = refl }
+    by (Some r) = record { number = refl; port = refl; frames = refl }
+    by None = record { number = refl; port = refl; frames = refl }
 
 -- ---- RESET
 

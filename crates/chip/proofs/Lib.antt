@@ -1,7 +1,5 @@
 pub mod EventFits
 pub mod Cases
-pub mod Answers
-pub mod Happens
 pub mod Steps
 pub mod Bodies
 pub mod Good

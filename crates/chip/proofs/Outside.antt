@@ -8,8 +8,8 @@ use Rattle.commands.specs.Channels.{first_master}
 use Rattle.registers.specs.Registers.{size, read}
 use Rattle.registers.proofs.Laws.{read_same}
 use Rattle.channels.specs.Groups.{span_of, group_for}
-use Rattle.channels.specs.declared.groups.Group.{Group}
-use Rattle.channels.specs.declared.groups.Group.TheVariants.{Nothing, Switched}
+use Rattle.std.specs.Prelude.{Option, None, Some}
+use Rattle.commands.specs.declared.command.Control.{Control}
 use Rattle.channels.proofs.Laws.{Sound, SameOutside, performed_outside, sampled_outside, completed_outside, ended_outside, upset_outside}
 use Rattle.parts.specs.Parts.{part}
 use Rattle.parts.specs.Digits.{number}
@@ -28,7 +28,7 @@ request_group body h = simp h
 module _ (a : Adapter) (n : length a.registers ≡ size) where
   moved_outside : (e : Event) (b : Adapter) → Moved a e b → SameOutside (group_of e) b.registers a.registers
   moved_outside e b (requests port body h) =
-      subst (λ (g : Group). SameOutside g b.registers a.registers) (request_group body h) (performed_outside a.registers n (request_of (information_of body)))
+      subst (λ (g : Option Control). SameOutside g b.registers a.registers) (request_group body h) (performed_outside a.registers n (request_of (information_of body)))
   moved_outside e b (completes received h) = completed_outside a.registers n received
   moved_outside e b (ends channel acknowledge lineLow received t h) = ended_outside a.registers n (channel - first_master) t acknowledge lineLow received
   moved_outside e b (samples levels kind h) = sampled_outside a.registers n levels kind
@@ -68,8 +68,8 @@ module _ (a : Adapter) (s : Sound a.registers) where
       state_cases a e (λ (b : Adapter). read b.registers ChipId ≡ read a.registers ChipId) refl (λ port body b _ c. commanded_id port body b c)
       (λ b m. ap number (moved_outside a s.fits.long e b m 11 4 (lit≤ tt) (inl (before_groups (group_of e))))) (λ b h. h)
     where
-      before_groups : (g : Group) → 15 ≤ (span_of g).first
-      before_groups Nothing = lit≤ tt
-      before_groups (Switched B) = lit≤ tt
-      before_groups (Switched C) = lit≤ tt
-      before_groups (Switched D) = lit≤ tt
+      before_groups : (g : Option Control) → 15 ≤ (span_of g).first
+      before_groups None = lit≤ tt
+      before_groups (Some B) = lit≤ tt
+      before_groups (Some C) = lit≤ tt
+      before_groups (Some D) = lit≤ tt

@@ -5,12 +5,11 @@ use borrow.Author.Tests.{not-false}
 use Rattle.bits.proofs.Tests.{cond_cases}
 use Rattle.commands.specs.declared.channel.Channel.TheVariants.{Spi, Gpio, Master}
 use Rattle.commands.specs.declared.command.Command.{Command}
-use Rattle.commands.specs.declared.command.Command.TheVariants.{Known, Unknown}
+use Rattle.std.specs.Prelude.{Option, None, Some}
 use Rattle.commands.specs.declared.command.Transaction.{Transaction}
 use Rattle.commands.specs.Channels.{first_master, command_of}
 use Rattle.commands.specs.declared.command.Register.TheVariants.{Seu}
 use Rattle.commands.specs.declared.request.Reply.{Reply}
-use Rattle.commands.specs.declared.request.Reply.TheVariants.{Sent, Later}
 use Rattle.registers.specs.Registers.{read, store}
 use Rattle.registers.specs.Pins.{sampled}
 use Rattle.registers.specs.Transfer.{completed}
@@ -105,13 +104,13 @@ module _ (a : Adapter) (port : ℕ) (body : List ℕ) where
   unfolding commanded
   of_command_lem b c = search (check, acknowledged)
 
-  of_reply : eqb (length (information_of body)) 8 ≡ true → (r : Reply) → ReplyBytes r
+  of_reply : eqb (length (information_of body)) 8 ≡ true → (r : Option Reply) → ReplyBytes r
       → Shape a (frame port body)
       (finished (with_registers (counted a) (left_by a body)) (request_of (information_of body)).trn (request_of (information_of body)).ch r)
-  of_reply h (Sent err len d) t =
-      replied _ _ _ err len d (requests port body h)
+  of_reply h (Some r) t =
+      replied _ _ _ r.error r.length r.value (requests port body h)
       (λ f. record { trn = bytes_drop 2 body f.bytes 0; ch = bytes_drop 2 body f.bytes 1; err = t.0; len = t.1 })
-  of_reply h Later t = quiet _ (requests port body h)
+  of_reply h None t = quiet _ (requests port body h)
 
   of_request : eqb (length (information_of body)) 8 ≡ true → Shape a (frame port body) (requested (counted a) (drop 2 body))
   unfolding requested
@@ -145,9 +144,9 @@ of_transfer a e b n d m = replied b _ _ _ _ d m (λ _. record { trn = mod-lt n (
 given_small : (i code : ℕ) → given_by (command_of (Master i) code) < 256
 given_small i code = by (command_of (Master i) code) (given_byte (Master i) code)
   where
-    by : (k : Command) → GivenByte k → given_by k < 256
-    by Unknown g = lit< tt
-    by (Known l doing) g = g
+    by : (k : Option Command) → GivenByte k → given_by k < 256
+    by None g = lit< tt
+    by (Some command) g = g
 
 of_ended : (a : Adapter) (channel : ℕ) (acknowledge lineLow : Bool) (received : List ℕ) (b : Adapter) (n i code d : ℕ)
     → Moved a (completion (i2c channel acknowledge lineLow received)) b

@@ -1,9 +1,8 @@
 -- The chip: one function from a state and an event to the one state and the one answer that the tables fix.
-use Rattle.std.specs.Prelude.{ℕ, ◌+◌, ◌-◌, ◌%◌, ◌^◌, Bool, false, cond, not, List}
+use Rattle.std.specs.Prelude.{ℕ, ◌+◌, ◌-◌, ◌%◌, ◌^◌, Bool, false, cond, not, List, Option, None, Some}
 use Rattle.numbers.specs.Numbers.{not_busy, lines_disabled, no_frame}
 use Rattle.commands.specs.declared.channel.Channel.TheVariants.{Spi, Gpio, Master}
 use Rattle.commands.specs.declared.command.Command.{Command}
-use Rattle.commands.specs.declared.command.Command.TheVariants.{Known, Unknown}
 use Rattle.commands.specs.declared.command.Does.{Does}
 use Rattle.commands.specs.declared.command.Does.TheVariants as does
 use Rattle.commands.specs.declared.command.Transaction.{Transaction}
@@ -47,13 +46,13 @@ transaction_of (does.Clear r) = Modify
 transaction_of (does.Start r) = Modify
 transaction_of (does.Transact i transaction) = transaction
 
-abbrev pub started_by : Command → Transaction
-started_by Unknown = Modify
-started_by (Known l doing) = transaction_of doing
+abbrev pub started_by : Option Command → Transaction
+started_by None = Modify
+started_by (Some command) = transaction_of command.does
 
-abbrev pub given_by : Command → ℕ
-given_by Unknown = 0
-given_by (Known l doing) = l.given
+abbrev pub given_by : Option Command → ℕ
+given_by None = 0
+given_by (Some command) = command.lengths.given
 
 -- The start's reply, with its own TRN: ERR 0 whatever STATUS says, LEN of its row, STATUS in D[31:24].
 unfoldable pub transacted : Adapter → ℕ → Bool → Bool → List ℕ → Reaction

@@ -1,7 +1,6 @@
 -- A request answered, and its reply.
-use Rattle.std.specs.Prelude.{ℕ, List}
+use Rattle.std.specs.Prelude.{ℕ, List, Option, None, Some}
 use Rattle.commands.specs.declared.request.Reply.{Reply}
-use Rattle.commands.specs.declared.request.Reply.TheVariants.{Sent, Later}
 use Rattle.numbers.specs.Numbers.{no_frame}
 use Rattle.packets.specs.Packets.{request_of, reply_body}
 use Rattle.channels.specs.Perform.{replied, performed}
@@ -15,9 +14,9 @@ replies a trn ch err len d =
     sends (with_link a (send_up a.link)) a.link.port (reply_body (reply_control a.link) trn ch err len d)
 
 -- A reply that is sent is number 0, one that comes later is 17; TRN and CH are the request's.
-abbrev pub finished : Adapter → ℕ → ℕ → Reply → Reaction
-finished a trn ch (Sent err len d) = replies a trn ch err len d
-finished a trn ch Later = gives a no_frame
+abbrev pub finished : Adapter → ℕ → ℕ → Option Reply → Reaction
+finished a trn ch (Some r) = replies a trn ch r.error r.length r.value
+finished a trn ch None = gives a no_frame
 
 unfoldable pub requested : Adapter → List ℕ → Reaction
 requested a info =

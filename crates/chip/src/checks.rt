@@ -8,7 +8,7 @@ ghost use Rattle.chip.specs.Frame.{is_reset_frame, reset, acknowledges, commande
 
 use crate::{Response, answer, request};
 use commands::command::Register;
-use link::Link;
+use link::{Link, LinkCommand};
 use numbers::Silence;
 
 // Bit 0 of a control that carries no request.
@@ -21,18 +21,13 @@ const NO_INFORMATION: usize = 2;
 const INFORMATION: usize = 8;
 
 // A body that is RESET: the chip's address, RESET's control, no information.
+#[tactic(auto, unfolding(crate::specs::Frame::is_reset_frame))]
 pub(crate) fn resets(body: &[u8]) -> bool
     requires { body_least ≤ length body.now }
     ensures { result ≡ is_reset_frame body.now }
 {
-    if body[0] != packets::ADDRESS {
-        return false;
-    }
-    if link::is_reset(body[1]) {
-        body.len() == 2
-    } else {
-        false
-    }
+    let here = body[0] == packets::ADDRESS;
+    here && link::command_in(body[1]) == Some(LinkCommand::Reset) && body.len() == NO_INFORMATION
 }
 
 // A command's acknowledgement, on the same port.
@@ -45,35 +40,36 @@ fn acknowledge(link: Link, port: u8, control: u8, output: &mut [u8]) -> Response
 }
 
 // A command that leaves another link, unless it carries information. The registers stay.
+#[tactic(auto, unfolding(crate::specs::Frame::commanded))]
 fn command(link: Link, after: Link, port: u8, body: &[u8], output: &mut [u8]) -> Response
     requires body_least_in_bounds { body_least ≤ length body.now }
     requires output_least_in_bounds { output_least ≤ length output.old }
     ensures { (rs : List ℕ) → said result rs output.new ≡ says (commanded (adapter link rs) (adapter after rs) port body.now) output.old }
 {
-    if body.len() == 2 {
-        acknowledge(after, port, body[1], output)
-    } else {
-        answer::give(link, Silence::BadInformation)
+    if body.len() != NO_INFORMATION {
+        return answer::give(link, Silence::BadInformation);
     }
+    acknowledge(after, port, body[1], output)
 }
 
 // RESET, unless it carries information.
+#[tactic(auto, unfolding(crate::specs::Frame::commanded))]
 fn reset(link: Link, registers: &mut [u8], port: u8, body: &[u8], output: &mut [u8]) -> Response
     requires registers_len { length registers.old ≡ size }
     requires body_least_in_bounds { body_least ≤ length body.now }
     requires output_least_in_bounds { output_least ≤ length output.old }
     ensures { said result registers.new output.new ≡ says (let a = adapter link registers.old in commanded a (reset a port) port body.now) output.old }
 {
-    if body.len() == 2 {
-        let id = registers::read(registers, Register::ChipId);
-        state::power_on(registers, id);
-        acknowledge(link::fresh(port), port, body[1], output)
-    } else {
-        answer::give(link, Silence::BadInformation)
+    if body.len() != NO_INFORMATION {
+        return answer::give(link, Silence::BadInformation);
     }
+    let id = registers::read(registers, Register::ChipId);
+    state::power_on(registers, id);
+    acknowledge(link::fresh(port), port, body[1], output)
 }
 
 // Checks 7 and 8.
+#[tactic(auto, unfolding(crate::specs::Frame::numbered))]
 fn in_order(
     link: Link,
     registers: &mut [u8],
@@ -96,6 +92,7 @@ fn in_order(
 }
 
 // Checks 4 to 8.
+#[tactic(auto, unfolding(crate::specs::Frame::carried))]
 fn carry(link: Link, registers: &mut [u8], port: u8, body: &[u8], output: &mut [u8]) -> Response
     requires registers_len { length registers.old ≡ size }
     requires body_least_in_bounds { (body_least ≤ length body.now) × (length body.now ≤ body_most) }
@@ -109,13 +106,21 @@ fn carry(link: Link, registers: &mut [u8], port: u8, body: &[u8], output: &mut [
     if port != link.port {
         return answer::give(link, Silence::OtherPort);
     }
-    if body.len() - 2 != INFORMATION {
+    if body.len() != NO_INFORMATION + INFORMATION {
         return answer::give(link, Silence::BadInformation);
     }
-    in_order(link, registers, port, body[1], &body[2..], output)
+    in_order(
+        link,
+        registers,
+        port,
+        body[1],
+        &body[NO_INFORMATION..],
+        output,
+    )
 }
 
 // Checks 2 to 8.
+#[tactic(auto, unfolding(crate::specs::Frame::addressed))]
 fn check_control(
     link: Link,
     registers: &mut [u8],
@@ -128,23 +133,17 @@ fn check_control(
     requires output_least_in_bounds { output_least ≤ length output.old }
     ensures { said result registers.new output.new ≡ says (addressed (adapter link registers.old) port body.now) output.old }
 {
-    let control = body[1];
-    if link::is_connect(control) {
-        return command(link, link::fresh(port), port, body, output);
+    match link::command_in(body[1]) {
+        Some(LinkCommand::Connect) => command(link, link::fresh(port), port, body, output),
+        Some(LinkCommand::Reset) => reset(link, registers, port, body, output),
+        Some(LinkCommand::Test) => command(link, link::loop_back(link, port), port, body, output),
+        None if body[1] & UNNUMBERED != 0 => answer::give(link, Silence::OtherControl),
+        None => carry(link, registers, port, body, output),
     }
-    if link::is_reset(control) {
-        return reset(link, registers, port, body, output);
-    }
-    if link::is_test(control) {
-        return command(link, link::loop_back(link, port), port, body, output);
-    }
-    if control & UNNUMBERED != 0 {
-        return answer::give(link, Silence::OtherControl);
-    }
-    carry(link, registers, port, body, output)
 }
 
 // Checks 1 to 8.
+#[tactic(auto, unfolding(crate::specs::Frame::on_frame))]
 pub(crate) fn check(
     link: Link,
     registers: &mut [u8],

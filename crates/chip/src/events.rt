@@ -12,11 +12,10 @@ ghost use Rattle.chip.specs.Group.{group_of};
 
 use crate::{Response, answer, checks, request};
 use channels::groups;
-use channels::groups::Group;
 use commands::channel;
 use commands::channel::Channel;
-use commands::command::{Command, Does, Register, Transaction};
-use commands::request::INTERRUPT;
+use commands::command::{Command, Control, Does, Register, Transaction};
+use commands::request::{INTERRUPT, granted};
 use commands::spi::GO;
 use link::Link;
 use numbers::Silence;
@@ -36,6 +35,7 @@ const FIRST_MASTER: u8 = 0x03;
 const REQUEST_BODY: usize = 10;
 
 // A frame body on a port.
+#[tactic(auto, unfolding(crate::specs::Chip::reaction))]
 pub fn on_frame(
     link: Link,
     registers: &mut [u8],
@@ -60,72 +60,66 @@ pub fn is_reset(body: &[u8]) -> bool
 }
 
 // What a frame body may change besides the core.
-pub fn group_of(body: &[u8]) -> Group
+#[tactic(auto, unfolding(crate::specs::Group::group_of_frame))]
+pub fn group_of(body: &[u8]) -> Option<Control>
     requires { body_least ≤ length body.now }
     ensures { result ≡ group_of (Event.frame 0 body.now) }
 {
     if body.len() == REQUEST_BODY {
         return groups::group_for(packets::request_of(&body[2..REQUEST_BODY]));
     }
-    Group::Nothing
+    None
 }
 
 // The GO's reply, with its own TRN.
+#[tactic(auto, unfolding(crate::specs::Chip::transferred))]
 fn transfer(link: Link, registers: &mut [u8], received: &[u8], output: &mut [u8]) -> Response
     requires registers_len { length registers.old ≡ size }
     requires received_len { length received.now ≡ transfer_bytes }
     requires output_least_in_bounds { output_least ≤ length output.old }
     ensures { said result registers.new output.new ≡ says (transferred (adapter link registers.old) received.now) output.old }
 {
-    let go = (registers::read(registers, Register::SpiGo) % 0x100) as u8;
+    let [go, _, _, _] = registers::read(registers, Register::SpiGo).to_le_bytes();
     let value = spi::complete(registers, received);
-    request::reply(link, go, SPI_CHANNEL, 0, GO.given, value, output)
+    request::reply(link, go, SPI_CHANNEL, granted(GO.given, value), output)
 }
 
 // An SPI completion with 16 received bytes.
+#[tactic(auto, unfolding(crate::specs::Chip::reaction, crate::specs::Chip::on_spi))]
 pub fn on_spi(link: Link, registers: &mut [u8], received: &[u8], output: &mut [u8]) -> Response
     requires registers_len { length registers.old ≡ size }
     requires received_len { length received.now ≡ transfer_bytes }
     requires output_least_in_bounds { output_least ≤ length output.old }
     ensures { said result registers.new output.new ≡ says (reaction (adapter link registers.old) (Event.completion (Completion.spi received.now))) output.old }
 {
-    if channels::is_busy(registers, Channel::Spi) {
-        transfer(link, registers, received, output)
-    } else {
-        answer::give(link, Silence::NotBusy)
+    if !channels::is_busy(registers, Channel::Spi) {
+        return answer::give(link, Silence::NotBusy);
     }
+    transfer(link, registers, received, output)
 }
 
-// What a start that was kept did on the bus, and the LEN of its reply. In a state in range there is no other command.
+// What a start that was kept did on the bus. In a state in range there is no other command.
 fn transaction_of(does: Does) -> Transaction
     ensures { result ≡ transaction_of does }
 {
-    match does {
-        Does::Write(_) => Transaction::Modify,
-        Does::Switch(_) => Transaction::Modify,
-        Does::Read(_) => Transaction::Modify,
-        Does::Clear(_) => Transaction::Modify,
-        Does::Start(_) => Transaction::Modify,
-        Does::Transact(_, transaction) => transaction,
+    if let Does::Transact(_, transaction) = does {
+        transaction
+    } else {
+        Transaction::Modify
     }
 }
 
-fn started_by(command: Command) -> Transaction
+fn started_by(command: Option<Command>) -> Transaction
     ensures { result ≡ started_by command }
 {
-    match command {
-        Command::Unknown => Transaction::Modify,
-        Command::Known(_, does) => transaction_of(does),
-    }
+    command.map_or(Transaction::Modify, |known| transaction_of(known.does))
 }
 
-fn given_by(command: Command) -> u8
+// The LEN of its reply.
+fn given_by(command: Option<Command>) -> u8
     ensures { result ≡ given_by command }
 {
-    match command {
-        Command::Unknown => 0,
-        Command::Known(lengths, _) => lengths.given,
-    }
+    command.map_or(0, |known| known.lengths.given)
 }
 
 // The start's reply, with its own TRN.
@@ -145,8 +139,7 @@ fn transact(
 {
     let index = channel - FIRST_MASTER;
     let open = registers::read(registers, Register::I2cOpen(index));
-    let trn = (open % 0x100) as u8;
-    let code = ((open / 0x100) % 0x100) as u8;
+    let [trn, code, _, _] = open.to_le_bytes();
     let command = channel::command_of(Channel::Master(index), code);
     let value = i2c::end(
         registers,
@@ -156,10 +149,11 @@ fn transact(
         low,
         received,
     );
-    request::reply(link, trn, channel, 0, given_by(command), value, output)
+    request::reply(link, trn, channel, granted(given_by(command), value), output)
 }
 
 // The completion of one named I2C channel.
+#[tactic(auto, unfolding(crate::specs::Chip::reaction, crate::specs::Chip::on_i2c))]
 pub fn on_i2c(
     link: Link,
     registers: &mut [u8],
@@ -174,15 +168,14 @@ pub fn on_i2c(
     requires output_least_in_bounds { output_least ≤ length output.old }
     ensures { said result registers.new output.new ≡ says (reaction (adapter link registers.old) (Event.completion (Completion.i2c channel acknowledge low received.now))) output.old }
 {
-    if channels::is_busy(registers, Channel::Master(channel - FIRST_MASTER)) {
-        transact(link, registers, channel, acknowledge, low, received, output)
-    } else {
-        answer::give(link, Silence::NotBusy)
+    if !channels::is_busy(registers, Channel::Master(channel - FIRST_MASTER)) {
+        return answer::give(link, Silence::NotBusy);
     }
+    transact(link, registers, channel, acknowledge, low, received, output)
 }
 
 // What it may change besides the core.
-pub fn group_of_i2c(channel: u8) -> Group
+pub fn group_of_i2c(channel: u8) -> Option<Control>
     requires { first_master ≤ channel }
     ensures { result ≡ master_group (channel - first_master) }
 {
@@ -190,6 +183,7 @@ pub fn group_of_i2c(channel: u8) -> Group
 }
 
 // A pin sample with 32 levels and an edge kind.
+#[tactic(auto, unfolding(crate::specs::Chip::reaction, crate::specs::Chip::on_sample))]
 pub fn on_sample(
     link: Link,
     registers: &mut [u8],
@@ -201,32 +195,24 @@ pub fn on_sample(
     requires reply_bytes_in_bounds { reply_bytes ≤ length output.old }
     ensures { said result registers.new output.new ≡ says (reaction (adapter link registers.old) (Event.sample levels kind)) output.old }
 {
-    if channels::is_enabled(registers, Channel::Gpio) {
-        if gpio::sample(registers, levels, kind) {
-            let ints = registers::read(registers, Register::Ints);
-            request::reply(
-                link,
-                INTERRUPT,
-                GPIO_CHANNEL,
-                0,
-                INTERRUPT_LENGTH,
-                ints,
-                output,
-            )
-        } else {
-            answer::give(link, Silence::NoFrame)
-        }
-    } else {
-        answer::give(link, Silence::LinesDisabled)
+    if !channels::is_enabled(registers, Channel::Gpio) {
+        return answer::give(link, Silence::LinesDisabled);
     }
+    if !gpio::sample(registers, levels, kind) {
+        return answer::give(link, Silence::NoFrame);
+    }
+    let ints = registers::read(registers, Register::Ints);
+    let told = granted(INTERRUPT_LENGTH, ints);
+    request::reply(link, INTERRUPT, GPIO_CHANNEL, told, output)
 }
 
 // An upset: a 32-bit counter that wraps to 0. No frame is ever sent.
+#[tactic(auto, unfolding(crate::specs::Chip::reaction, crate::specs::Chip::on_upset))]
 pub fn on_upset(link: Link, registers: &mut [u8]) -> Response
     requires { length registers.old ≡ size }
     ensures { (output : List ℕ) → said result registers.new output ≡ says (reaction (adapter link registers.old) Event.upset) output }
 {
-    let count = std::num::wrapping_add_u32(registers::read(registers, Register::Seu), 1);
+    let count = registers::read(registers, Register::Seu).wrapping_add(1);
     registers::store(registers, Register::Seu, count);
     answer::give(link, Silence::NoFrame)
 }

@@ -12,37 +12,28 @@ use link::Link;
 use numbers::Silence;
 
 // A reply or an interrupt, on the active port; the send number then goes up. It is the same whatever the registers are.
-pub(crate) fn reply(
-    link: Link,
-    trn: u8,
-    ch: u8,
-    err: u8,
-    len: u8,
-    value: u32,
-    output: &mut [u8],
-) -> Response
+#[tactic(auto, unfolding(crate::specs::Request::replies))]
+pub(crate) fn reply(link: Link, trn: u8, ch: u8, told: Reply, output: &mut [u8]) -> Response
     requires { reply_bytes ≤ length output.old }
-    ensures { (rs : List ℕ) → said result rs output.new ≡ says (replies (adapter link rs) trn ch err len value) output.old }
+    ensures { (rs : List ℕ) → said result rs output.new ≡ says (replies (adapter link rs) trn ch told.error told.length told.value) output.old }
 {
-    packets::put_reply(output, link::reply_control(link), trn, ch, err, len, value);
+    let control = link::reply_control(link);
+    packets::put_reply(output, control, trn, ch, told.error, told.length, told.value);
     answer::send(link::send_up(link), link.port, numbers::REPLY_BYTES)
 }
 
 // A reply that is sent, or none yet.
-fn finish(link: Link, trn: u8, ch: u8, told: Reply, output: &mut [u8]) -> Response
+fn finish(link: Link, trn: u8, ch: u8, told: Option<Reply>, output: &mut [u8]) -> Response
     requires { output_least ≤ length output.old }
     ensures { (rs : List ℕ) → said result rs output.new ≡ says (finished (adapter link rs) trn ch told) output.old }
 {
     match told {
-        Reply::Sent {
-            error,
-            length,
-            value,
-        } => reply(link, trn, ch, error, length, value, output),
-        Reply::Later => answer::give(link, Silence::NoFrame),
+        Some(told) => reply(link, trn, ch, told, output),
+        None => answer::give(link, Silence::NoFrame),
     }
 }
 
+#[tactic(auto, unfolding(crate::specs::Request::requested))]
 pub(crate) fn request(link: Link, registers: &mut [u8], info: &[u8], output: &mut [u8]) -> Response
     requires registers_len { length registers.old ≡ size }
     requires info_len { length info.now ≡ 8 }
