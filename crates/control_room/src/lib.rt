@@ -11,7 +11,8 @@ ghost use Rattle.control_room.specs.Record.{is_record};
 ghost use Rattle.control_room.specs.Calls.{made, record_made, outcome, judged, written, request_written};
 ghost use Rattle.control_room.specs.Calls.{told, matched, read, reply_read, link_command, command_written};
 
-use commands::request::INTERRUPT;
+use commands::request::{INTERRUPT, Request};
+use link::LinkCommand;
 use numbers::{OUTPUT_LEAST, REPLY_BYTES, Refusal};
 use parts::Width;
 
@@ -37,8 +38,7 @@ pub struct Given {
 pub fn new_record(transactions: &mut [u8]) -> Result<(), Refusal>
     ensures { made (number_after result) transactions.new ≡ record_made transactions.old }
 {
-    let record: &mut [u8; record::BYTES] =
-        transactions.as_mut_array().ok_or(Refusal::BadState)?;
+    let record: &mut [u8; record::BYTES] = transactions.as_mut_array().ok_or(Refusal::BadState)?;
     record.fill(0);
     Ok(())
 }
@@ -76,7 +76,14 @@ fn write(
     let trn = record::free_trn(record).ok_or(Refusal::AllOpen)?;
     let control = record::count(record);
     record::open(record, trn, ch, cmd);
-    packets::put_request(output, control, trn, ch, listed.lengths.asked, cmd, value);
+    let q = Request {
+        trn,
+        ch,
+        len: listed.lengths.asked,
+        cmd,
+        value,
+    };
+    packets::put_request(output, control, q);
     Ok(Given {
         length: REQUEST_BYTES,
         interrupt: false,
@@ -149,10 +156,9 @@ fn write_command(
     ensures { outcome (given_of result) record.new output.new ≡ link_command record.old control output.old }
 {
     let code = u8::try_from(control).map_err(|_| Refusal::NoCommand)?;
-    if link::is_connect(code) || link::is_reset(code) {
-        record::count_anew(record);
-    } else if !link::is_test(code) {
-        return Err(Refusal::NoCommand);
+    match link::command_in(code).ok_or(Refusal::NoCommand)? {
+        LinkCommand::Connect | LinkCommand::Reset => record::count_anew(record),
+        LinkCommand::Test => {}
     }
     packets::put_control(output, code);
     Ok(Given {
