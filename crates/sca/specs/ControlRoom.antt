@@ -1,7 +1,7 @@
 -- The control room's calls as C and Rust programs link them: the call of crate `control_room`, with what it gives packed into one number.
 use Rattle.std.specs.Prelude.{ℕ, ◌+◌, ◌*◌, List}
 use Rattle.bits.specs.Bits.{digit}
-use Rattle.control_room.specs.declared.Given.{Given}
+use Rattle.control_room.specs.Given.{Given}
 use Rattle.control_room.specs.Calls.{Outcome}
 
 -- the number in bits 7 to 0, the bytes written in bits 15 to 8, 1 in bit 16 where an interrupt was read

@@ -2,14 +2,13 @@
 use Rattle.std.specs.Prelude.{cond, List, ◌∷◌, ℕ, ◌+◌, ◌*◌, eqb, length, get_or}
 use Rattle.numbers.specs.Numbers as number
 use Rattle.parts.specs.Parts.{part}
-use Rattle.transmitter.specs.Transmit.{transmitted}
+use Rattle.transmitter.specs.Transmit.{Sent, transmitted}
 use Rattle.transmitter.specs.Transmit as Transmit
 use Rattle.receiver.specs.Receiver.{image, hunting}
 use Rattle.receiver.specs.Receive.{received}
 use Rattle.receiver.specs.Receive as Receive
-use Rattle.transmitter.specs.declared.Sent.{Sent}
 use Rattle.receiver.specs.declared.Receiver.{Receiver}
-use Rattle.receiver.specs.declared.Received.{Received}
+use Rattle.receiver.specs.Received.{Received}
 
 -- mode, ones, lead, count, then the content's 20 bytes
 abbrev pub receiver_bytes : Receiver → List ℕ

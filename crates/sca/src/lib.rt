@@ -6,11 +6,14 @@ mod receiving;
 
 ghost use Rattle.std.specs.Prelude.{◌≡◌, ◌+◌, ◌*◌, ◌^◌, ◌≤◌, ◌<◌};
 ghost use Rattle.chip.specs.Event.{Completion, Event};
+ghost use Rattle.transmitter.specs.Transmit.{sent_of};
+ghost use Rattle.receiver.specs.Received.{received_of};
 ghost use Rattle.sca.specs.Link as calls;
 ghost use Rattle.adapter.specs.Answers.{answer_of, kept_number, number_after};
 ghost use Rattle.adapter.specs.Calls as adapters;
 ghost use Rattle.batch.specs.Batch as batches;
 ghost use Rattle.sca.specs.Adapter.{pack_answer, pack_kept, pack_batch, is_set, left, packed, packed_batch};
+ghost use Rattle.control_room.specs.Given.{given_of};
 ghost use Rattle.control_room.specs.Calls as rooms;
 ghost use Rattle.sca.specs.ControlRoom as room;
 ghost use Rattle.sca.specs.Version.{version};
@@ -20,8 +23,7 @@ use batch::{Batch, Sample};
 use chip::Frame;
 use control_room::Given;
 use numbers::{HAS_FRAME, REPLY_BYTES, Refusal, Silence};
-use receiver::{Received, Receiver};
-use transmitter::Sent;
+use receiver::{Receiver, Reception};
 
 const VERSION: u64 = 0x010500;
 
@@ -50,20 +52,27 @@ fn pack_done(answer: Result<(), Refusal>) -> u64
     }
 }
 
-// The number in bits 7 to 0, the count of bytes written above.
-fn pack_sent(s: Sent) -> u64
-    requires { s.count ≤ 38 }
-    ensures { result ≡ calls.pack_sent s }
+// The count of bytes written from bit 8 on.
+fn pack_sent(answer: Result<usize, Refusal>) -> u64
+    requires { (sent_of answer).count ≤ 38 }
+    ensures { result ≡ calls.pack_sent (sent_of answer) }
 {
-    alone(s.number) + 256 * (s.count as u64)
+    match answer {
+        Ok(count) => pack(HAS_FRAME, count as u8, 0),
+        Err(refusal) => alone(refusal.into()),
+    }
 }
 
-// The number in bits 7 to 0, the body's length in bits 15 to 8, the bits consumed above.
-fn pack_received(r: Received) -> u64
-    requires { (r.length ≤ 16) × (r.consumed ≤ 524288) }
-    ensures { result ≡ calls.pack_received r }
+// The body's length in bits 15 to 8, the bits consumed above.
+fn pack_received(r: Reception) -> u64
+    requires { ((received_of r).length ≤ 16) × (r.consumed ≤ 524288) }
+    ensures { result ≡ calls.pack_received (received_of r) }
 {
-    alone(r.number) + 256 * (r.length as u64) + 65536 * (r.consumed as u64)
+    let consumed = r.consumed as u64;
+    match r.answer {
+        Ok(length) => pack(HAS_FRAME, length as u8, consumed),
+        Err(why) => pack(why.into(), 0, consumed),
+    }
 }
 
 // Frames a body.
@@ -246,15 +255,13 @@ pub fn sca_step_back(state: &mut [u8], journal: &mut [u8]) -> u64
     pack_done(adapter::step_back(state, journal))
 }
 
-// The number in bits 7 to 0, the bytes written in bits 15 to 8, 1 in bit 16 where an interrupt was read.
-fn pack_given(g: Given) -> u64
-    ensures { result ≡ room.pack_given g }
+// The bytes written in bits 15 to 8, 1 in bit 16 where an interrupt was read.
+fn pack_given(answer: Result<Given, Refusal>) -> u64
+    ensures { result ≡ room.pack_given (given_of answer) }
 {
-    let written = alone(g.number) + 256 * alone(g.length);
-    if g.interrupt {
-        written + 65536
-    } else {
-        written
+    match answer {
+        Ok(given) => pack(HAS_FRAME, given.length, given.interrupt.into()),
+        Err(refusal) => alone(refusal.into()),
     }
 }
 
@@ -262,7 +269,7 @@ fn pack_given(g: Given) -> u64
 pub fn sca_record_new(transactions: &mut [u8]) -> u64
     ensures { rooms.made result transactions.new ≡ rooms.record_made transactions.old }
 {
-    alone(control_room::new_record(transactions))
+    pack_done(control_room::new_record(transactions))
 }
 
 // Writes the body of a request.
