@@ -34,7 +34,7 @@ use Rattle.batch.specs.declared.Sample.{Sample}
 use Rattle.batch.specs.Batch.{event_of, Course, outset, onward, one_by_one, lines_in, bare, answered, some_wrong, verdict, called, done}
 use Rattle.batch.specs.Batch as batches
 use Rattle.batch.proofs.Course.{Shape, quiet, interrupt, sample_shape, port_in}
-use Rattle.batch.proofs.Ran.{dark, wrong_one}
+use Rattle.batch.proofs.Wrong.{dark, wrong_one}
 use Rattle.promises.specs.Runs.{Call, event, batch, Given, Calls, Run, left, is_refusal, batch_refused}
 use Rattle.promises.specs.Runs.{Standing, keeps_sample, keeps, due_state, due_frames, due_batch, Demand3}
 use Rattle.promises.specs.Batches.{body_of, singly, by_single_calls, bodies_in, firing_in}

@@ -17,7 +17,7 @@ use Rattle.packets.specs.Packets.{request_body}
 use Rattle.parts.specs.Digits.{number as number_of}
 use Rattle.bits.proofs.Tests.{and_left, and_right, or_second, cond_cases}
 use Rattle.commands.specs.Channels.{channel_of}
-use Rattle.commands.proofs.Laws.{code_beyond, none_beyond, no_zero}
+use Rattle.commands.proofs.Laws.{code_at_beyond, none_beyond, no_zero}
 use Rattle.link.specs.Link.{is_test}
 use Rattle.control_room.specs.Record.{record_size, number_at, frame_number, counted_up, command_at, is_listed, len_of, is_open, channel_in, command_in, is_open_to, opened, closed, free_trn, is_sound, are_sound, is_record}
 use Rattle.control_room.specs.Calls.{Made, record_made, Outcome, gives, refused, unless_refused, taken, written, request_written, trn_of, ch_of, is_interrupt, told, answered, interrupted, matched, read, reply_read, is_link_command, commanded, link_command, command_written}
@@ -89,7 +89,7 @@ record_unchanged r =
 pub known_bytes : (ch cmd : ℕ) → is_listed (command_at ch cmd) ≡ true → (ch < 256) × (cmd < 256)
 known_bytes ch cmd h = (
   split (ltb ch 256) (ltb-true ch 256) (λ t. absurd (false≢true (sym (ap is_listed (none_beyond ch cmd (ltb-false ch 256 t))) ∙ h))),
-  split (ltb cmd 256) (ltb-true cmd 256) (λ t. absurd (false≢true (sym (ap is_listed (code_beyond (channel_of ch) cmd (ltb-false cmd 256 t))) ∙ h))),
+  split (ltb cmd 256) (ltb-true cmd 256) (λ t. absurd (false≢true (sym (ap is_listed (code_at_beyond ch cmd (ltb-false cmd 256 t))) ∙ h))),
 )
 
 -- the channel and the command of an entry

@@ -6,6 +6,7 @@ use mathlib.Core.Bool.{Bool, true, false, not, true≢false, false≢true}
 use mathlib.Core.List.{List, [], ◌∷◌}
 use mathlib.Core.Logic.{◌⊎◌, inl, inr}
 use mathlib.Core.Path.{◌≡◌, refl, sym, ap, subst, ◌∙◌}
+use Rattle.std.specs.Prelude.{Option, Some, None, option_and_then, Result}
 use native.Mathlib.Omega.{arith}
 use borrow.Author.Tests.{eq-eqb, ne_eqb, eqb-true, eqb-false, ltb-true, le-ltb, not-true}
 use lib.Dec.{eqb, ltb, lit<, lit≤}
@@ -28,7 +29,6 @@ use Rattle.receiver.specs.Receive as receive
 use Rattle.commands.specs.declared.channel.Channel.{Channel}
 use Rattle.commands.specs.declared.channel.Channel.TheVariants as channel
 use Rattle.commands.specs.declared.command.Command.{Command}
-use Rattle.commands.specs.declared.command.Command.TheVariants.{Known, Unknown}
 use Rattle.commands.specs.declared.command.Does.{Does}
 use Rattle.commands.specs.declared.command.Does.TheVariants.{Write, Switch, Read, Clear, Start, Transact}
 use Rattle.commands.specs.declared.command.Lengths.{Lengths}
@@ -37,10 +37,10 @@ use Rattle.commands.specs.declared.command.Register.TheVariants.{SpiGo, SpiData0
 use Rattle.commands.specs.Field.{Open, master}
 use Rattle.commands.specs.Spi.{go}
 use Rattle.commands.specs.declared.request.Reply.{Reply}
-use Rattle.commands.specs.declared.request.Reply.TheVariants.{Sent, Later}
+use Rattle.commands.specs.declared.request.Fault.{Fault}
 use Rattle.commands.specs.declared.request.Request.{Request}
-use Rattle.commands.specs.Command.{code_of}
-use Rattle.commands.specs.Request.{cmd_unknown}
+use Rattle.commands.specs.Command.{known, code_of}
+use Rattle.commands.specs.Request.{cmd_unknown, fault_bit}
 use Rattle.commands.specs.Channels.{channel_of, first_master, commands_of, command_of}
 use Rattle.registers.specs.Registers as registers
 use Rattle.registers.specs.Transfer.{completed}
@@ -49,12 +49,11 @@ use Rattle.link.specs.Link.{reply_control, send_up, receive_number, number_in, i
 use Rattle.link.specs.declared.Link.{Link}
 use Rattle.packets.specs.Packets.{request_of, request_body, reply_body, byte_of}
 use Rattle.packets.proofs.Laws.{data_round}
-use Rattle.channels.specs.Rows.{is_known, is_enabled, is_busy}
-use Rattle.channels.specs.Errors.{can_move, of_command, decoded, error_of, first_error}
-use Rattle.channels.specs.declared.errors.Decoded.{Decoded}
+use Rattle.channels.specs.Rows.{is_enabled, is_busy}
+use Rattle.channels.specs.Errors.{can_move, of_command, of_channel, decoded, error_of, first_error}
 use Rattle.channels.specs.Perform as perform
 use Rattle.channels.specs.Perform.{replied, performed}
-use Rattle.channels.proofs.Laws.{Own, SameOwn, own_read, others_stay, Sound, RequestBytes, Granted, decoded_cases, kept_start}
+use Rattle.channels.proofs.Laws.{Own, SameOwn, own_read, others_stay, Sound, RequestBytes, Granted, granted_command, decoded_cases, kept_start}
 use Rattle.channels.proofs.Owners.{field_own}
 use Rattle.registers.proofs.Laws.{read_same}
 use Rattle.state.specs.State.{Adapter, with_link, with_registers, powered_on, power_on}
@@ -89,7 +88,7 @@ use Rattle.promises.proofs.Errors.{InOrder, in_order_lem}
 use Rattle.promises.proofs.ControlRoom.{known_bytes, entry_channel, entry_command, entry_open, open_to, Taken, request_takes, stays_a_record, closed_is, no_interrupt, zeros, free_among, Six, command_in_order, Commands, command_done}
 use Rattle.promises.proofs.Runs.{fits}
 use Rattle.promises.proofs.Steps.{split}
-use Rattle.promises.proofs.Tables.{Numbered, numbered, Starting, starting}
+use Rattle.promises.proofs.Tables.{Numbered, numbered, Starting, starting, go_row, master_row}
 
 -- ---- what stands at the front of an output
 
@@ -109,7 +108,7 @@ wire_brings body f b =
 -- ---- the body of a request
 
 -- every LEN that is asked is a byte
-abbrev short_len : Command → Bool
+abbrev short_len : Option Command → Bool
 short_len k = ltb (len_of k) 256
 
 short_lens : (ch : Channel) → every short_len (commands_of ch) ≡ true
@@ -120,11 +119,14 @@ short_lens (channel.Master i) = refl
 short_lens channel.Seu = refl
 short_lens channel.Id = refl
 short_lens channel.Dac = refl
-short_lens channel.Unknown = refl
 
 len_byte : (ch cmd : ℕ) → len_of (command_at ch cmd) < 256
-unfolding code_of
-len_byte ch cmd = ltb-true _ 256 (look_every short_len (commands_of (channel_of ch)) Unknown cmd (short_lens (channel_of ch)) refl)
+len_byte ch cmd = by (channel_of ch)
+  where
+    by : (o : Option Channel) → len_of (option_and_then (λ c. command_of c cmd) o) < 256
+    unfolding code_of
+    by None = lit< tt
+    by (Some c) = ltb-true _ 256 (look_every short_len (commands_of c) None cmd (short_lens c) refl)
 
 request_bytes : (f trn ch len cmd d : ℕ) → f ≤ 7 → trn < 256 → ch < 256 → len < 256 → cmd < 256 → AreBytes (request_body (2 * f) trn ch len cmd d)
 request_bytes f trn ch len cmd d a b c e g =
@@ -274,8 +276,8 @@ module _ (trn cmd : ℕ) (t : Among 1 254 trn) (u : cmd < 256) where
   high = omega arith
 
   i2c_due : (a : Adapter) (ch i : ℕ) (acknowledge line : Bool) (received : List ℕ) (l : Lengths) (does : Does) → ch - first_master ≡ i
-      → registers.read a.registers (master i Open) ≡ trn + 0x100 * cmd → command_of (channel.Master i) cmd ≡ Known l does
-      → let by = started_by (Known l does) in
+      → registers.read a.registers (master i Open) ≡ trn + 0x100 * cmd → command_of (channel.Master i) cmd ≡ known l does
+      → let by = started_by (known l does) in
       reaction a (completion (i2c ch acknowledge line received))
       ≡ replies (with_registers a (ended i by acknowledge line received a.registers)) trn ch 0 l.given (end_data i by acknowledge line received a.registers)
   unfolding reaction on_i2c transacted
@@ -296,39 +298,43 @@ state_port s rs = refl
 
 -- ---- a start that is granted is kept by the chip
 
-sent_later : {err len v : ℕ} → Sent err len v ≡ Later → ⊥
+sent_later : {p : Reply} → ◌≡◌ {A = Option Reply} (Some p) None → ⊥
 sent_later e = let z : ◌≡◌ {A = ℕ} 0 1 = cc in omega arith
 
 record KeptStart (q : Request) (after : List ℕ) : Type 0 where
   lengths : Lengths
   does : Does
-  command : command_of (channel_of q.ch) q.cmd ≡ Known lengths does
+  command : command_at q.ch q.cmd ≡ known lengths does
   waits : Waiting after q.trn q.cmd does
 
 module _ (rs : List ℕ) (q : Request) (sound : Sound rs) (bytes : RequestBytes q) where
   go_kept : (given : ℕ) (x : Register) → Granted rs q given (Start x) → registers.read (registers.store rs x q.trn) x ≡ q.trn
   go_kept given x g =
-      let row : Starting (channel_of q.ch) (Known (record { asked = q.len; given = given }) (Start x)) =
-      subst (Starting (channel_of q.ch)) g.command (starting (channel_of q.ch) q.cmd) in
+      let row : Starting g.which (known (record { asked = q.len; given = given }) (Start x)) = subst (Starting g.which) g.command (starting g.which q.cmd) in
       let b = bytes.trn in
       let m : q.trn % 256 ≡ q.trn = omega arith in
       subst (λ (y : Register). registers.read (registers.store rs y q.trn) y ≡ q.trn) (sym row.2)
       (read_same rs SpiGo q.trn sound.fits.long ∙ and_mask q.trn 8 ∙ m)
 
-  kept_by : (given : ℕ) (does : Does) → Granted rs q given does → perform.told rs given does ≡ Later → KeptStart q (perform.left rs q does)
+  kept_by : (given : ℕ) (does : Does) → Granted rs q given does → perform.told rs given does ≡ None → KeptStart q (perform.left rs q does)
   kept_by given (Write x) g h = absurd (sent_later h)
   kept_by given (Switch c) g h = absurd (sent_later h)
   kept_by given (Read x) g h = absurd (sent_later h)
   kept_by given (Clear x) g h = absurd (sent_later h)
   kept_by given (Start x) g h =
-      record { lengths = record { asked = q.len; given = given }; does = Start x; command = g.command; waits = go_kept given x g }
+      record { lengths = record { asked = q.len; given = given }; does = Start x; command = granted_command rs q given (Start x) g; waits = go_kept given x g }
   kept_by given (Transact j t) g h =
-      record { lengths = record { asked = q.len; given = given }; does = Transact j t; command = g.command; waits = kept_start rs q sound bytes given j t g }
+      record {
+        lengths = record { asked = q.len; given = given };
+        does = Transact j t;
+        command = granted_command rs q given (Transact j t) g;
+        waits = kept_start rs q sound bytes given j t g;
+      }
 
-  keeps_start : replied rs q ≡ Later → KeptStart q (performed rs q)
+  keeps_start : replied rs q ≡ None → KeptStart q (performed rs q)
   unfolding replied performed
   keeps_start =
-      decoded_cases rs q (λ z. perform.reply_to rs z ≡ Later → KeptStart q (perform.left_by rs q z)) (λ e _ h. absurd (sent_later h)) kept_by
+      decoded_cases rs q (λ z. perform.reply_to rs z ≡ None → KeptStart q (perform.left_by rs q z)) (λ e _ h. absurd (sent_later h)) kept_by
 
 -- GO's row
 spi_row : (ch : ℕ) (l : Lengths) → ch ≡ 0x01 → l ≡ go → (b : Adapter) (trn v : ℕ) → replies b trn 0x01 0 go.given v ≡ replies b trn ch 0 l.given v
@@ -349,10 +355,10 @@ record OneUp (l m : Link) : Type 0 where
 loops_alike : (l m : Link) (port : ℕ) → m.primary ≡ l.primary → m.auxiliary ≡ l.auxiliary → in_loopback m port ≡ in_loopback l port
 loops_alike l m port e f = rw (e, f) refl
 
-one_up : (a : Adapter) (rs : List ℕ) (trn ch : ℕ) (p : Reply) → OneUp a.link (finished (with_registers (counted a) rs) trn ch p).adapter.link
+one_up : (a : Adapter) (rs : List ℕ) (trn ch : ℕ) (p : Option Reply) → OneUp a.link (finished (with_registers (counted a) rs) trn ch p).adapter.link
 unfolding replies
-one_up a rs trn ch (Sent err len v) = record { port = refl; primary = refl; auxiliary = refl; receive = omega arith }
-one_up a rs trn ch Later = record { port = refl; primary = refl; auxiliary = refl; receive = omega arith }
+one_up a rs trn ch (Some reply) = record { port = refl; primary = refl; auxiliary = refl; receive = omega arith }
+one_up a rs trn ch None = record { port = refl; primary = refl; auxiliary = refl; receive = omega arith }
 
 good_bytes : (a : Adapter) → Good a → AreBytes (state_bytes a)
 unfolding state_bytes
@@ -385,7 +391,7 @@ module _ (way : List ℕ → List ℕ) (brings : (b : List ℕ) → Framable b �
         (formed : well_formed journal ≡ true) (open-here : HasOpen r trn ch cmd) (right : wrong_completion c ≡ false)
         (types : CompletionOfTypes c) (l₂ : 16 ≤ length o₂) (l₃ : 16 ≤ length o₃) where
       -- what completes is read back
-      ended_by : (does : Does) → command_at ch cmd ≡ Known l does → (rs : List ℕ) (v : ℕ)
+      ended_by : (does : Does) → command_at ch cmd ≡ known l does → (rs : List ℕ) (v : ℕ)
           → reaction (state_in s) (completion c) ≡ replies (with_registers (state_in s) rs) trn ch 0 l.given v → Ended way trn ch cmd l.given s journal c o₂ r o₃
       unfolding replies
       ended_by does k rs v due =
@@ -399,7 +405,7 @@ module _ (way : List ℕ → List ℕ) (brings : (b : List ℕ) → Framable b �
                 (it_matches trn ch cmd t listed r open-here) (its_command trn ch cmd t listed r open-here) l₃ (state_port s rs);
           }
 
-    completes : (does : Does) → command_at ch cmd ≡ Known l does → (s journal : List ℕ) (c : Completion) (o₂ r o₃ : List ℕ) → is_record r ≡ true
+    completes : (does : Does) → command_at ch cmd ≡ known l does → (s journal : List ℕ) (c : Completion) (o₂ r o₃ : List ℕ) → is_record r ≡ true
         → is_state s ≡ true → well_formed journal ≡ true → Waiting (state_in s).registers trn cmd does → HasOpen r trn ch cmd
         → Ends ch does c → wrong_completion c ≡ false → CompletionOfTypes c → 16 ≤ length o₂ → 16 ≤ length o₃
         → Ended way trn ch cmd l.given s journal c o₂ r o₃
@@ -408,7 +414,7 @@ module _ (way : List ℕ → List ℕ) (brings : (b : List ℕ) → Framable b �
     completes (Read x) k s journal c o₂ r o₃ h state formed w open-here e right types l₂ l₃ = absurd w
     completes (Clear x) k s journal c o₂ r o₃ h state formed w open-here e right types l₂ l₃ = absurd w
     completes (Start x) k s journal (spi received) o₂ r o₃ h state formed w open-here e right types l₂ l₃ =
-        let row : Starting (channel_of ch) (Known l (Start x)) = subst (Starting (channel_of ch)) k (starting (channel_of ch) cmd) in
+        let row = go_row ch cmd l x k in
         let one : ch ≡ 0x01 = subst (Numbered ch) row.0 (numbered ch) in
         let go_kept : registers.read (state_in s).registers SpiGo ≡ trn =
         subst (λ (g : Register). registers.read (state_in s).registers g ≡ trn) row.2 w in
@@ -418,16 +424,15 @@ module _ (way : List ℕ → List ℕ) (brings : (b : List ℕ) → Framable b �
     completes (Start x) k s journal (i2c n a b received) o₂ r o₃ h state formed w open-here e right types l₂ l₃ = absurd e
     completes (Transact j x) k s journal (spi received) o₂ r o₃ h state formed w open-here e right types l₂ l₃ = absurd e
     completes (Transact j x) k s journal (i2c n a b received) o₂ r o₃ h state formed w open-here e right types l₂ l₃ =
-        let row : channel_of ch ≡ channel.Master j = subst (Starting (channel_of ch)) k (starting (channel_of ch) cmd) in
-        let its : ch - first_master ≡ j = (subst (Numbered ch) row (numbered ch)).2 in
+        let row = master_row ch cmd l j x k in
+        let its : ch - first_master ≡ j = (subst (Numbered ch) row.0 (numbered ch)).2 in
         let listed : is_listed (command_at ch cmd) ≡ true = rw k refl in
-        let code : command_of (channel.Master j) cmd ≡ Known l (Transact j x) = subst (λ (m : Channel). command_of m cmd ≡ Known l (Transact j x)) row k in
         ended_by s journal (i2c n a b received) o₂ r o₃ h state formed open-here right types l₂ l₃ (Transact j x) k _ _
         (subst
         (λ (m : ℕ). reaction (state_in s) (completion (i2c m a b received))
-        ≡ replies (with_registers (state_in s) (ended j (started_by (Known l (Transact j x))) a b received (state_in s).registers)) trn ch 0 l.given
-        (end_data j (started_by (Known l (Transact j x))) a b received (state_in s).registers))
-        (sym e) (i2c_due trn cmd t (known_bytes ch cmd listed).1 (state_in s) ch j a b received l (Transact j x) its w code))
+        ≡ replies (with_registers (state_in s) (ended j (started_by (known l (Transact j x))) a b received (state_in s).registers)) trn ch 0 l.given
+        (end_data j (started_by (known l (Transact j x))) a b received (state_in s).registers))
+        (sym e) (i2c_due trn cmd t (known_bytes ch cmd listed).1 (state_in s) ch j a b received l (Transact j x) its w row.1))
 
   module _ (r s journal : List ℕ) (port ch cmd d : ℕ) (o₁ o₂ : List ℕ) (i : InStep r s journal port) (listed : is_listed (command_at ch cmd) ≡ true)
       (free : free_trn r ≡ 0xFF → ⊥) (fits : d < 2 ^ 32) (l₁ : 16 ≤ length o₁) (l₂ : 16 ≤ length o₂) where
@@ -472,14 +477,15 @@ module _ (way : List ℕ → List ℕ) (brings : (b : List ℕ) → Framable b �
     passes : verdict s journal (frame port body) o₂ ≡ Passed
     passes = request_passes r s journal port i body o₂ refl l₂
 
-    at_once : (err len v : ℕ) → replied (state_in s).registers (asked r ch cmd d) ≡ Sent err len v → AtOnce way r s journal port ch cmd d o₁ o₂ body err len v
+    at_once : (p : Reply) → replied (state_in s).registers (asked r ch cmd d) ≡ Some p
+        → AtOnce way r s journal port ch cmd d o₁ o₂ body p.error p.length p.value
     unfolding replies
-    at_once err len v h =
+    at_once p h =
         record {
           opens = takes.opens;
           reads = λ r₂ o₃ k open-here l₃.
-              read_back way brings s (frame port body) typed (reply_control after.link) (free_trn r) ch err len v (with_link after (send_up after.link))
-              after.link.port (due ∙ ap (finished after (free_trn r) ch) h) journal o₂ r₂ o₃ cmd passes k
+              read_back way brings s (frame port body) typed (reply_control after.link) (free_trn r) ch p.error p.length p.value
+              (with_link after (send_up after.link)) after.link.port (due ∙ ap (finished after (free_trn r) ch) h) journal o₂ r₂ o₃ cmd passes k
               (it_matches (free_trn r) ch cmd takes.range listed r₂ open-here) (its_command (free_trn r) ch cmd takes.range listed r₂ open-here) l₃
               (counted_port r s journal port i);
           leaves = closes_again;
@@ -498,14 +504,14 @@ module _ (way : List ℕ → List ℕ) (brings : (b : List ℕ) → Framable b �
         ap (λ (x : adapter.Outcome). state_in x.state) (called_done s journal (frame port body) o₂ passes)
         ∙ state_back (reaction (state_in s) (frame port body)).adapter good_after.registers.fits.long
 
-    kept_start_of : replied (state_in s).registers (asked r ch cmd d) ≡ Later → KeptStart (asked r ch cmd d) after.registers
+    kept_start_of : replied (state_in s).registers (asked r ch cmd d) ≡ None → KeptStart (asked r ch cmd d) after.registers
     kept_start_of =
         let b = known_bytes ch cmd listed in
         let t = takes.range in
         let short : free_trn r < 256 = omega arith in
         keeps_start (state_in s).registers (asked r ch cmd d) good.registers (record { trn = short; cmd = b.1 })
 
-    later_on : replied (state_in s).registers (asked r ch cmd d) ≡ Later → Started way r s journal port ch cmd d o₁ o₂ body
+    later_on : replied (state_in s).registers (asked r ch cmd d) ≡ None → Started way r s journal port ch cmd d o₁ o₂ body
     unfolding done
     later_on h =
         let k = kept_start_of h in
@@ -531,9 +537,9 @@ module _ (way : List ℕ → List ℕ) (brings : (b : List ℕ) → Framable b �
         subst (λ (b : List ℕ). Answered way r s journal port ch cmd d o₁ o₂ b (replied (state_in s).registers (asked r ch cmd d))) (sym arrives)
         (by (replied (state_in s).registers (asked r ch cmd d)) refl)
       where
-        by : (p : Reply) → replied (state_in s).registers (asked r ch cmd d) ≡ p → Answered way r s journal port ch cmd d o₁ o₂ body p
-        by (Sent err len v) h = at_once err len v h
-        by Later h = later_on h
+        by : (p : Option Reply) → replied (state_in s).registers (asked r ch cmd d) ≡ p → Answered way r s journal port ch cmd d o₁ o₂ body p
+        by (Some p) h = at_once p h
+        by None h = later_on h
 
     -- And both ends are in step again, for the next request.
     step_again : InStep (request_written r ch cmd d o₁).kept (called s journal (frame port body) o₂).state (called s journal (frame port body) o₂).journal port
@@ -704,52 +710,41 @@ pub hand_to_hand : (r s journal : List ℕ) (port ch cmd d : ℕ) (o₁ o₂ : L
     → Answered (λ b. b) r s journal port ch cmd d o₁ o₂ (written_body (request_written r ch cmd d o₁)) (replied (state_in s).registers (asked r ch cmd d))
 hand_to_hand = conversation (λ b. b) (λ b _ _. refl)
 
-none_listed : (cmd : ℕ) → is_listed (command_of channel.Unknown cmd) ≡ true → ⊥
-unfolding code_of
-none_listed cmd h = false≢true h
-
--- a channel that has a command is known
-known_channel : (ch cmd : ℕ) → is_listed (command_at ch cmd) ≡ true → is_known (channel_of ch) ≡ true
-known_channel ch cmd = by (channel_of ch)
-  where
-    by : (c : Channel) → is_listed (command_of c cmd) ≡ true → is_known c ≡ true
-    by channel.Controller h = refl
-    by channel.Spi h = refl
-    by channel.Gpio h = refl
-    by (channel.Master i) h = refl
-    by channel.Seu h = refl
-    by channel.Id h = refl
-    by channel.Dac h = refl
-    by channel.Unknown h = absurd (none_listed cmd h)
-
 -- ---- ITS ERRORS: never a wrong TRN, channel, CMD or LEN. What is left are the chip's own: not enabled, busy, and NBYTE outside 1 to 16.
 
 pub data OwnError (rs : List ℕ) (ch cmd : ℕ) : ℕ → Type 0 where
   none : OwnError rs ch cmd 0
-  disabled : is_enabled rs (channel_of ch) ≡ false → OwnError rs ch cmd 0x20
-  working : is_busy rs (channel_of ch) ≡ true → OwnError rs ch cmd 0x40
-  nbyte : (l : Lengths) (does : Does) → command_at ch cmd ≡ Known l does → can_move rs does ≡ false → OwnError rs ch cmd 0x10
+  disabled : (c : Channel) → channel_of ch ≡ Some c → is_enabled rs c ≡ false → OwnError rs ch cmd 0x20
+  working : (c : Channel) → channel_of ch ≡ Some c → is_busy rs c ≡ true → OwnError rs ch cmd 0x40
+  nbyte : (l : Lengths) (does : Does) → command_at ch cmd ≡ known l does → can_move rs does ≡ false → OwnError rs ch cmd 0x10
 
 pub own_errors : (r rs : List ℕ) (ch cmd d : ℕ) → is_listed (command_at ch cmd) ≡ true → (free_trn r ≡ 0xFF → ⊥)
     → OwnError rs ch cmd (first_error rs (asked r ch cmd d))
 unfolding decoded
 own_errors r rs ch cmd d listed free =
     let t = free_among r free in
-    rw (ne_eqb (free_trn r) 0x00 (λ e. omega arith), ne_eqb (free_trn r) 0xFF free, known_channel ch cmd listed)
-    (cond_cases (λ (z : Decoded). OwnError rs ch cmd (error_of z)) (not (is_enabled rs (channel_of ch))) (λ h. disabled (not-true _ h))
-    (λ _. cond_cases (λ (z : Decoded). OwnError rs ch cmd (error_of z)) (is_busy rs (channel_of ch)) working
-    (λ _. by (command_at ch cmd) refl listed)))
+    rw (ne_eqb (free_trn r) 0x00 (λ e. omega arith), ne_eqb (free_trn r) 0xFF free) (by (channel_of ch) refl refl listed)
   where
-    by : (k : Command) → command_at ch cmd ≡ k → is_listed k ≡ true → OwnError rs ch cmd (error_of (of_command rs k (len_of k)))
-    by Unknown e h = absurd (false≢true h)
-    by (Known l does) e h =
-        rw (eq-eqb l.asked l.asked refl)
-        (cond_cases (λ (z : Decoded). OwnError rs ch cmd (error_of z)) (not (can_move rs does)) (λ m. nbyte l does e (not-true _ m)) (λ _. none))
+    by : (o : Option Channel) → channel_of ch ≡ o → command_at ch cmd ≡ option_and_then (λ c. command_of c cmd) o
+        → is_listed (option_and_then (λ c. command_of c cmd) o) ≡ true → OwnError rs ch cmd (error_of (of_channel rs o (asked r ch cmd d)))
+    by None n e h = absurd (false≢true h)
+    by (Some c) n e h =
+        cond_cases (λ (z : Result Command Fault). OwnError rs ch cmd (error_of z)) (not (is_enabled rs c)) (λ off. disabled c n (not-true _ off))
+        (λ _. cond_cases (λ (z : Result Command Fault). OwnError rs ch cmd (error_of z)) (is_busy rs c) (working c n)
+        (λ _. of (command_of c cmd) e h))
+      where
+        of : (k : Option Command) → command_at ch cmd ≡ k → is_listed k ≡ true → OwnError rs ch cmd (error_of (of_command rs k (len_of (command_at ch cmd))))
+        of None e h = absurd (false≢true h)
+        of (Some k) e h =
+            rw (e, eq-eqb k.lengths.asked k.lengths.asked refl)
+            (cond_cases (λ (z : Result Command Fault). OwnError rs ch cmd (error_of z)) (not (can_move rs k.does)) (λ m. nbyte k.lengths k.does e (not-true _ m))
+            (λ _. none))
 
 -- And what the tables don't have (35) the chip would not carry out either: 0x02 or 0x04, where its channel is enabled and idle.
 pub unlisted_errors : (rs : List ℕ) (q : Request) → is_listed (command_at q.ch q.cmd) ≡ false → first_error rs q ≡ 0 → ⊥
 unlisted_errors rs q h =
-    decoded_cases rs q (λ z. error_of z ≡ 0 → ⊥) (λ e f z. f.bit.set z) (λ given does g z. true≢false (sym (ap is_listed g.command) ∙ h))
+    decoded_cases rs q (λ z. error_of z ≡ 0 → ⊥) (λ f e z. e.bit.set z)
+    (λ given does g z. true≢false (sym (ap is_listed (granted_command rs q given does g)) ∙ h))
 
 -- ---- a start and its completion, with nothing between
 
@@ -767,67 +762,66 @@ module _ (way : List ℕ → List ℕ) (brings : (b : List ℕ) → Framable b �
 
 -- ---- one channel or another
 
-spi_or_not : (c : Channel) → (c ≡ channel.Spi) ⊎ (c ≡ channel.Spi → ⊥)
-spi_or_not channel.Controller = inr (λ e. let z : ◌≡◌ {A = ℕ} 0 1 = cc in omega arith)
-spi_or_not channel.Spi = inl refl
-spi_or_not channel.Gpio = inr (λ e. let z : ◌≡◌ {A = ℕ} 0 1 = cc in omega arith)
-spi_or_not (channel.Master i) = inr (λ e. let z : ◌≡◌ {A = ℕ} 0 1 = cc in omega arith)
-spi_or_not channel.Seu = inr (λ e. let z : ◌≡◌ {A = ℕ} 0 1 = cc in omega arith)
-spi_or_not channel.Id = inr (λ e. let z : ◌≡◌ {A = ℕ} 0 1 = cc in omega arith)
-spi_or_not channel.Dac = inr (λ e. let z : ◌≡◌ {A = ℕ} 0 1 = cc in omega arith)
-spi_or_not channel.Unknown = inr (λ e. let z : ◌≡◌ {A = ℕ} 0 1 = cc in omega arith)
+spi_or_not : (o : Option Channel) → (o ≡ Some channel.Spi) ⊎ (o ≡ Some channel.Spi → ⊥)
+spi_or_not None = inr (λ e. let z : ◌≡◌ {A = ℕ} 0 1 = cc in omega arith)
+spi_or_not (Some channel.Controller) = inr (λ e. let z : ◌≡◌ {A = ℕ} 0 1 = cc in omega arith)
+spi_or_not (Some channel.Spi) = inl refl
+spi_or_not (Some channel.Gpio) = inr (λ e. let z : ◌≡◌ {A = ℕ} 0 1 = cc in omega arith)
+spi_or_not (Some (channel.Master i)) = inr (λ e. let z : ◌≡◌ {A = ℕ} 0 1 = cc in omega arith)
+spi_or_not (Some channel.Seu) = inr (λ e. let z : ◌≡◌ {A = ℕ} 0 1 = cc in omega arith)
+spi_or_not (Some channel.Id) = inr (λ e. let z : ◌≡◌ {A = ℕ} 0 1 = cc in omega arith)
+spi_or_not (Some channel.Dac) = inr (λ e. let z : ◌≡◌ {A = ℕ} 0 1 = cc in omega arith)
 
-master_or_not : (c : Channel) (j : ℕ) → (c ≡ channel.Master j) ⊎ (c ≡ channel.Master j → ⊥)
-master_or_not channel.Controller j = inr (λ e. let z : ◌≡◌ {A = ℕ} 0 1 = cc in omega arith)
-master_or_not channel.Spi j = inr (λ e. let z : ◌≡◌ {A = ℕ} 0 1 = cc in omega arith)
-master_or_not channel.Gpio j = inr (λ e. let z : ◌≡◌ {A = ℕ} 0 1 = cc in omega arith)
-master_or_not (channel.Master i) j =
-    split (eqb i j) (λ h. inl (ap channel.Master (eqb-true i j h))) (λ h. inr (λ e. let z : i ≡ j = cc in eqb-false i j h z))
-master_or_not channel.Seu j = inr (λ e. let z : ◌≡◌ {A = ℕ} 0 1 = cc in omega arith)
-master_or_not channel.Id j = inr (λ e. let z : ◌≡◌ {A = ℕ} 0 1 = cc in omega arith)
-master_or_not channel.Dac j = inr (λ e. let z : ◌≡◌ {A = ℕ} 0 1 = cc in omega arith)
-master_or_not channel.Unknown j = inr (λ e. let z : ◌≡◌ {A = ℕ} 0 1 = cc in omega arith)
+master_or_not : (o : Option Channel) (j : ℕ) → (o ≡ Some (channel.Master j)) ⊎ (o ≡ Some (channel.Master j) → ⊥)
+master_or_not None j = inr (λ e. let z : ◌≡◌ {A = ℕ} 0 1 = cc in omega arith)
+master_or_not (Some channel.Controller) j = inr (λ e. let z : ◌≡◌ {A = ℕ} 0 1 = cc in omega arith)
+master_or_not (Some channel.Spi) j = inr (λ e. let z : ◌≡◌ {A = ℕ} 0 1 = cc in omega arith)
+master_or_not (Some channel.Gpio) j = inr (λ e. let z : ◌≡◌ {A = ℕ} 0 1 = cc in omega arith)
+master_or_not (Some (channel.Master i)) j =
+    split (eqb i j) (λ h. inl (ap (λ (k : ℕ). Some (channel.Master k)) (eqb-true i j h))) (λ h. inr (λ e. let z : i ≡ j = cc in eqb-false i j h z))
+master_or_not (Some channel.Seu) j = inr (λ e. let z : ◌≡◌ {A = ℕ} 0 1 = cc in omega arith)
+master_or_not (Some channel.Id) j = inr (λ e. let z : ◌≡◌ {A = ℕ} 0 1 = cc in omega arith)
+master_or_not (Some channel.Dac) j = inr (λ e. let z : ◌≡◌ {A = ℕ} 0 1 = cc in omega arith)
 
 -- ---- the chip keeps a start through every request but the controller's, whatever comes of it
 
-module _ (rs : List ℕ) (long : length rs ≡ registers.size) (q : Request) (quiet : channel_of q.ch ≡ channel.Controller → ⊥) where
+module _ (rs : List ℕ) (long : length rs ≡ registers.size) (q : Request) (quiet : channel_of q.ch ≡ Some channel.Controller → ⊥) where
   -- of its own channel, which is busy
-  same_channel : is_busy rs (channel_of q.ch) ≡ true → performed rs q ≡ rs
+  same_channel : (c : Channel) → channel_of q.ch ≡ Some c → is_busy rs c ≡ true → performed rs q ≡ rs
   unfolding performed perform.marked
-  same_channel busy =
+  same_channel c named busy =
       decoded_cases rs q (λ z. perform.left_by rs q z ≡ rs)
-      (λ e f. cond_cases (λ (x : List ℕ). x ≡ rs) (eqb e cmd_unknown)
-      (λ h. absurd (true≢false (sym busy ∙ f.idle (eqb-true e cmd_unknown h)))) (λ _. refl))
-      (λ given does g. absurd (true≢false (sym busy ∙ g.idle)))
+      (λ f e. cond_cases (λ (x : List ℕ). x ≡ rs) (eqb (fault_bit f) cmd_unknown)
+      (λ h. let u = e.unlisted (eqb-true (fault_bit f) cmd_unknown h) in absurd (never u.which u.named u.idle)) (λ _. refl))
+      (λ given does g. absurd (never g.which g.named g.idle))
+    where
+      never : (d : Channel) → channel_of q.ch ≡ Some d → is_busy rs d ≡ false → ⊥
+      never d its idle =
+          let same : c ≡ d = let e : ◌≡◌ {A = Option Channel} (Some c) (Some d) = sym named ∙ its in cc in
+          true≢false (sym busy ∙ ap (λ (k : Channel). is_busy rs k) same ∙ idle)
 
   -- of another
-  other_channel : (ch : ℕ) (c : Channel) → channel_of ch ≡ c → (channel_of q.ch ≡ c → ⊥) → (x : Register) → Own c x
+  other_channel : (ch : ℕ) (c : Channel) → channel_of ch ≡ Some c → (channel_of q.ch ≡ Some c → ⊥) → (x : Register) → Own c x
       → registers.read (performed rs q) x ≡ registers.read rs x
-  other_channel ch c e other x own =
-      own_read c (performed rs q) rs
-      (subst (λ (k : Channel). SameOwn k (performed rs q) rs) e (others_stay rs long q ch (λ f. other (f ∙ e)) quiet)) x own
+  other_channel ch c e other x own = own_read c (performed rs q) rs (others_stay rs long q ch c e other quiet) x own
 
   -- by a register of the channel that makes it busy
-  kept_through : (ch : ℕ) (c : Channel) (x : Register) → channel_of ch ≡ c → (channel_of q.ch ≡ c → is_busy rs (channel_of q.ch) ≡ true)
-      → Own c x → (channel_of q.ch ≡ c) ⊎ (channel_of q.ch ≡ c → ⊥) → registers.read (performed rs q) x ≡ registers.read rs x
-  kept_through ch c x e busy own (inl f) = ap (λ (s : List ℕ). registers.read s x) (same_channel (busy f))
+  kept_through : (ch : ℕ) (c : Channel) (x : Register) → channel_of ch ≡ Some c → is_busy rs c ≡ true → Own c x
+      → (channel_of q.ch ≡ Some c) ⊎ (channel_of q.ch ≡ Some c → ⊥) → registers.read (performed rs q) x ≡ registers.read rs x
+  kept_through ch c x e busy own (inl f) = ap (λ (s : List ℕ). registers.read s x) (same_channel c f busy)
   kept_through ch c x e busy own (inr f) = other_channel ch c e f x own
 
-  pub waits_through_requests : (trn ch cmd : ℕ) → Among 1 254 trn → (l : Lengths) (does : Does) → command_at ch cmd ≡ Known l does → Waiting rs trn cmd does
+  pub waits_through_requests : (trn ch cmd : ℕ) → Among 1 254 trn → (l : Lengths) (does : Does) → command_at ch cmd ≡ known l does → Waiting rs trn cmd does
       → Waiting (performed rs q) trn cmd does
   waits_through_requests trn ch cmd t l (Write x) k w = absurd w
   waits_through_requests trn ch cmd t l (Switch x) k w = absurd w
   waits_through_requests trn ch cmd t l (Read x) k w = absurd w
   waits_through_requests trn ch cmd t l (Clear x) k w = absurd w
   waits_through_requests trn ch cmd t l (Start x) k w =
-      let row : Starting (channel_of ch) (Known l (Start x)) = subst (Starting (channel_of ch)) k (starting (channel_of ch) cmd) in
+      let row = go_row ch cmd l x k in
       let kept : registers.read rs SpiGo ≡ trn = subst (λ (g : Register). registers.read rs g ≡ trn) row.2 w in
       subst (λ (g : Register). registers.read (performed rs q) g ≡ trn) (sym row.2)
-      (kept_through ch channel.Spi SpiGo row.0
-      (λ f. subst (λ (c : Channel). is_busy rs c ≡ true) (sym f) (ap not (ne_eqb (registers.read rs SpiGo) 0 (λ z. omega arith)))) refl
-      (spi_or_not (channel_of q.ch)) ∙ kept)
+      (kept_through ch channel.Spi SpiGo row.0 (ap not (ne_eqb (registers.read rs SpiGo) 0 (λ z. omega arith))) refl (spi_or_not (channel_of q.ch)) ∙ kept)
   waits_through_requests trn ch cmd t l (Transact j x) k w =
-      let row : channel_of ch ≡ channel.Master j = subst (Starting (channel_of ch)) k (starting (channel_of ch) cmd) in
-      kept_through ch (channel.Master j) (master j Open) row
-      (λ f. subst (λ (c : Channel). is_busy rs c ≡ true) (sym f) (ap not (ne_eqb (registers.read rs (master j Open)) 0 (λ z. omega arith)))) (field_own j Open)
-      (master_or_not (channel_of q.ch) j) ∙ w
+      kept_through ch (channel.Master j) (master j Open) (master_row ch cmd l j x k).0
+      (ap not (ne_eqb (registers.read rs (master j Open)) 0 (λ z. omega arith))) (field_own j Open) (master_or_not (channel_of q.ch) j) ∙ w

@@ -4,11 +4,13 @@ use Prim.Native.Nat.{ℕ, ◌^◌, ◌<◌}
 use mathlib.Core.Bool.{true, false}
 use mathlib.Core.Path.{◌≡◌, refl, subst}
 use mathlib.Core.List.{List}
+use Rattle.std.specs.Prelude.{Option, Some, None, Result, Ok, Err}
 use borrow.Author.Tests.{eq-eqb, eqb-true}
 use lib.Bits.{bit_or}
 use lib.Dec.{eqb}
 use lib.ListN.{length}
 use Rattle.bits.specs.Bits.{bit_of}
+use Rattle.commands.specs.declared.command.Command.{Command}
 use Rattle.commands.specs.declared.command.Does.{Does}
 use Rattle.commands.specs.declared.command.Does.TheVariants.{Write, Switch, Read, Clear, Start, Transact}
 use Rattle.commands.specs.Field.{Status, master}
@@ -16,13 +18,13 @@ use Rattle.commands.specs.declared.channel.Channel.{Channel}
 use Rattle.commands.specs.declared.channel.Channel.TheVariants as channel
 use Rattle.commands.specs.Channels.{channel_of}
 use Rattle.commands.specs.Request.{cmd_unknown}
+use Rattle.commands.specs.declared.request.Fault.{Fault}
 use Rattle.commands.specs.declared.request.Request.{Request}
 use Rattle.bits.proofs.Tests.{cond_cases}
 use Rattle.registers.specs.Registers.{read, store}
 use Rattle.channels.specs.Rows.{is_enabled, is_busy}
 use Rattle.channels.specs.Perform.{told, reply_to, left, left_by, with_invcom, marked}
-use Rattle.channels.specs.declared.errors.Decoded.{Decoded}
-use Rattle.channels.proofs.Laws.{Refused}
+use Rattle.channels.proofs.Laws.{Refused, Unlisted}
 use Rattle.channels.proofs.Owners.{below_16}
 use Rattle.numbers.specs.Numbers.{no_frame}
 use Rattle.link.specs.Link.{receive_number, number_in, in_loopback, is_connect, is_reset, is_test}
@@ -44,7 +46,7 @@ pub data NoError (q : Request) : Reaction → Type 0 where
 -- one of the sixteen, and INVCOM, bit 5 of its STATUS, is set.
 pub data OneChange (rs : List ℕ) (q : Request) (n : ℕ) : List ℕ → Type 0 where
   none : OneChange rs q n rs
-  invcom : (i : ℕ) → i < 16 → channel_of q.ch ≡ channel.Master i → n ≡ 0x04 → is_enabled rs (channel.Master i) ≡ true → is_busy rs (channel.Master i) ≡ false
+  invcom : (i : ℕ) → i < 16 → channel_of q.ch ≡ Some (channel.Master i) → n ≡ 0x04 → is_enabled rs (channel.Master i) ≡ true → is_busy rs (channel.Master i) ≡ false
       → OneChange rs q n (store rs (master i Status) (bit_or (read rs (master i Status)) (2 ^ 5)))
 
 pub record Ruled (a : Adapter) (q : Request) (n : ℕ) (r : Reaction) : Type 0 where
@@ -55,7 +57,7 @@ pub record Ruled (a : Adapter) (q : Request) (n : ℕ) (r : Reaction) : Type 0 w
 
 module _ (a : Adapter) (q : Request) where
   -- what a request decoded so comes to
-  abbrev pub comes_to : Decoded → Reaction
+  abbrev pub comes_to : Result Command Fault → Reaction
   comes_to d = finished (with_registers a (left_by a.registers q d)) q.trn q.ch (reply_to a.registers d)
 
   pub granted : (given : ℕ) (does : Does) → NoError q (finished (with_registers a (left a.registers q does)) q.trn q.ch (told a.registers given does))
@@ -70,20 +72,20 @@ module _ (a : Adapter) (q : Request) where
   unfolding marked
   one_change e r =
       cond_cases (OneChange a.registers q e) (eqb e cmd_unknown)
-      (λ h. let k = eqb-true e cmd_unknown h in by (channel_of q.ch) refl k (r.enabled k) (r.idle k)) (λ _. none)
+      (λ h. let k = eqb-true e cmd_unknown h in by k (r.unlisted k)) (λ _. none)
     where
-      by : (ch : Channel) → channel_of q.ch ≡ ch → e ≡ cmd_unknown → is_enabled a.registers (channel_of q.ch) ≡ true
-          → is_busy a.registers (channel_of q.ch) ≡ false → OneChange a.registers q e (with_invcom a.registers ch)
-      by channel.Controller n k on idle = none
-      by channel.Spi n k on idle = none
-      by channel.Gpio n k on idle = none
-      by (channel.Master i) n k on idle =
-          invcom i (below_16 q.ch i n) n k (subst (λ (ch : Channel). is_enabled a.registers ch ≡ true) n on)
-          (subst (λ (ch : Channel). is_busy a.registers ch ≡ false) n idle)
-      by channel.Seu n k on idle = none
-      by channel.Id n k on idle = none
-      by channel.Dac n k on idle = none
-      by channel.Unknown n k on idle = none
+      by : e ≡ cmd_unknown → Unlisted a.registers q → OneChange a.registers q e (with_invcom a.registers (channel_of q.ch))
+      by k u = rw u.named (of u.which u.named k u.enabled u.idle)
+        where
+          of : (ch : Channel) → channel_of q.ch ≡ Some ch → e ≡ cmd_unknown → is_enabled a.registers ch ≡ true → is_busy a.registers ch ≡ false
+              → OneChange a.registers q e (with_invcom a.registers (Some ch))
+          of channel.Controller n k on idle = none
+          of channel.Spi n k on idle = none
+          of channel.Gpio n k on idle = none
+          of (channel.Master i) n k on idle = invcom i (below_16 q.ch i n) n k on idle
+          of channel.Seu n k on idle = none
+          of channel.Id n k on idle = none
+          of channel.Dac n k on idle = none
 
 -- ---- the frame
 

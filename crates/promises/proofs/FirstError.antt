@@ -3,6 +3,7 @@ use mathlib.Core.Path.{refl}
 use Prim.Native.Nat.{ℕ}
 use mathlib.Core.List.{List}
 use Rattle.commands.specs.declared.request.Request.{Request}
+use Rattle.commands.specs.Request.{fault_bit}
 use Rattle.channels.specs.Errors.{error_of, first_error, decoded}
 use Rattle.channels.specs.Perform.{replied, performed}
 use Rattle.channels.proofs.Laws.{decoded_cases}
@@ -17,7 +18,7 @@ use Rattle.promises.proofs.Errors.{Ruled, comes_to, granted, one_change, InOrder
 ruled : (a : Adapter) (q : Request) → Ruled a q (error_of (decoded a.registers q)) (comes_to a q (decoded a.registers q))
 ruled a q =
     decoded_cases a.registers q (λ d. Ruled a q (error_of d) (comes_to a q d))
-    (λ e b. record { error = λ _. refl; change = λ _. one_change a q e b; none = λ z. absurd (b.bit.set z) })
+    (λ f b. record { error = λ _. refl; change = λ _. one_change a q (fault_bit f) b; none = λ z. absurd (b.bit.set z) })
     (λ given does _. record { error = λ h. absurd (h refl); change = λ h. absurd (h refl); none = λ _. granted a q given does })
 
 requested_ruled : (a : Adapter) (info : List ℕ) → Ruled a (request_of info) (first_error a.registers (request_of info)) (requested a info)

@@ -4,6 +4,7 @@ use Prim.Native.Nat.{ℕ, ◌+◌, ◌*◌, ◌-◌, ◌<◌}
 use mathlib.Core.Bool.{Bool, true, false, ◌||◌, cond, true≢false}
 use mathlib.Core.List.{List, [], ◌∷◌, map}
 use mathlib.Core.Logic.{inl, inr}
+use Rattle.std.specs.Prelude.{None}
 use mathlib.Core.Path.{◌≡◌, refl, sym, ap, ◌∙◌}
 use native.Mathlib.Omega.{arith}
 use borrow.Author.Tests.{eq-eqb, eqb-true, eqb-false, le-leb}
@@ -16,12 +17,12 @@ use Rattle.numbers.specs.Numbers as numbers
 use Rattle.commands.specs.Channels.{channel_of, first_master}
 use Rattle.commands.specs.Command.{code_of}
 use Rattle.commands.specs.Field.{Field, Open, master}
-use Rattle.commands.specs.declared.channel.Channel.TheVariants.{Controller, Id, Master}
+use Rattle.commands.specs.declared.channel.Channel.{Channel}
+use Rattle.commands.specs.declared.channel.Channel.TheVariants.{Controller, Spi, Gpio, Master, Seu, Id, Dac}
 use Rattle.commands.specs.declared.command.Control.{Control}
 use Rattle.commands.specs.declared.command.Does.TheVariants.{Transact}
 use Rattle.commands.specs.declared.command.Register.TheVariants.{ChipId}
 use Rattle.commands.specs.declared.command.Transaction.{Transaction}
-use Rattle.commands.specs.declared.request.Reply.TheVariants.{Later}
 use Rattle.commands.specs.declared.request.Request.{Request}
 use Rattle.registers.specs.Registers.{size, bank, read, store, written, zeroed, are_zero, each_master}
 use Rattle.registers.specs.Transaction.{word_after, filled_word, filled, ended, end_data}
@@ -47,7 +48,7 @@ use Rattle.promises.proofs.ShutOut.{ran, output, number_of}
 -- ---- "A start makes its channel busy": it answers 17 and keeps TRN and code
 
 pub start_kept : (rs : List ℕ) (q : Request) → Sound rs → RequestBytes q → (given i : ℕ) (t : Transaction) → Granted rs q given (Transact i t)
-    → (replied rs q ≡ Later) × (read (performed rs q) (master i Open) ≡ q.trn + 256 * q.cmd)
+    → (replied rs q ≡ None) × (read (performed rs q) (master i Open) ≡ q.trn + 256 * q.cmd)
 unfolding replied performed
 start_kept rs q s b given i t g = rw (granted_decoded rs q given (Transact i t) g) (refl, kept_start rs q s b given i t g)
 
@@ -63,35 +64,48 @@ unfolding reaction on_i2c
 idle a channel acknowledge low received e = simp (eq-eqb _ 0 e)
 
 -- each is among those that its register drops
-member : ℕ → List ℕ → Bool
-member c [] = false
-member c (d ∷ ds) = eqb c d || member c ds
+is_master_of : ℕ → Channel → Bool
+is_master_of i Controller = false
+is_master_of i Spi = false
+is_master_of i Gpio = false
+is_master_of i (Master j) = eqb i j
+is_master_of i Seu = false
+is_master_of i Id = false
+is_master_of i Dac = false
 
-in_list : (c : ℕ) (cs : List ℕ) → member c cs ≡ true → amongChannels c cs
+the_master : (i : ℕ) (ch : Channel) → is_master_of i ch ≡ true → Master i ≡ ch
+unfolding is_master_of
+the_master i Controller h = absurd (true≢false (sym h))
+the_master i Spi h = absurd (true≢false (sym h))
+the_master i Gpio h = absurd (true≢false (sym h))
+the_master i (Master j) h = ap Master (eqb-true i j h)
+the_master i Seu h = absurd (true≢false (sym h))
+the_master i Id h = absurd (true≢false (sym h))
+the_master i Dac h = absurd (true≢false (sym h))
+
+member : ℕ → List Channel → Bool
+member i [] = false
+member i (ch ∷ chs) = is_master_of i ch || member i chs
+
+in_list : (i : ℕ) (chs : List Channel) → member i chs ≡ true → amongChannels (Master i) chs
 unfolding member
-in_list c [] h = true≢false (sym h)
-in_list c (d ∷ ds) h = by (eqb c d) refl h (in_list c ds)
+in_list i [] h = true≢false (sym h)
+in_list i (ch ∷ chs) h = by (is_master_of i ch) refl h (in_list i chs)
   where
-    by : (t : Bool) → eqb c d ≡ t → (t || member c ds) ≡ true → (member c ds ≡ true → amongChannels c ds) → amongChannels c (d ∷ ds)
-    by true e f rest = inl (eqb-true c d e)
+    by : (t : Bool) → is_master_of i ch ≡ t → (t || member i chs) ≡ true → (member i chs ≡ true → amongChannels (Master i) chs) → amongChannels (Master i) (ch ∷ chs)
+    by true e f rest = inl (the_master i ch e)
     by false e f rest = inr (rest f)
 
-all_dropping_lem : each_master (λ (i : ℕ). member (i + 3) (dropping (master_control i))) ≡ true
-unfolding member master_control
+all_dropping_lem : each_master (λ (i : ℕ). member i (dropping (master_control i))) ≡ true
+unfolding member is_master_of master_control
 all_dropping_lem = refl
-
-channel_of_lem : (i : ℕ) → i < 16 → channel_of (i + 3) ≡ Master i
-unfolding channel_of
-channel_of_lem i l =
-    let e : i + 3 - 3 ≡ i = omega arith in
-    simp (le-leb 3 (i + 3) (omega arith), le-leb (i + 3) 18 (omega arith), e)
 
 -- A write of the controller that disables a master leaves all its registers 0, its open start too (`off` are the registers as it writes them).
 pub disabling_drops : (off : List ℕ) → length off ≡ size → (i : ℕ) → i < 16 → is_enabled off (Master i) ≡ false
     → (f : Field) → read (settled (master_control i) off) (master i f) ≡ 0
 disabling_drops off n i l e f =
-    let m = in_list (i + 3) (dropping (master_control i)) (each_at 16 0 (λ (j : ℕ). member (j + 3) (dropping (master_control j))) all_dropping_lem i (omega arith) l) in
-    settled_drops (master_control i) off n (i + 3) m (rw (channel_of_lem i l) e) (master i f) (rw (channel_of_lem i l) (field_own i f))
+    let m = in_list i (dropping (master_control i)) (each_at 16 0 (λ (j : ℕ). member j (dropping (master_control j))) all_dropping_lem i (omega arith) l) in
+    settled_drops (master_control i) off n (Master i) m e (master i f) (field_own i f)
 
 -- And no later write of the controller, of whichever register, brings a start back, though it may enable the master again: a completion is 15.
 pub dropped_for_good : (a : Adapter) (rs : List ℕ) (channel : ℕ) (acknowledge low : Bool) (received : List ℕ) (c : Control) (d : ℕ) → length rs ≡ size

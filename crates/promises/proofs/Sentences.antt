@@ -4,6 +4,7 @@ use mathlib.Core.Bool.{true, false, not, true≢false}
 use mathlib.Core.Logic.{inl, inr}
 use mathlib.Core.Path.{◌≡◌, refl, sym, ap, ◌∙◌}
 use mathlib.Core.List.{List, ◌∷◌}
+use Rattle.std.specs.Prelude.{None}
 use native.Mathlib.Nat.{mod-eq_of_lt}
 use native.Mathlib.Omega.{arith}
 use borrow.Author.Tests.{eq-eqb, ne_eqb}
@@ -11,7 +12,6 @@ use lib.Bits.{bit_and, and_mask}
 use lib.Dec.{eqb, lit≤}
 use lib.ListN.{length, replicate}
 use Rattle.bits.specs.Bits.{bit_of}
-use Rattle.commands.specs.declared.request.Reply.TheVariants.{Later}
 use Rattle.commands.specs.declared.request.Request.{Request}
 use Rattle.commands.specs.Channels.{channel_of}
 use Rattle.commands.specs.Command.{code_of}
@@ -58,7 +58,7 @@ wraps a e = simp e
 
 -- a GO, in a request with any TRN that is answered and any data, to an SPI that is enabled and not busy
 pub go_makes_busy : (rs : List ℕ) (trn d : ℕ) → length rs ≡ size → 0 < trn → trn < 0xFF → is_enabled rs Spi ≡ true → is_busy rs Spi ≡ false
-    → let go : Request = record { trn = trn; ch = 0x01; len = 2; cmd = 0x72; value = d } in (replied rs go ≡ Later) × (is_busy (performed rs go) Spi ≡ true)
+    → let go : Request = record { trn = trn; ch = 0x01; len = 2; cmd = 0x72; value = d } in (replied rs go ≡ None) × (is_busy (performed rs go) Spi ≡ true)
 unfolding replied performed decoded channel_of code_of
 go_makes_busy rs trn d n l u on idle =
     simp (ne_eqb trn 0x00 (λ e. omega arith), ne_eqb trn 0xFF (λ e. omega arith), on, idle) (refl, ap not (ne_eqb _ 0 (λ e. kept e)))
@@ -78,8 +78,7 @@ idle a received e = simp (eq-eqb _ 0 e)
 -- A write of the controller leaves registers `settled`. One of CRB that disables SPI leaves no GO (`off` are the registers as it writes them), and no
 -- later one, of whichever register, brings it back, though it may enable SPI again: a completion is 15.
 pub disabling_drops : (off : List ℕ) → length off ≡ size → is_enabled off Spi ≡ false → read (settled B off) SpiGo ≡ 0
-unfolding channel_of
-disabling_drops off n e = settled_drops B off n 0x01 (inl refl) e SpiGo refl
+disabling_drops off n e = settled_drops B off n Spi (inl refl) e SpiGo refl
 
 pub dropped_for_good : (a : Adapter) (rs received : List ℕ) (c : Control) (d : ℕ) → length rs ≡ size → read rs SpiGo ≡ 0
     → let b = with_registers a (settled c (written rs (register_of c) d)) in

@@ -1,8 +1,9 @@
 -- What the tables say row by row: which channels have numbers of their own, and which commands are starts. Assumes nothing.
 use Prim.Native.Nat.{ℕ, ◌-◌, ◌≤◌}
 use mathlib.Core.List.{List, [], ◌∷◌}
-use mathlib.Core.Path.{◌≡◌, refl, sym, subst}
-use Rattle.std.specs.Prelude.{Option, Some, None}
+use mathlib.Core.Path.{◌≡◌, refl, sym, ap, subst, ◌∙◌}
+use native.Mathlib.Omega.{arith}
+use Rattle.std.specs.Prelude.{Option, Some, None, option_and_then}
 use borrow.Author.Tests.{eqb-true, leb-true}
 use lib.Dec.{eqb, leb}
 use Rattle.bits.specs.Table.{Row, look}
@@ -13,10 +14,12 @@ use Rattle.commands.specs.declared.command.Command.{Command}
 use Rattle.commands.specs.declared.command.Does.{Does}
 use Rattle.commands.specs.declared.command.Does.TheVariants as does
 use Rattle.commands.specs.declared.command.Lengths.{Lengths}
+use Rattle.commands.specs.declared.command.Register.{Register}
 use Rattle.commands.specs.declared.command.Register.TheVariants.{SpiGo}
-use Rattle.commands.specs.Command.{code_of}
+use Rattle.commands.specs.declared.command.Transaction.{Transaction}
+use Rattle.commands.specs.Command.{known, code_of}
 use Rattle.commands.specs.Spi.{go}
-use Rattle.commands.specs.Channels.{channels, channel_of, is_master, commands_of, command_of}
+use Rattle.commands.specs.Channels.{channels, channel_of, is_master, commands_of, command_of, command_at}
 
 -- ---- what every row keeps, with its code, every number's meaning keeps
 
@@ -76,3 +79,34 @@ starting_rows Dac = (tt, (tt, (tt, (tt, (tt, (tt, (tt, (tt, tt))))))))
 pub starting : (ch : Channel) (cmd : ℕ) → Starting ch (command_of ch cmd)
 unfolding code_of
 starting ch cmd = rows_keep (λ _ k. Starting ch k) (commands_of ch) None cmd (starting_rows ch) tt
+
+-- ---- the channel that has a command
+
+pub record Itself (n cmd : ℕ) (command : Command) : Type 0 where
+  pub which : Channel
+  pub named : channel_of n ≡ Some which
+  pub has : command_of which cmd ≡ Some command
+
+none_or_some : {A : Type 0} {x : A} → ◌≡◌ {A = Option A} None (Some x) → ⊥
+none_or_some e = let z : ◌≡◌ {A = ℕ} 0 1 = cc in omega arith
+
+pub its_channel : (n cmd : ℕ) (command : Command) → command_at n cmd ≡ Some command → Itself n cmd command
+its_channel n cmd command = by (channel_of n) refl
+  where
+    by : (o : Option Channel) → channel_of n ≡ o → option_and_then (λ ch. command_of ch cmd) o ≡ Some command → Itself n cmd command
+    by None f e = absurd (none_or_some e)
+    by (Some ch) f e = record { which = ch; named = f; has = e }
+
+-- GO, and a start of a master's
+pub go_row : (n cmd : ℕ) (l : Lengths) (r : Register) → command_at n cmd ≡ known l (does.Start r) → (channel_of n ≡ Some Spi) × (l ≡ go) × (r ≡ SpiGo)
+go_row n cmd l r e =
+    let c = its_channel n cmd _ e in
+    let s : Starting c.which (known l (does.Start r)) = subst (Starting c.which) c.has (starting c.which cmd) in
+    (c.named ∙ ap Some s.0, s.1, s.2)
+
+pub master_row : (n cmd : ℕ) (l : Lengths) (i : ℕ) (t : Transaction) → command_at n cmd ≡ known l (does.Transact i t)
+    → (channel_of n ≡ Some (Master i)) × (command_of (Master i) cmd ≡ known l (does.Transact i t))
+master_row n cmd l i t e =
+    let c = its_channel n cmd _ e in
+    let s : c.which ≡ Master i = subst (Starting c.which) c.has (starting c.which cmd) in
+    (c.named ∙ ap Some s, subst (λ (ch : Channel). command_of ch cmd ≡ known l (does.Transact i t)) s c.has)
