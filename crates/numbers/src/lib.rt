@@ -126,58 +126,6 @@ impl From<Dropped> for u8 {
     }
 }
 
-// The output is under 16 bytes, for the transmitter under 24, for a batch under 2,560; the second buffer of an enlarging is not 52,224.
-pub const SHORT_OUTPUT: u8 = 1;
-// The body is not 2 to 16 bytes.
-pub const BAD_BODY: u8 = 2;
-// The port is not 0 or 1, the edge kind is over 2, a completion is not 16 bytes, not of an I2C channel, or over 16 bytes, or a batch is over 256
-// samples.
-pub const BAD_ARGUMENT: u8 = 3;
-// The journal's length, mark, version or layout is wrong; one to be enlarged is not small.
-pub const BAD_JOURNAL: u8 = 4;
-// The kept number is 0.
-pub const NONE_KEPT: u8 = 5;
-// A field of the state, of the receiver or of the record of open transactions is out of range.
-pub const BAD_STATE: u8 = 6;
-// The chip ID is over 0xFFFFFF.
-pub const BAD_ID: u8 = 7;
-// The receiver's input is over 65,536 bytes.
-pub const LONG_INPUT: u8 = 8;
-// The start bit is over 8 times the bytes.
-pub const BAD_START: u8 = 9;
-// The line is not readable.
-pub const UNREADABLE: u8 = 10;
-// The frame's address is not 0x00.
-pub const OTHER_ADDRESS: u8 = 11;
-// The port is not the active one.
-pub const OTHER_PORT: u8 = 12;
-// An unknown control with bit 0 set.
-pub const OTHER_CONTROL: u8 = 13;
-// The information is not as long as its frame asks.
-pub const BAD_INFORMATION: u8 = 14;
-// A completion when not busy.
-pub const NOT_BUSY: u8 = 15;
-// A pin sample with GPIO disabled.
-pub const LINES_DISABLED: u8 = 16;
-// Done, and no frame.
-pub const NO_FRAME: u8 = 17;
-// The receiver dropped a frame: content over 144 bits.
-pub const LONG_CONTENT: u8 = 21;
-// Content that is not a multiple of 8 bits.
-pub const BROKEN_CONTENT: u8 = 22;
-// A wrong FCS.
-pub const WRONG_FCS: u8 = 23;
-// Seven ones.
-pub const ABORTED: u8 = 24;
-// A control room's call: no TRN is free, all 254 are open.
-pub const ALL_OPEN: u8 = 31;
-// A control room's call: the reply matches no open transaction.
-pub const NO_MATCH: u8 = 32;
-// A control room's call: the reply's body is not 10 bytes.
-pub const BAD_REPLY: u8 = 33;
-// A control room's call: the tables have no such command.
-pub const NO_COMMAND: u8 = 35;
-
 // The bytes of the shortest body.
 pub const BODY_LEAST: usize = 2;
 // The bytes of the longest body.
