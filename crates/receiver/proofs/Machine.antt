@@ -35,10 +35,6 @@ low_from x place h =
 pub record Onward (q₀ : State) (x skip place : ℕ) (q : State) : Type 0 where
   pub same : (n : ℕ) (r : List ℕ) → runs q₀ n (low (8 - skip) (x / 2 ^ skip) ++ r) ≡ runs q (n + (place - skip)) (low (8 - place) (x / 2 ^ place) ++ r)
 
-pub onward_none : (q : State) (x skip : ℕ) → Onward q x skip skip q
-onward_none q x skip =
-    record { same = λ n r. let e : n ≡ n + (skip - skip) = omega arith in ap (λ (k : ℕ). runs q k (low (8 - skip) (x / 2 ^ skip) ++ r)) e }
-
 module _ {q₀ q : State} {x skip place : ℕ} (h : skip ≤ place) (k : place < 8) (o : Onward q₀ x skip place q) where
   pub onward_more : {q' : State} → decides q (x / 2 ^ place % 2) ≡ false → q' ≡ next q (x / 2 ^ place % 2) → Onward q₀ x skip (place + 1) q'
   onward_more d e =

@@ -8,15 +8,13 @@ use borrow.Author.Tests.{eq-eqb, ne_eqb, lt-ltb, le-ltb}
 use lib.ListN.{length, take, replicate, length-take}
 use lib.Seq.{take-take}
 use Rattle.numbers.specs.Numbers as number
-use Rattle.parts.specs.Parts.{put}
-use Rattle.parts.proofs.Laws.{AreBytes, bytes_take, put_none}
+pub use Rattle.parts.proofs.Laws.{AreBytes, bytes_take, put_none}
 use Rattle.wire.specs.Bits.{low, wire, pack}
 use Rattle.wire.specs.Fcs.{register, preset, residue}
-use Rattle.receiver.specs.Receiver.{State, opened, runs, view, image}
-use Rattle.receiver.specs.Receive.{bare, at_flag, concluded, received_as, reading}
-use Rattle.receiver.specs.Inner.{value, Good, control_of, state_of, stop_of, receiver_of, barely, Scan}
+use Rattle.receiver.specs.Receiver.{State, runs, view, image}
+use Rattle.receiver.specs.Receive.{bare, at_flag, concluded, reading}
+use Rattle.receiver.specs.Inner.{value, Good, control_of, state_of, stop_of, receiver_of, Scan}
 use Rattle.receiver.specs.declared.Receiver.{Receiver}
-use Rattle.receiver.specs.Received.{Received}
 use Rattle.receiver.specs.declared.scanning.Control.{Control}
 use Rattle.receiver.specs.declared.scanning.Scanned.{Scanned}
 use Rattle.wire.proofs.Bits.{length_low, low_add, length_wire, take_wire, pack_wire}
@@ -89,22 +87,9 @@ module _ (kept : List ℕ) (bits : ℕ) (h32 : 32 ≤ bits) (hm : bits ≤ 152) 
         (ap (λ (l : List ℕ). record { number = number.has_frame; body = l })
         (ap (take (bits / 8 - 2)) (pack_wire (take (bits / 8) kept) (bytes_take (bits / 8) kept hb)) ∙ take-take (bits / 8 - 2) (bits / 8) kept (omega arith)))
 
--- ---- what a flag's answer gives back, and the output after it
+pub ruleset flags = (flag_long, flag_broken, flag_wrong, flag_good, put_none)
 
-pub bare_flag : {n used : ℕ} {rx : Receiver} {r : Received} (content o : List ℕ)
-    → at_flag content ≡ bare n → rx ≡ image opened → r ≡ barely rx n used
-    → (r ≡ received_as (record { answer = at_flag content; state = opened; consumed = used })) × (o ≡ put 0 (at_flag content).body o)
-bare_flag {n} {used} content o e f g = rw e (g ∙ ap (λ (x : Receiver). barely x n used) f, put_none 0 o)
-
-pub body_flag : {used : ℕ} {rx : Receiver} {body : List ℕ} (content o o' : List ℕ)
-    → at_flag content ≡ record { number = number.has_frame; body = body } → rx ≡ image opened → o' ≡ put 0 body o
-    → (record { rx = rx; number = number.has_frame; consumed = used; length = length body } ≡ received_as (record { answer = at_flag content; state = opened; consumed = used }))
-    × (o' ≡ put 0 (at_flag content).body o)
-body_flag {used} {rx} {body} content o o' e f g = rw (e, f) (refl, g)
-
--- the bytes at the front of those that were kept
-pub length_front : (kept : List ℕ) (n : ℕ) → length kept ≡ 20 → n ≤ 20 → length (take n kept) ≡ n
-length_front kept n h k = length-take n kept ∙ omega arith
+pub ruleset ends = (image_state, content_kept, put_none)
 
 -- a scan from a receiver's own control and bytes is the reading from what it stands for
 pub read_from_lem : (rx : Receiver) (bits : List ℕ) (p : Scanned) → Good (control_of rx) rx.bytes → Scan (control_of rx) rx.bytes bits p

@@ -112,8 +112,8 @@ fn read(rx: Receiver, input: &[u8], start: usize, output: &mut [u8]) -> Receptio
     verdict::conclude(stop, output)
 }
 
-#[tactic(auto, unfolding(crate::specs::Receive::received, crate::specs::Receive::output_after))]
 // Reads cable bits from a start bit on, up to the first answer.
+#[tactic(auto, unfolding(crate::specs::Receive::received, crate::specs::Receive::output_after))]
 pub fn receive(rx: Receiver, input: &[u8], start: usize, output: &mut [u8]) -> Reception
     ensures value { received_of result ≡ receive.received rx input.now start output.old }
     ensures output_after { output.new ≡ receive.output_after rx input.now start output.old }

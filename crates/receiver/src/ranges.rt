@@ -11,8 +11,8 @@ use crate::scanning::Control;
 // The most bits of content that a receiver keeps: more than 144, with a flag's zero and five ones.
 const CONTENT_MOST: u8 = 152;
 
-#[tactic(auto, unfolding(crate::specs::Receiver::fields_fit))]
 // Up to five ones of a run stand in the content.
+#[tactic(auto, unfolding(crate::specs::Receiver::fields_fit))]
 fn fields_fit(c: Control) -> bool
     ensures value { result ≡ fields_fit c.mode c.ones c.lead c.count }
     ensures room { result ≡ true → c.count ≤ 152 }

@@ -33,8 +33,8 @@ fn at_opening() -> Receiver
     }
 }
 
-#[tactic(auto, using(crate::proofs::View::flag_long, crate::proofs::View::flag_broken, crate::proofs::View::flag_wrong, crate::proofs::View::flag_good, parts::proofs::Laws::put_none))]
 // The answer of a flag that ends this many bits of content: the length of the body that is written.
+#[tactic(auto, using(crate::proofs::View::flags))]
 fn at_flag(kept: &[u8; 20], bits: u8, output: &mut [u8]) -> Result<usize, NoBody>
     requires { (32 ≤ bits) × (bits ≤ 152) × ((i : ℕ) → get_or kept.now i 0 < 256) × (output_least ≤ length output.old) }
     ensures number { answer_number result ≡ (at_flag (take bits (wire kept.now))).number }
@@ -57,7 +57,7 @@ fn at_flag(kept: &[u8; 20], bits: u8, output: &mut [u8]) -> Result<usize, NoBody
 }
 
 // What each end of a scan answers.
-#[tactic(auto, using(crate::proofs::View::image_state, crate::proofs::View::content_kept, parts::proofs::Laws::put_none))]
+#[tactic(auto, using(crate::proofs::View::ends))]
 pub(crate) fn conclude(stop: Scanned, output: &mut [u8]) -> Reception
     requires good { Good stop.control stop.bytes }
     requires lead_bound { stop.end ≡ end.Flag → 37 + stop.control.lead ≤ stop.control.count }

@@ -8,7 +8,7 @@ use native.Mathlib.Omega.{arith}
 use borrow.Author.Tests.{eq-eqb, ne_eqb}
 use mir.Val.{bool_byte}
 use lib.Dec.{T, eqb, leb, ltb, eqb→eq, leb→le, ltb→lt, lit≤}
-use lib.Pow.{pow_mono, pow-add, shl_exact, shr_lt, high}
+use lib.Pow.{pow-add, shl_exact, shr_lt, high}
 use lib.ListN.{length, take, drop, set, replicate, length-append, length-set, take-append-drop}
 use lib.Seq.{length-take-le, take-set-le, take-suc-set, drop-set-lt, drop-drop}
 use Rattle.parts.specs.Parts.{put}
@@ -42,9 +42,6 @@ module _ (o : List ℕ) (n h v c : ℕ) (hn : n + c ≤ 8 * length o) (hh : h < 
 
   joined_lt : joined n h v < 2 ^ (n % 8 + c)
   joined_lt = rw joined_is (join_lt (n % 8) c h v hh hv)
-
-  pub joined_fits : joined n h v < 65536
-  joined_fits = omega (arith, joined_lt, pow_mono {i = n % 8 + c} {j = 15} (omega arith))
 
   -- the byte is whole or it is not
   bits_now : (m : ℕ) → (n % 8 + c) / 8 ≡ m

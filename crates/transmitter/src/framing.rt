@@ -68,8 +68,8 @@ impl<'a> Pen<'a> {
         }
     }
 
-    #[tactic(auto, using(crate::proofs::Written::ones_fit))]
     // Ones to fill the last byte: how many bytes are written.
+    #[tactic(auto, using(crate::proofs::Written::ones_fit))]
     fn fill(&mut self) -> usize
         requires { self.old.bits ≤ 192 }
         ensures { Inks self.old (replicate ((8 - self.old.bits % 8) % 8) 1) self.new × (self.new.bits ≡ 8 * result) }
@@ -82,8 +82,8 @@ impl<'a> Pen<'a> {
     }
 }
 
-#[tactic(auto, using(crate::proofs::Pens::lengths))]
 // A body as a frame, with ones to fill the last byte: how many bytes were written.
+#[tactic(auto, using(crate::proofs::Pens::lengths))]
 pub(crate) fn write_frame(body: &[u8], output: &mut [u8]) -> usize
     requires { (length body.now ≤ body_most) × (cable_most ≤ length output.old) }
     ensures value { result ≡ length (framed body.now) }
