@@ -1,5 +1,5 @@
 -- What is done of a frame or at the end of a start, as code comes to it. `search` finds the premises in what a need knows, wherever they stand.
-use Rattle.std.proofs.Common.{◌≡◌, ℕ, ◌-◌, ◌/◌, ◌%◌, Bool, true, eqb, List, length, get_or, drop, refl, ◌∙◌, arith, length-drop, eq-eqb}
+use Rattle.std.proofs.Common.{◌≡◌, ℕ, ◌-◌, Bool, true, eqb, List, length, get_or, drop, ◌∙◌, arith, length-drop, eq-eqb}
 use Rattle.std.specs.Prelude.{Option}
 use Rattle.std.specs.Int.{to_le_bytes, w32}
 use Rattle.commands.specs.declared.channel.Channel.TheVariants.{Master}

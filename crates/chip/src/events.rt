@@ -142,7 +142,13 @@ fn transact(
         low,
         received,
     );
-    request::reply(link, trn, channel, granted(given_by(command), value), output)
+    request::reply(
+        link,
+        trn,
+        channel,
+        granted(given_by(command), value),
+        output,
+    )
 }
 
 // The completion of one named I2C channel.

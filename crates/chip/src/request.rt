@@ -18,7 +18,15 @@ pub(crate) fn reply(link: Link, trn: u8, ch: u8, told: Reply, output: &mut [u8])
     ensures { (rs : List ℕ) → said result rs output.new ≡ says (replies (adapter link rs) trn ch told.error told.length told.value) output.old }
 {
     let control = link::reply_control(link);
-    packets::put_reply(output, control, trn, ch, told.error, told.length, told.value);
+    packets::put_reply(
+        output,
+        control,
+        trn,
+        ch,
+        told.error,
+        told.length,
+        told.value,
+    );
     answer::send(link::send_up(link), link.port, numbers::REPLY_BYTES)
 }
 

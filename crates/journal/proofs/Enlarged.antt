@@ -70,23 +70,19 @@ module _ (j second : List ℕ) (h : well_formed j ≡ true) (s : wrong_length se
   pub as_long : (k : ℕ) (after : List ℕ) → k ≤ kept_of j → after ≡ put 1024 (oldest k j) second → length after ≡ length second
   as_long k after l e = ap length e ∙ filled_length j w second k (omega (arith, its_size second s))
 
-  pub store_room : (from k : ℕ) (after : List ℕ) → k < kept_of j → after ≡ put 1024 (oldest k j) second
-      → 1024 + 256 * k + length (take (from + 256 - from) (drop from j)) ≤ length after
-  store_room from k after l e = let r = slot_room k l in let n = as_long k after (omega arith) e in simp length-take (omega arith)
+  pub store_room : (from k n kept : ℕ) (after : List ℕ) → kept ≡ kept_of j → k < kept → n ≡ k → after ≡ put 1024 (oldest k j) second
+      → 1024 + 256 * n + length (take (from + 256 - from) (drop from j)) ≤ length after
+  store_room from k n kept after g l i e = let r = slot_room k (omega arith) in let m = as_long k after (omega arith) e in simp length-take (omega arith)
 
-  pub copied_one : (f : Format) (from k : ℕ) (after next : List ℕ) → f ≡ format_of (length j) → from ≡ place_of f.slots (first_of j) k → k < kept_of j
-      → after ≡ put 1024 (oldest k j) second → next ≡ put (1024 + 256 * k) (take (from + 256 - from) (drop from j)) after
+  pub copied_one : (slots first kept from k n : ℕ) (after next : List ℕ) → slots ≡ slots_of j → first ≡ first_of j → kept ≡ kept_of j
+      → from ≡ place_of slots first k → k < kept → n ≡ k → after ≡ put 1024 (oldest k j) second → next ≡ put (1024 + 256 * n) (take (from + 256 - from) (drop from j)) after
       → next ≡ put 1024 (oldest (k + 1) j) second
   unfolding part
-  copied_one f from k after next e p l a n =
+  copied_one slots first kept from k n after next c d g p l i a o =
       let m : from + 256 - from ≡ 256 = omega arith in
-      let q : from ≡ place_of (slots_of j) (first_of j) k = rw e at p in
-      n ∙ rw (a, m, q, add-one k) (one_more j w second k (omega (arith, slot_room k l)))
-
--- and of all
-pub copied_all : (j second after : List ℕ) (kept k : ℕ) → k ≤ kept → kept ≤ k → after ≡ put 1024 (oldest k j) second
-    → after ≡ put 1024 (oldest kept j) second
-copied_all j second after kept k l m e = let f : k ≡ kept = omega arith in rw (← f) e
+      let q : from ≡ place_of (slots_of j) (first_of j) k = rw (c, d) at p in
+      let r = slot_room k (omega arith) in
+      o ∙ rw (i, a, m, q, add-one k) (one_more j w second k (omega arith))
 
 module _ (j second after : List ℕ) (e : after ≡ put 1024 (oldest (kept_of j) j) second) where
   pub still_long : well_formed j ≡ true → wrong_length second ≡ false → kept_of j ≤ slots_of second → wrong_length after ≡ false

@@ -16,8 +16,8 @@ use Rattle.bits.proofs.Rows.{none_of}
 use Rattle.parts.specs.Parts.{part, put}
 use Rattle.parts.proofs.Laws.{Apart, length_part, length_put, part_put_before, part_put_after, part_put_apart, part_put_same, put_put, put_mid_lem}
 use Rattle.commands.specs.declared.command.Control.TheVariants.{B, C, D}
-use Rattle.channels.specs.declared.groups.Group.{Group}
-use Rattle.channels.specs.declared.groups.Group.TheVariants.{Nothing, Switched}
+use Rattle.std.specs.Prelude.{Option, None, Some}
+use Rattle.commands.specs.declared.command.Control.{Control}
 use Rattle.channels.specs.Groups.{span_of}
 use Rattle.channels.proofs.Laws.{SameOutside}
 use Rattle.state.specs.State.{Adapter}
@@ -34,7 +34,7 @@ use Rattle.journal.specs.Layout.{format_of, slots_of, first_of, kept_of, well_fo
 use Rattle.journal.specs.Record.{core_bytes, start_of, many_of, tag_of, last_tag, tagged, group_in, record_of, kept_for, before, restored, sound}
 use Rattle.journal.specs.Inner.{record_most}
 use Rattle.journal.proofs.Pieces.{joined, front_written, over_pieces}
-use Rattle.journal.proofs.Ring.{room_in, pushed_by, newest_slot}
+use Rattle.journal.proofs.Ring.{newest_slot, stands_in}
 
 -- ---- so many bytes of a state from a place on: behind the core, inside, and not more than a record has room for
 
@@ -44,26 +44,26 @@ pub record Fits (first many : ℕ) : Type 0 where
   pub short : 1 + core_bytes + many ≤ record_most
 
 -- a group's are
-fits : (g : Group) → Fits (start_of g) (many_of g)
-fits Nothing = record { behind = lit≤ tt; inside = lit≤ tt; short = lit≤ tt }
-fits (Switched B) = record { behind = lit≤ tt; inside = lit≤ tt; short = lit≤ tt }
-fits (Switched C) = record { behind = lit≤ tt; inside = lit≤ tt; short = lit≤ tt }
-fits (Switched D) = record { behind = lit≤ tt; inside = lit≤ tt; short = lit≤ tt }
+fits : (g : Option Control) → Fits (start_of g) (many_of g)
+fits None = record { behind = lit≤ tt; inside = lit≤ tt; short = lit≤ tt }
+fits (Some B) = record { behind = lit≤ tt; inside = lit≤ tt; short = lit≤ tt }
+fits (Some C) = record { behind = lit≤ tt; inside = lit≤ tt; short = lit≤ tt }
+fits (Some D) = record { behind = lit≤ tt; inside = lit≤ tt; short = lit≤ tt }
 
 -- ---- the tags
 
-group_back : (g : Group) → group_in (tag_of g) ≡ g
+group_back : (g : Option Control) → group_in (tag_of g) ≡ g
 unfolding group_in
-group_back Nothing = refl
-group_back (Switched B) = refl
-group_back (Switched C) = refl
-group_back (Switched D) = refl
+group_back None = refl
+group_back (Some B) = refl
+group_back (Some C) = refl
+group_back (Some D) = refl
 
-tag_known : (g : Group) → leb (tag_of g) last_tag ≡ true
-tag_known Nothing = refl
-tag_known (Switched B) = refl
-tag_known (Switched C) = refl
-tag_known (Switched D) = refl
+tag_known : (g : Option Control) → leb (tag_of g) last_tag ≡ true
+tag_known None = refl
+tag_known (Some B) = refl
+tag_known (Some C) = refl
+tag_known (Some D) = refl
 
 -- ---- what a record keeps of a state, put back over another that is the same outside
 
@@ -118,7 +118,7 @@ module _ (first many : ℕ) (f : Fits first many) where
       its_group = rw e (second_of core group rest core_bytes many core_long group_long)
 
 -- a group's record is read back, whatever stands behind it
-kept_restores : (g : Group) (tag : ℕ) → group_in tag ≡ g → (s rest t : List ℕ) → length s ≡ state_size → length t ≡ state_size
+kept_restores : (g : Option Control) (tag : ℕ) → group_in tag ≡ g → (s rest t : List ℕ) → length s ≡ state_size → length t ≡ state_size
     → Agree (start_of g) (many_of g) (fits g) t s → restored t (record_of tag (start_of g) (many_of g) s ++ rest) ≡ s
 unfolding restored
 kept_restores g tag e s rest t n k a =
@@ -158,7 +158,7 @@ behind_link l rs p m n h =
     let e : p ≡ length l + (p - link_bytes) = omega arith in
     ap (λ (k : ℕ). take m (drop k (l ++ rs))) e ∙ ap (take m) (drop-append-add l rs (p - link_bytes))
 
-agrees : (a b : Adapter) (g : Group) → SameOutside g b.registers a.registers → Agree (start_of g) (many_of g) (fits g) (state_bytes b) (state_bytes a)
+agrees : (a b : Adapter) (g : Option Control) → SameOutside g b.registers a.registers → Agree (start_of g) (many_of g) (fits g) (state_bytes b) (state_bytes a)
 unfolding state_bytes
 agrees a b g u p m l o =
     behind_link (link_image b.link) b.registers p m refl l ∙ u (p - link_bytes) m (omega arith) (lower o)
@@ -211,15 +211,15 @@ module _ (tag first many : ℕ) where
       ((first ≡ start_of (group_in tag)) × (many ≡ many_of (group_in tag)))
       × ((core_bytes ≤ first) × (first + many ≤ state_size) × (1 + core_bytes + many ≤ record_most))
 
-  placed : (g : Group) → group_in tag ≡ g → first ≡ start_of g → many ≡ many_of g → Placed
+  placed : (g : Option Control) → group_in tag ≡ g → first ≡ start_of g → many ≡ many_of g → Placed
   placed g e f m = rw (e, f, m) ((refl, refl), ((fits g).behind, (fits g).inside, (fits g).short))
 
   pub place_at : (code : ℕ) → tag ≡ code → first ≡ start_of (group_in code) → many ≡ many_of (group_in code) → Placed
   place_at code e f m = placed (group_in code) (ap group_in e) f m
 
-  pub no_place : (tag ≡ 1 → ⊥) → (tag ≡ 2 → ⊥) → (tag ≡ 3 → ⊥) → first ≡ start_of Nothing → many ≡ many_of Nothing → Placed
+  pub no_place : (tag ≡ 1 → ⊥) → (tag ≡ 2 → ⊥) → (tag ≡ 3 → ⊥) → first ≡ start_of None → many ≡ many_of None → Placed
   unfolding group_in
-  no_place b c d f m = placed Nothing (sym (none_of tagged Nothing tag (((tt, b), c), d))) f m
+  no_place b c d f m = placed None (sym (none_of tagged None tag (((tt, b), c), d))) f m
 
 -- ---- a record exchanged with what it stands for
 
@@ -289,7 +289,7 @@ record_long tag first many s n h =
 -- ---- a record that is tried: what it restores stands, or is taken back
 
 module _ (s r : List ℕ) (n : length s ≡ state_size) (l : record_most ≤ length r) where
-  abbrev its : Group
+  abbrev its : Option Control
   its = group_in (get_or r 0 0)
 
   core_room : 0 + length (part 1 core_bytes r) ≤ length s
@@ -320,11 +320,11 @@ module _ (s r : List ℕ) (n : length s ≡ state_size) (l : record_most ≤ len
   pub id_restored : part 16 4 (restored s r) ≡ part 16 4 s
   id_restored = restored_elsewhere 16 4 (lit≤ tt) (inl (by its))
     where
-      by : (g : Group) → 16 + 4 ≤ start_of g
-      by Nothing = lit≤ tt
-      by (Switched B) = lit≤ tt
-      by (Switched C) = lit≤ tt
-      by (Switched D) = lit≤ tt
+      by : (g : Option Control) → 16 + 4 ≤ start_of g
+      by None = lit≤ tt
+      by (Some B) = lit≤ tt
+      by (Some C) = lit≤ tt
+      by (Some D) = lit≤ tt
 
   pub unknown_tag : 3 < get_or r 0 0 → false ≡ sound s r
   unfolding sound
@@ -408,20 +408,20 @@ module _ (s r : List ℕ) (n : length s ≡ state_size) (l : record_most ≤ len
 
 -- ---- what the journal keeps, and tries
 
-pub keeps_record : (tag first many : ℕ) (s j x : List ℕ) (f : Format) (at next kept : ℕ) → well_formed j ≡ true → length s ≡ state_size
-    → (first + many ≤ state_size) × (1 + core_bytes + many ≤ record_most) → f ≡ format_of (length j) → at ≡ place_of f.slots (first_of j) (kept_of j)
-    → next ≡ first_after f.slots (first_of j) (kept_of j) → kept ≡ kept_up f.slots (kept_of j)
-    → x ≡ put 0 (record_of tag first many s) (take (at + record_most - at) (drop at j))
-    → set (set (put_mid at (at + record_most - at) j x) 5 next) 6 kept ≡ pushed (record_of tag first many s) j
-keeps_record tag first many s j x f at next kept w n i e q g h p =
-    let m = record_long tag first many s n i.0 in
-    let b = i.1 in
-    pushed_by (record_of tag first many s) j _ f at next kept e q g h
-    (front_written at record_most j (record_of tag first many s) x (room_in j f w e at (kept_of j) record_most q (lit≤ tt)) (omega arith) p)
-
-pub kept_for_lem : (g : Group) (tag first many : ℕ) (s i j : List ℕ) → tag ≡ tag_of g → first ≡ start_of (group_in tag) → many ≡ many_of (group_in tag)
-    → j ≡ pushed (record_of tag first many s) i → j ≡ pushed (kept_for g s) i
-kept_for_lem g tag first many s i j e f m h = rw (h, f, m, e, group_back g) refl
+pub keeps_record : (g : Option Control) (tag first many slots start held at next kept : ℕ) (s j x : List ℕ) → well_formed j ≡ true → length s ≡ state_size
+    → tag ≡ tag_of g → first ≡ start_of (group_in tag) → many ≡ many_of (group_in tag) → first + many ≤ state_size → 1 + core_bytes + many ≤ record_most
+    → slots ≡ slots_of j → start ≡ first_of j → held ≡ kept_of j → at ≡ place_of slots start held → next ≡ first_after slots start held
+    → kept ≡ kept_up slots held → x ≡ put 0 (record_of tag first many s) (take (at + record_most - at) (drop at j))
+    → set (set (put_mid at (at + record_most - at) j x) 5 next) 6 kept ≡ pushed (kept_for g s) j
+unfolding pushed
+keeps_record g tag first many slots start held at next kept s j x w n e f m i b c d h q u v p =
+    let l = record_long tag first many s n i in
+    let r = stands_in j (kept_of j) w in
+    let z : at ≡ place_of (slots_of j) (first_of j) (kept_of j) = rw (c, d, h) at q in
+    let y : record_of tag first many s ≡ kept_for g s = rw (f, m, e, group_back g) refl in
+    let o : put_mid at (at + record_most - at) j x ≡ put at (record_of tag first many s) j =
+    front_written at record_most j (record_of tag first many s) x (omega arith) (omega arith) p in
+    rw (o, y, z, u, v, c, d, h) refl
 
 -- the newest, in its slot
 module _ (j : List ℕ) (at : ℕ) (h : well_formed j ≡ true) (e : at ≡ place_of (slots_of j) (first_of j) (kept_of j - 1)) (r : List ℕ)

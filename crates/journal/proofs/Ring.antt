@@ -324,6 +324,26 @@ in_journal j i h l = in_header j i (size_in j h) l
 pub header_in : (j : List ℕ) → wrong_length j ≡ false → 0 + 7 ≤ length j
 header_in j h = omega (arith, its_size j h)
 
+-- the header is there, and says slots of the ring
+pub long_enough : (j : List ℕ) → wrong_length j ≡ false → 1024 ≤ length j
+long_enough j h = omega (arith, its_size j h)
+
+pub header_long : (j : List ℕ) → well_formed j ≡ true → 1024 ≤ length j
+header_long j h = long_enough j (size_in j h)
+
+pub starts_in : (j : List ℕ) → well_formed j ≡ true → first_of j < slots_of j
+starts_in j h = (of_well j h).first
+
+pub keeps_few : (j : List ℕ) → well_formed j ≡ true → kept_of j ≤ slots_of j
+keeps_few j h = (of_well j h).few
+
+pub stands_in : (j : List ℕ) (k : ℕ) → well_formed j ≡ true → place_of (slots_of j) (first_of j) k + 256 ≤ length j
+stands_in j k h =
+    let l = slot_small (slots_of j) (first_of j + k) (some_slots j (size_in j h)) in
+    omega (arith, its_size j (size_in j h))
+
+pub ruleset formed = (size_in, header_long, starts_in, keeps_few, stands_in, slots_small)
+
 -- the test of a journal: its length, then its header
 module _ (j : List ℕ) (wrong : Bool) (e : wrong ≡ wrong_length j) where
   pub of_wrong_length : wrong ≡ true → false ≡ well_formed j

@@ -1,11 +1,10 @@
 -- The record of an event, and what a step back makes of it. The ring knows no more of a record than these names and their law: a step
 -- back from the state after an event, by the event's record, is the state before it. States are bytes here, as the caller lends them.
-use Rattle.std.specs.Prelude.{ℕ, ◌+◌, Bool, ◌&&◌, List, [], ◌∷◌, ◌++◌, leb, get_or, take}
+use Rattle.std.specs.Prelude.{ℕ, ◌+◌, Bool, ◌&&◌, Option, None, Some, List, [], ◌∷◌, ◌++◌, leb, get_or, take}
 use Rattle.bits.specs.Table.{Row, row, look}
 use Rattle.parts.specs.Parts.{part, put}
+use Rattle.commands.specs.declared.command.Control.{Control}
 use Rattle.commands.specs.declared.command.Control.TheVariants.{B, C, D}
-use Rattle.channels.specs.declared.groups.Group.{Group}
-use Rattle.channels.specs.declared.groups.Group.TheVariants.{Nothing, Switched}
 use Rattle.channels.specs.Groups.{core_size, span_of}
 use Rattle.state.specs.Bytes.{link_bytes, is_state}
 use Rattle.chip.specs.Event.{Event}
@@ -18,28 +17,28 @@ abbrev pub core_bytes : ℕ
 core_bytes = link_bytes + core_size
 
 -- a group's bytes: so many, from a place on
-abbrev pub start_of : Group → ℕ
+abbrev pub start_of : Option Control → ℕ
 start_of g = link_bytes + (span_of g).first
 
-abbrev pub many_of : Group → ℕ
+abbrev pub many_of : Option Control → ℕ
 many_of g = (span_of g).many
 
 -- ---- the tags
 
-abbrev pub tag_of : Group → ℕ
-tag_of Nothing = 0
-tag_of (Switched B) = 1
-tag_of (Switched C) = 2
-tag_of (Switched D) = 3
+abbrev pub tag_of : Option Control → ℕ
+tag_of None = 0
+tag_of (Some B) = 1
+tag_of (Some C) = 2
+tag_of (Some D) = 3
 
 abbrev pub last_tag : ℕ
 last_tag = 3
 
-abbrev pub tagged : List (Row Group)
-tagged = row 1 (Switched B) ∷ row 2 (Switched C) ∷ row 3 (Switched D) ∷ []
+abbrev pub tagged : List (Row (Option Control))
+tagged = row 1 (Some B) ∷ row 2 (Some C) ∷ row 3 (Some D) ∷ []
 
-unfoldable pub group_in : ℕ → Group
-group_in tag = look tagged Nothing tag
+unfoldable pub group_in : ℕ → Option Control
+group_in tag = look tagged None tag
 
 -- ---- the record
 
@@ -48,7 +47,7 @@ unfoldable pub record_of : ℕ → ℕ → ℕ → List ℕ → List ℕ
 record_of tag first many s = tag ∷ (take core_bytes s ++ part first many s)
 
 -- what is kept of a state for a group: its tag, the core, the group's bytes
-abbrev pub kept_for : Group → List ℕ → List ℕ
+abbrev pub kept_for : Option Control → List ℕ → List ℕ
 kept_for g s = record_of (tag_of g) (start_of g) (many_of g) s
 
 -- what is kept of an event that happens to a state: for the one group that the event may change

@@ -7,12 +7,12 @@ mod records;
 ghost use Rattle.std.specs.Prelude.{◌≡◌, true, false, cond, ◌+◌, ◌-◌, ◌%◌, ◌<◌, ◌≤◌, length};
 ghost use Rattle.parts.specs.Parts.{put};
 ghost use Rattle.state.specs.Bytes.{state_size};
-ghost use Rattle.journal.specs.Layout.{header_bytes, format_of, slots_of, wrong_length, first_of, kept_of, well_formed, is_small, place_of, past};
+ghost use Rattle.journal.specs.Layout.{header_bytes, slots_of, wrong_length, first_of, kept_of, well_formed, is_small, place_of, past};
 ghost use Rattle.journal.specs.Layout.{headed, emptied, first_after, kept_up, pushed, lowered, oldest, enlarged};
-ghost use Rattle.journal.specs.Inner.{record_most};
-ghost use Rattle.journal.specs.Record.{core_bytes, record_of, kept_for, restored, sound};
+ghost use Rattle.journal.specs.Inner.{format_in};
+ghost use Rattle.journal.specs.Record.{kept_for, restored, sound};
 
-use channels::groups::Group;
+use commands::command::Control;
 
 // The bytes of a small journal and of a large one.
 pub const SMALL: usize = 17408;
@@ -52,48 +52,38 @@ const OF_LARGE: Format = Format {
     version: 2,
 };
 
-const NONE: Format = Format {
-    slots: 0,
-    version: 0,
-};
-
-// The format of as many bytes; one without slots where there is none.
-fn format_of(size: usize) -> Format
-    ensures { result ≡ format_of size }
+// The format of as many bytes.
+#[tactic(auto, unfolding(crate::specs::Layout::format_of))]
+fn format_of(size: usize) -> Option<Format>
+    ensures { result ≡ format_in size }
 {
-    if size == SMALL {
-        return OF_SMALL;
+    match size {
+        SMALL => Some(OF_SMALL),
+        LARGE => Some(OF_LARGE),
+        _ => None,
     }
-    if size == LARGE {
-        return OF_LARGE;
-    }
-    NONE
 }
 
 // No journal has this length.
+#[tactic(auto, unfolding(crate::specs::Layout::wrong_length))]
 pub fn is_wrong_length(j: &[u8]) -> bool
     ensures { result ≡ wrong_length j.now }
 {
-    let f = format_of(j.len());
-    f.slots == 0
+    format_of(j.len()).is_none()
 }
 
 // Length and header are those of a journal.
+#[tactic(auto, using(crate::proofs::Ring::long_enough), unfolding(crate::specs::Layout::well_formed, crate::specs::Layout::wrong_length))]
 pub fn is_well_formed(j: &[u8]) -> bool
     ensures { result ≡ well_formed j.now }
 {
-    if is_wrong_length(j) {
+    let Some(f) = format_of(j.len()) else {
         return false;
-    }
-    let f = format_of(j.len());
-    let m0 = j[0] == MARK0;
-    let m1 = j[1] == MARK1;
-    let m2 = j[2] == MARK2;
-    let v0 = j[3] == (f.version % 256) as u8;
-    let v1 = j[4] == (f.version / 256) as u8;
-    let first = j[FIRST] < f.slots;
-    let kept = j[KEPT] <= f.slots;
-    m0 & m1 & m2 & v0 & v1 & first & kept
+    };
+    let [v0, v1] = f.version.to_le_bytes();
+    let mark = (j[0] == MARK0) & (j[1] == MARK1) & (j[2] == MARK2);
+    let version = (j[3] == v0) & (j[4] == v1);
+    mark & version & (j[FIRST] < f.slots) & (j[KEPT] <= f.slots)
 }
 
 // A journal of the small size, well formed.
@@ -108,18 +98,19 @@ pub fn is_small(j: &[u8]) -> bool
 }
 
 // Writes the header of a ring that starts at its first slot.
+#[tactic(auto, using(crate::proofs::Ring::long_enough), unfolding(crate::specs::Layout::wrong_length))]
 fn head(j: &mut [u8], kept: u8)
     requires { wrong_length j.old ≡ false }
     ensures { j.new ≡ headed kept j.old }
 {
-    let f = format_of(j.len());
-    let v0 = (f.version % 256) as u8;
-    let v1 = (f.version / 256) as u8;
+    let f = format_of(j.len()).unwrap();
+    let [v0, v1] = f.version.to_le_bytes();
     let header = [MARK0, MARK1, MARK2, v0, v1, 0, kept];
     parts::store(j, 0, &header);
 }
 
 // Makes a journal empty, whatever it held.
+#[tactic(auto, unfolding(crate::specs::Layout::emptied))]
 pub fn empty(j: &mut [u8])
     requires { wrong_length j.old ≡ false }
     ensures { j.new ≡ emptied j.old }
@@ -127,86 +118,95 @@ pub fn empty(j: &mut [u8])
     head(j, 0);
 }
 
-// The slot that is k after the first, round the ring.
-fn slot_after(slots: u8, first: u8, k: u8) -> u8
-    requires first_lt_slots { first < slots }
-    requires k_le_slots { k ≤ slots }
-    ensures { result ≡ (first + k) % slots }
-{
-    let ahead = slots - first;
-    if k < ahead { first + k } else { k - ahead }
+// The ring of a well-formed journal: its slots, the slot of the oldest record, and how many are kept.
+#[derive(Clone, Copy)]
+struct Header {
+    slots: u8,
+    first: u8,
+    kept: u8,
+    ghost in_range: { (first < slots) × (kept ≤ slots) },
 }
 
-// Where the slot stands that is k slots after the first.
-fn place(slots: u8, first: u8, k: u8) -> usize
-    requires first_lt_slots { first < slots }
-    requires k_le_slots { k ≤ slots }
-    ensures { result ≡ place_of slots first k }
-{
-    HEADER_BYTES + SLOT_BYTES * (slot_after(slots, first, k) as usize)
-}
+impl Header {
+    // The slot that is k after the first, round the ring.
+    #[tactic(auto, using(crate::proofs::Ring::not_round, crate::proofs::Ring::once_round))]
+    fn slot(self, k: u8) -> u8
+        requires { k ≤ self.slots }
+        ensures { result ≡ (self.first + k) % self.slots }
+    {
+        let ahead = self.slots - self.first;
+        if k < ahead { self.first + k } else { k - ahead }
+    }
 
-fn first_after(slots: u8, first: u8, kept: u8) -> u8
-    requires { first < slots }
-    ensures { result ≡ first_after slots first kept }
-{
-    if kept == slots {
-        slot_after(slots, first, 1)
-    } else {
-        first
+    // Where it stands.
+    fn place(self, k: u8) -> usize
+        requires { k ≤ self.slots }
+        ensures { result ≡ place_of self.slots self.first k }
+    {
+        HEADER_BYTES + SLOT_BYTES * usize::from(self.slot(k))
+    }
+
+    // The first slot and the kept number with a record more, which in a full ring goes over the oldest.
+    fn first_after(self) -> u8
+        ensures { result ≡ first_after self.slots self.first self.kept }
+    {
+        if self.kept == self.slots {
+            self.slot(1)
+        } else {
+            self.first
+        }
+    }
+
+    fn kept_after(self) -> u8
+        ensures { result ≡ kept_up self.slots self.kept }
+    {
+        if self.kept == self.slots { self.slots } else { self.kept + 1 }
     }
 }
 
-fn kept_after(slots: u8, kept: u8) -> u8
-    requires { kept ≤ slots }
-    ensures { result ≡ kept_up slots kept }
+// The ring as the header has it.
+#[tactic(auto, using(crate::proofs::Ring::formed), unfolding(crate::specs::Layout::wrong_length))]
+fn header_of(j: &[u8]) -> Header
+    requires { well_formed j.now ≡ true }
+    ensures { (result.slots ≡ slots_of j.now) × (result.first ≡ first_of j.now) × (result.kept ≡ kept_of j.now) }
 {
-    if kept == slots { slots } else { kept + 1 }
+    let f = format_of(j.len()).unwrap();
+    Header {
+        slots: f.slots,
+        first: j[FIRST],
+        kept: j[KEPT],
+    }
 }
 
-// Keeps a state's core, and so many of its bytes from a place on: the record is made in its slot.
-fn keep_part(j: &mut [u8], s: &[u8], tag: u8, from: usize, many: usize)
-    requires j_value { well_formed j.old ≡ true }
-    requires s_len { length s.now ≡ state_size }
-    requires many_bound { (from + many ≤ state_size) × (1 + core_bytes + many ≤ record_most) }
-    ensures { j.new ≡ pushed (record_of tag from many s.now) j.old }
-{
-    let f = format_of(j.len());
-    let first = j[FIRST];
-    let kept = j[KEPT];
-    let at = place(f.slots, first, kept);
-    let end = at + records::MOST;
-    let next = first_after(f.slots, first, kept);
-    let k = kept_after(f.slots, kept);
-    records::make(s, tag, from, many, &mut j[at..end]);
-    j[FIRST] = next;
-    j[KEPT] = k;
-}
-
-// Keeps of a state what an event of this group may change.
-pub fn keep(j: &mut [u8], s: &[u8], group: Group)
+// Keeps of a state what an event of this group may change: the record is made in the slot after the newest.
+#[tactic(auto, using(crate::proofs::Ring::formed))]
+pub fn keep(j: &mut [u8], s: &[u8], group: Option<Control>)
     requires j_value { well_formed j.old ≡ true }
     requires s_len { length s.now ≡ state_size }
     ensures { j.new ≡ pushed (kept_for group s.now) j.old }
 {
+    let header = header_of(j);
+    let at = header.place(header.kept);
     let tag = records::tag_of(group);
-    let place = records::place_of(tag);
-    keep_part(j, s, tag, place.first, place.many);
+    let span = records::span_of(tag);
+    records::make(s, tag, span, &mut j[at..at + records::MOST]);
+    j[FIRST] = header.first_after();
+    j[KEPT] = header.kept_after();
 }
 
 // Where the newest record stands.
+#[tactic(auto, using(crate::proofs::Ring::formed))]
 fn newest(j: &[u8]) -> usize
     requires j_value { well_formed j.now ≡ true }
     requires j_nonzero { 0 < kept_of j.now }
     ensures { result ≡ place_of (slots_of j.now) (first_of j.now) (kept_of j.now - 1) }
 {
-    let f = format_of(j.len());
-    let first = j[FIRST];
-    let kept = j[KEPT];
-    place(f.slots, first, kept - 1)
+    let header = header_of(j);
+    header.place(header.kept - 1)
 }
 
 // Puts the newest record over the bytes of a state, unless it is damaged. Tells whether it is sound. The journal stays as it is.
+#[tactic(auto, using(crate::proofs::Ring::formed))]
 pub fn restore(j: &mut [u8], s: &mut [u8]) -> bool
     requires j_value { well_formed j.old ≡ true }
     requires j_nonzero { 0 < kept_of j.old }
@@ -214,41 +214,37 @@ pub fn restore(j: &mut [u8], s: &mut [u8]) -> bool
     ensures { (result ≡ sound s.old (past j.old 0)) × (s.new ≡ cond result (restored s.old (past j.old 0)) s.old) × (j.new ≡ j.old) }
 {
     let at = newest(j);
-    let end = at + SLOT_BYTES;
-    records::restore(&mut j[at..end], s)
+    records::restore(&mut j[at..at + SLOT_BYTES], s)
 }
 
 // Gives the newest record up.
+#[tactic(auto, using(crate::proofs::Ring::formed), unfolding(crate::specs::Layout::lowered))]
 pub fn lower(j: &mut [u8])
     requires j_value { well_formed j.old ≡ true }
     requires j_nonzero { 0 < kept_of j.old }
     ensures { j.new ≡ lowered j.old }
 {
-    let kept = j[KEPT];
-    j[KEPT] = kept - 1;
+    j[KEPT] -= 1;
 }
 
 // Copies the kept records into a second buffer's slots, the oldest into the first.
+#[tactic(auto, using(crate::proofs::Ring::formed))]
 fn copy_kept(j: &[u8], second: &mut [u8])
     requires j_value { well_formed j.now ≡ true }
     requires second_value { wrong_length second.old ≡ false }
     requires j_bound { kept_of j.now ≤ slots_of second.old }
     ensures { second.new ≡ put header_bytes (oldest (kept_of j.now) j.now) second.old }
 {
-    let f = format_of(j.len());
-    let first = j[FIRST];
-    let kept = j[KEPT];
-    let mut k: u8 = 0;
-    while k < kept {
-        let from = place(f.slots, first, k);
-        let end = from + SLOT_BYTES;
-        let to = HEADER_BYTES + SLOT_BYTES * (k as usize);
-        parts::store(second, to, &j[from..end]);
-        k += 1;
+    let header = header_of(j);
+    for k in 0..header.kept {
+        let from = header.place(k);
+        let to = HEADER_BYTES + SLOT_BYTES * usize::from(k);
+        parts::store(second, to, &j[from..from + SLOT_BYTES]);
     }
 }
 
 // Makes a second buffer a journal of its own size with the same records kept.
+#[tactic(auto, using(crate::proofs::Ring::formed))]
 pub fn enlarge(j: &[u8], second: &mut [u8])
     requires j_value { well_formed j.now ≡ true }
     requires second_value { wrong_length second.old ≡ false }
