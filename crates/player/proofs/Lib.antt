@@ -1,4 +1,3 @@
-pub mod Hearing
 pub mod Feeding
 pub mod Whole
 pub mod OneOutcome

@@ -1,11 +1,12 @@
 -- Any two outcomes that a function's contract allows coincide: the result and every lent byte, for every public function.
 use mathlib.Core.Path.{sym, ◌∙◌}
+use Rattle.adapter.specs.Answers.{answer_of}
 use Rattle.adapter.specs.Calls.{outcome}
 use Rattle.parts.proofs.Outcome.{One}
 use Rattle.player.specs.Parts.{left, fed}
 use Rattle.player.proofs as this
 
-pub hear_one : One 4 this.calls.hear.Kinds.ps this.calls.hear.Kinds.r this.calls.hear.Reads.Post (λ κs x s. outcome x s.0.now s.1.0.now s.1.1.1.0.now)
+pub hear_one : One 4 this.calls.hear.Kinds.ps this.calls.hear.Kinds.r this.calls.hear.Reads.Post (λ κs x s. outcome (answer_of x) s.0.now s.1.0.now s.1.1.1.0.now)
 hear_one κs a x y s t p q = p ∙ sym q
 
 pub play_line_one : One 4 this.play_line.Kinds.ps this.play_line.Kinds.r this.play_line.Reads.Post (λ κs x s. left x s.0.now s.1.0.now s.1.1.1.0.now)

@@ -9,11 +9,10 @@ use lib.ListN.{length, take, set, replicate, length-append, length-set, length-t
 use lib.Seq.{take_all, take-suc-set, take-append-le, length-take-le}
 use lib.Dec.{eqb, ltb}
 use borrow.Author.Tests.{eqb-true, eqb-false, eq-eqb, ne_eqb, ltb-true, ltb-false}
-use Rattle.listing.specs.declared.Form.{Form}
-use Rattle.listing.specs.Line.{said_by, read, unreadable}
+use Rattle.listing.specs.Line.{read, unreadable}
 use Rattle.player.specs.Play.{Turn, turn, lines_from, last_line, answers, new_state, empty_journal, played}
 use Rattle.player.specs.Parts.{Held, held, added, Player, sofar, ends, joins, takes, closes, begins, handed_over, played_in}
-use Rattle.listing.proofs.Reading.{frame_long, completion_other, sample_other, i2c_long, letter_other, form_none}
+use Rattle.listing.proofs.Reading.{long_unreadable}
 use Rattle.player.proofs.Feeding.{after, ends_after, takes_after, whole_again, takes_end, takes_char}
 
 -- ---- blocks one after the other
@@ -50,11 +49,7 @@ in_one (b ∷ bs) p =
 
 over_long : (l : List ℕ) → 80 < length l → read l ≡ unreadable
 unfolding read
-over_long l h =
-    ap (λ (f : Form). said_by f l)
-    (sym
-    (form_none l false (frame_long l (omega arith) h) false (completion_other l (λ e. omega arith)) refl false (sample_other l (λ e. omega arith)) refl false
-    (i2c_long l h) refl false (letter_other l 85 (λ e. omega arith)) refl false (letter_other l 66 (λ e. omega arith)) refl refl))
+over_long l h = rw (long_unreadable l h) refl
 
 same_read : (l : List ℕ) → read (take 81 l) ≡ read l
 same_read l = either (ltb 80 (length l)) refl

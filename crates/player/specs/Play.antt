@@ -3,7 +3,8 @@ use Rattle.std.specs.Prelude.{ℕ, cond, List, [], ◌∷◌, ◌++◌, take, re
 use Rattle.numbers.specs.Numbers as numbers
 use Rattle.state.specs.Bytes.{state_size}
 use Rattle.journal.specs.Layout.{size_of, large}
-use Rattle.adapter.specs.Calls.{Outcome, outcome, plain, called, stepped_back, kept_in, created, made_empty}
+use Rattle.adapter.specs.Answers.{plain}
+use Rattle.adapter.specs.Calls.{Outcome, outcome, called, stepped_back, kept_in, created, made_empty}
 use Rattle.listing.specs.Characters.{line_feed}
 use Rattle.listing.specs.Line.{Line, happens, back, unreadable, read}
 use Rattle.listing.specs.Answer.{answer_text}

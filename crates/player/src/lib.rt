@@ -12,6 +12,7 @@ ghost use Rattle.player.specs.Parts.{left, leaves, held, added, player, takes, c
 
 use listing::answer;
 use listing::characters::LINE_FEED;
+use numbers::HAS_FRAME;
 
 pub const CHIP_ID: u32 = 0x00000A;
 
@@ -28,48 +29,34 @@ pub struct Fed {
     pub next: usize,
 }
 
-// An output line whose body is the first bytes of a reply.
-fn put_reply(
-    out: &mut [u8],
-    at: usize,
-    number: u8,
-    kept: u8,
-    port: u8,
-    count: u8,
-    reply: &[u8],
-) -> usize
-    requires at_in_bounds { at + 48 ≤ length out.old }
-    requires reply_len { length reply.now ≡ 16 }
-    ensures out_after { wrote result out.new ≡ written at (answer_text number kept port (take count reply.now)) out.old }
-    ensures upper_bound { result ≤ at + 48 }
-{
-    let n = count as usize;
-    if n < 16 {
-        return answer::put_answer(out, at, number, kept, port, &reply[..n]);
-    }
-    answer::put_answer(out, at, number, kept, port, reply)
-}
-
 // Plays a line: writes its output line from a place on, and gives the place after it.
+#[tactic(auto, unfolding(crate::specs::Play::turn))]
 pub fn play_line(state: &mut [u8], journal: &mut [u8], l: &[u8], out: &mut [u8], at: usize) -> usize
     requires { at + 48 ≤ length out.old }
     ensures out_after { left result state.new journal.new out.new ≡ leaves at out.old (turn state.old journal.old l.now) }
     ensures upper_bound { result ≤ at + 48 }
 {
     let mut reply = [0u8; 16];
-    let r = calls::hear(state, journal, l, &mut reply);
-    let k = adapter::kept(journal);
-    put_reply(out, at, r.number, k.kept, r.port, r.length, &reply)
+    let heard = calls::hear(state, journal, l, &mut reply);
+    let kept = adapter::kept(journal).unwrap_or(0);
+    match heard {
+        Ok(frame) => {
+            let body = &reply[..reply.len().min(usize::from(frame.length))];
+            answer::put_answer(out, at, HAS_FRAME, kept, frame.port, body)
+        }
+        Err(none) => answer::put_answer(out, at, u8::from(none), kept, 0, &[]),
+    }
 }
 
 // A listing's chip as it starts, in a state's bytes.
 pub fn start(state: &mut [u8])
     ensures { state.new ≡ (created state.old chip_id).bytes }
 {
-    adapter::create(state, CHIP_ID);
+    let _ = adapter::create(state, CHIP_ID);
 }
 
 // One character more of a line; those past the room for a line are not kept.
+#[tactic(auto, unfolding(crate::specs::Parts::added))]
 fn add(line: &mut [u8], count: usize, b: u8) -> usize
     requires { length line.old ≡ 81 }
     ensures { held result line.new ≡ added count b line.old }
@@ -82,6 +69,7 @@ fn add(line: &mut [u8], count: usize, b: u8) -> usize
 }
 
 // Takes a byte of the input: LF plays the line so far, and any other character joins it.
+#[tactic(auto, unfolding(crate::specs::Parts::takes, crate::specs::Parts::ends, crate::specs::Parts::joins), using(crate::proofs::Feeding::written_none, crate::proofs::Feeding::added_count))]
 fn take_byte(
     state: &mut [u8],
     count: usize,
@@ -99,19 +87,16 @@ fn take_byte(
 {
     if b == LINE_FEED {
         let next = play_line(state, journal, &line[..count], out, at);
-        return Fed {
-            count: 0,
-            next: next,
-        };
+        return Fed { count: 0, next };
     }
-    let more = add(line, count, b);
     Fed {
-        count: more,
+        count: add(line, count, b),
         next: at,
     }
 }
 
 // Plays a block of the input: the lines that end in it. The line so far stands in the lent line.
+#[tactic(auto, using(crate::proofs::Feeding::written_none, crate::proofs::Feeding::byte_fed, crate::proofs::Feeding::all_fed))]
 pub fn feed(
     state: &mut [u8],
     held: usize,
@@ -130,15 +115,14 @@ pub fn feed(
         count: held,
         next: 0,
     };
-    let mut i = 0;
-    while i < block.len() {
-        f = take_byte(state, f.count, journal, line, block[i], out, f.next);
-        i += 1;
+    for b in block {
+        f = take_byte(state, f.count, journal, line, *b, out, f.next);
     }
     f
 }
 
 // Plays a last line that no LF ended, if there is one, as an LF would end it.
+#[tactic(auto, unfolding(crate::specs::Parts::closes), using(crate::proofs::Feeding::written_none, crate::proofs::Feeding::ends_line))]
 pub fn finish(
     state: &mut [u8],
     count: usize,
