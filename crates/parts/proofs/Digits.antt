@@ -92,20 +92,6 @@ zeros_snoc (x ∷ s) b = ap (λ (t : Bool). eqb x 0 && t) (zeros_snoc s b) ∙ a
 
 -- ---- what `number_at` and `store_number` do, by their widths
 
-pub room : (w : Width) (at n : ℕ) → at + bytes_in w ≤ n → at < n
-room Byte at n h = omega arith
-room Half at n h = omega arith
-room Word at n h = omega arith
-
-pub room_half : (w : Width) (at n : ℕ) → at + bytes_in w ≤ n → w ≡ Half → at + 1 < n
-room_half w at n h e = omega (arith, rw e at h)
-
-pub room_four : (w : Width) (at n : ℕ) → at + bytes_in w ≤ n → w ≡ Word → at + 4 ≤ n
-room_four w at n h e = rw e at h
-
-pub room_word : (w : Width) (at n k : ℕ) → at + bytes_in w ≤ n → w ≡ Word → k < 4 → at + k < n
-room_word w at n k h e l = omega (arith, rw e at h)
-
 -- the number at the front of some bytes; what is not there counts as 0
 front_byte : (d : List ℕ) → word (get_or d 0 0) 0 0 0 ≡ number (take 1 d)
 unfolding number
@@ -156,10 +142,14 @@ set_next s d p q x e h =
 pub set_two : (s : List ℕ) (p a b : ℕ) → p + 2 ≤ length s → set (set s p a) (p + 1) b ≡ put p (a ∷ b ∷ []) s
 set_two s p a b h = rw (set_put s p a (omega arith)) (set_next s (a ∷ []) p (p + 1) b refl h)
 
-pub set_four : (s : List ℕ) (p a b c d : ℕ) → p + 4 ≤ length s
-    → set (set (set (set s p a) (p + 1) b) (p + 2) c) (p + 3) d ≡ put p (a ∷ b ∷ c ∷ d ∷ []) s
-set_four s p a b c d h =
-    rw (set_two s p a b (omega arith), set_next s (a ∷ b ∷ []) p (p + 2) c refl (omega arith)) (set_next s (a ∷ b ∷ c ∷ []) p (p + 3) d refl h)
+-- the low bytes, as they are written
+pub digits_byte : (x : ℕ) → digits 1 x ≡ x % 256 ∷ []
+unfolding digits
+digits_byte x = refl
+
+pub digits_half : (x : ℕ) → digits 2 x ≡ x % 256 ∷ x / 256 % 256 ∷ []
+unfolding digits
+digits_half x = refl
 
 thirds : (x : ℕ) → x / 256 / 256 ≡ x / 65536
 thirds x = div-div-eq-div-mul x 256 256
@@ -167,18 +157,8 @@ thirds x = div-div-eq-div-mul x 256 256
 fourths : (x : ℕ) → x / 65536 / 256 ≡ x / 16777216
 fourths x = div-div-eq-div-mul x 65536 256
 
-module _ (s : List ℕ) (at x : ℕ) (w : Width) (h : at + bytes_in w ≤ length s) where
-  pub stores_byte : w ≡ Byte → set s at (x % 256) ≡ put at (digits (bytes_in w) x) s
-  unfolding digits
-  stores_byte e = rw e (set_put s at (x % 256) (room w at _ h))
+pub digits_word : (x : ℕ) → digits 4 x ≡ x % 256 ∷ x / 256 % 256 ∷ x / 65536 % 256 ∷ x / 16777216 % 256 ∷ []
+unfolding digits
+digits_word x = rw (thirds x, fourths x) refl
 
-  pub stores_half : w ≡ Half → set (set s at (x % 256)) (at + 1) (x / 256 % 256) ≡ put at (digits (bytes_in w) x) s
-  unfolding digits
-  stores_half e =
-      let l = rw e at h in
-      rw e (set_two s at (x % 256) (x / 256 % 256) l)
-
-  pub stores_word : (t : List ℕ) → w ≡ Word → t ≡ put at (x % 256 ∷ x / 256 % 256 ∷ x / 65536 % 256 ∷ x / 16777216 % 256 ∷ []) s
-      → t ≡ put at (digits (bytes_in w) x) s
-  unfolding digits
-  stores_word t e f = rw (f, e, thirds x, fourths x) refl
+pub ruleset digits_of = (digits_byte, digits_half, digits_word)

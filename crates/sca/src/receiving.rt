@@ -8,7 +8,9 @@ const HEAD: usize = 4;
 
 const CONTENT: usize = 20;
 
-pub const BYTES: usize = HEAD + CONTENT;
+const BYTES: usize = HEAD + CONTENT;
+
+// Kept: two functions and no From, since neither type is of this crate.
 
 // The receiver that bytes spell.
 #[tactic(auto, unfolding(parts::specs::Parts::part))]

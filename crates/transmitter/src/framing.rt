@@ -68,6 +68,7 @@ impl<'a> Pen<'a> {
         }
     }
 
+    #[tactic(auto, using(crate::proofs::Written::ones_fit))]
     // Ones to fill the last byte: how many bytes are written.
     fn fill(&mut self) -> usize
         requires { self.old.bits ≤ 192 }

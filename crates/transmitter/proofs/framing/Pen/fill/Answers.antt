@@ -5,9 +5,6 @@ use Rattle.transmitter.proofs.Pens.{fills_none, fills_some}
 use Rattle.transmitter.proofs.framing.Pen.fill.Goals as goal
 use Rattle.transmitter.proofs.framing.Pen.fill.Goals.{then-count-gt0, else-count-gt0}
 
-pub put-requires : goal.put-requires
-put-requires c = (omega arith, omega arith, omega arith, ones_fit _ (omega arith))
-
 pub returns : goal.returns
 returns c =
     elim c.if-count-gt0.branch [
