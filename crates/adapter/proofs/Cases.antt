@@ -6,7 +6,7 @@ use mathlib.Core.List.{List, ◌++◌, append-nil}
 use native.Mathlib.Omega.{arith}
 use lib.ListN.{length, take, drop, length-drop, drop_of_length-le}
 use lib.Seq.{drop_at, length-take-le}
-use lib.Dec.{eqb, leb, ltb, lit<}
+use lib.Dec.{leb, ltb, lit<}
 use borrow.Author.Tests.{eq-eqb, ne_eqb, le-ltb, ltb-false, leb-true, eqb-true, not-false}
 use borrow.Rule.Slice.PartMut.{put_mid}
 use Rattle.std.specs.Prelude.{Result, Ok, Err, IsErrAnd}
@@ -23,7 +23,7 @@ use Rattle.state.specs.Bytes.{link_bytes, state_size, link_image, link_of, state
 use Rattle.state.proofs.Spelling.{its_length}
 use Rattle.chip.specs.declared.Frame.{Frame}
 use Rattle.chip.specs.declared.Response.{Response}
-use Rattle.chip.specs.Event.{Completion, spi, i2c, Event, frame, completion, sample, upset}
+use Rattle.chip.specs.Event.{spi, i2c, Event, frame, completion, sample, upset}
 use Rattle.chip.specs.Inner.{answered, Said, said, says}
 use Rattle.chip.specs.Chip.{reaction}
 use Rattle.journal.specs.Layout.{kept_of, well_formed, past, lowered}
@@ -179,15 +179,7 @@ pub ruleset passed = (passed_lent, passed_room, passed_fits)
 -- ---- a step back
 
 module _ (s j : List ℕ) where
-  pub back_state : is_state s ≡ false → stepped 6 s j ≡ stepped_back s j
-  unfolding stepped_back back_verdict
-  back_state h = simp h
-
   module _ (h : is_state s ≡ true) where
-    pub back_journal : well_formed j ≡ false → stepped 4 s j ≡ stepped_back s j
-    unfolding stepped_back back_verdict
-    back_journal g = simp (h, g)
-
     module _ (w : well_formed j ≡ true) where
       pub back_none : kept_of j ≡ 0 → stepped 5 s j ≡ stepped_back s j
       unfolding stepped_back back_verdict

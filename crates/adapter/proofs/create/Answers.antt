@@ -1,5 +1,4 @@
 -- `create` meets its contract. Assumes nothing.
-use mathlib.Core.Path.{ap}
 use Rattle.adapter.proofs.Cases.{created_in}
 use Rattle.adapter.proofs.create.Goals as goal
 
