@@ -17,6 +17,8 @@ use commands::channel::Channel;
 use commands::request::{Reply, Request, refusal};
 pub use rows::{is_busy, is_enabled, master_group};
 
+// Kept: registers come as a slice, with a clause for its length: docs/PROMISES.md names these functions, so that no type may ask more of callers.
+
 // Errors are decided first; what is performed after that cannot fail. Its reply is made before anything is stored; a start's comes later.
 #[tactic(auto, unfolding(crate::specs::Perform::replied, crate::specs::Perform::performed))]
 pub fn answer(registers: &mut [u8], q: Request) -> Option<Reply>

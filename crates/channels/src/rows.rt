@@ -2,7 +2,8 @@
 // follows from it: what a disabled channel holds.
 ghost use Rattle.std.specs.Prelude.{◌≡◌, length};
 ghost use Rattle.registers.specs.Registers.{size, written};
-ghost use Rattle.channels.specs.Rows.{by_bit, row, row_of, master_control, master_bit, master_group, master_row, dropping, register_of, is_enabled, is_busy, held, held_all, settled, still_held};
+ghost use Rattle.channels.specs.Rows.{by_bit, row, row_of, master_control, master_bit, master_group, master_row, dropping, register_of};
+ghost use Rattle.channels.specs.Rows.{is_enabled, is_busy, held, settled, still_held};
 
 use commands::channel::Channel;
 use commands::command::{Control, Register};

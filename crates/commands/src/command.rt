@@ -77,6 +77,7 @@ pub enum Transaction {
 }
 
 // LEN as a command asks it and as its reply gives it.
+// Kept: each channel's table names its own, as document 01 does; names such as READ_2_4 for all of them would be no plainer.
 #[derive(Clone, Copy)]
 pub struct Lengths {
     pub asked: u8,
