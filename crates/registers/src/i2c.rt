@@ -70,25 +70,27 @@ fn byte_after(received: &[u8], count: u32, k: u32, was: u8) -> u8
 }
 
 // One word of DATA, from its byte k on, the first byte on top. Where all its four bytes came, they are the word.
-#[tactic(auto, using(crate::proofs::Transaction::whole_word, crate::proofs::Transaction::four_bytes))]
+#[tactic(auto, unfolding(crate::specs::Transaction::word_after))]
 fn word_after(received: &[u8], count: u32, k: u32, was: u32) -> u32
     requires { k < 16 }
     ensures { result ≡ word_after received.now count k was }
 {
     let at = k as usize;
     if k + 4 <= count && at + 4 <= received.len() {
-        return parts::word_of(
-            received[at + 3],
-            received[at + 2],
-            received[at + 1],
+        return u32::from_be_bytes([
             received[at],
-        );
+            received[at + 1],
+            received[at + 2],
+            received[at + 3],
+        ]);
     }
-    let b3 = byte_after(received, count, k, ((was / 0x1000000) % 256) as u8);
-    let b2 = byte_after(received, count, k + 1, ((was / 0x10000) % 256) as u8);
-    let b1 = byte_after(received, count, k + 2, ((was / 0x100) % 256) as u8);
-    let b0 = byte_after(received, count, k + 3, (was % 256) as u8);
-    parts::word_of(b0, b1, b2, b3)
+    let [b3, b2, b1, b0] = was.to_be_bytes();
+    u32::from_be_bytes([
+        byte_after(received, count, k, b3),
+        byte_after(received, count, k + 1, b2),
+        byte_after(received, count, k + 2, b1),
+        byte_after(received, count, k + 3, b0),
+    ])
 }
 
 // One word of DATA, whose first byte is byte k, after a read of so many.
@@ -131,7 +133,7 @@ fn end_data(status: u8, received: &[u8], brought: bool) -> u32
     ensures { result ≡ status * 2 ^ 24 + cond brought (get_or received.now 0 0) 0 * 2 ^ 16 }
 {
     let byte = if brought { byte_at(received, 0) } else { 0 };
-    parts::word_of(0, 0, byte, status)
+    u32::from_be_bytes([status, byte, 0, 0])
 }
 
 // The end of a transaction: the start is closed, STATUS is new, and on SUCC a multi-byte read fills DATA. Tells D of the reply.

@@ -28,7 +28,7 @@ fn filled(length: u8, from: u8) -> u32
     if count < 32 {
         (1 << count) - 1
     } else {
-        0xffffffff
+        u32::MAX
     }
 }
 
