@@ -173,15 +173,7 @@ pub ruleset passed = (passed_lent, passed_room, passed_fits)
 -- ---- a step back
 
 module _ (s j : List ℕ) where
-  pub back_state : is_state s ≡ false → stepped 6 s j ≡ stepped_back s j
-  unfolding stepped_back back_verdict
-  back_state h = simp h
-
   module _ (h : is_state s ≡ true) where
-    pub back_journal : well_formed j ≡ false → stepped 4 s j ≡ stepped_back s j
-    unfolding stepped_back back_verdict
-    back_journal g = simp (h, g)
-
     module _ (w : well_formed j ≡ true) where
       pub back_none : kept_of j ≡ 0 → stepped 5 s j ≡ stepped_back s j
       unfolding stepped_back back_verdict
