@@ -1,21 +1,19 @@
 -- What each call gives and leaves, case by case. Assumes nothing.
-use Prim.Native.Nat.{ℕ, ◌-◌, ◌≤◌, ◌<◌}
-use mathlib.Core.Path.{◌≡◌, refl, sym, ap, ◌∙◌}
+use Prim.Native.Nat.{ℕ, ◌+◌, ◌-◌, ◌≤◌, ◌<◌}
+use mathlib.Core.Path.{◌≡◌, refl, sym, ap, ap₂, ◌∙◌}
 use mathlib.Core.Bool.{Bool, true, false, not, cond, ◌&&◌, ◌||◌, true≢false}
-use mathlib.Core.List.{List, ◌++◌, append-nil}
+use mathlib.Core.List.{List, ◌++◌}
 use native.Mathlib.Omega.{arith}
 use lib.ListN.{length, take, drop, length-drop, drop_of_length-le}
-use lib.Seq.{drop_at, length-take-le}
-use lib.Dec.{eqb, leb, ltb, lit<}
+use lib.Seq.{take_all}
+use lib.Dec.{leb, ltb, lit<}
 use borrow.Author.Tests.{eq-eqb, ne_eqb, le-ltb, ltb-false, leb-true, eqb-true, not-false}
-use borrow.Rule.Slice.PartMut.{put_mid}
 use Rattle.std.specs.Prelude.{Result, Ok, Err, IsErrAnd}
 use Rattle.numbers.specs.Numbers.{no_frame, id_most}
 use Rattle.numbers.specs.declared.Silence.{Silence}
 use Rattle.bits.proofs.Tests.{and_left, and_right}
 use Rattle.parts.specs.Parts.{part, put}
 use Rattle.registers.specs.Registers.{size}
-use Rattle.channels.proofs.Laws.{power_on_sound}
 use Rattle.link.specs.Link.{fresh_link}
 use Rattle.link.specs.declared.Link.{Link}
 use Rattle.state.specs.State.{adapter, blank, powered_on}
@@ -23,7 +21,7 @@ use Rattle.state.specs.Bytes.{link_bytes, state_size, link_image, link_of, state
 use Rattle.state.proofs.Spelling.{its_length}
 use Rattle.chip.specs.declared.Frame.{Frame}
 use Rattle.chip.specs.declared.Response.{Response}
-use Rattle.chip.specs.Event.{Completion, spi, i2c, Event, frame, completion, sample, upset}
+use Rattle.chip.specs.Event.{spi, i2c, Event, frame, completion, sample, upset}
 use Rattle.chip.specs.Inner.{answered, Said, said, says}
 use Rattle.chip.specs.Chip.{reaction}
 use Rattle.journal.specs.Layout.{kept_of, well_formed, past, lowered}
@@ -38,27 +36,20 @@ use Rattle.adapter.specs.Calls.{made, created, outcome, shown, recorded, done, S
 
 -- ---- a state's bytes, part by part
 
--- the registers that were lent, and then the link, are all of them
-anew : (s : List ℕ) → length s ≡ state_size → (rs : List ℕ) → length rs ≡ size → (s₁ s₂ : List ℕ) (l : Link)
-    → s₁ ≡ put_mid link_bytes (state_size - link_bytes) s rs → s₂ ≡ put 0 (link_image l) s₁ → s₂ ≡ state_bytes (adapter l rs)
+-- the link over the bytes that stand before the registers, and the registers
+anew : (s f g rs : List ℕ) (l : Link) → length s ≡ state_size → length f + size ≡ length s → g ≡ put 0 (link_image l) f → g ++ rs ≡ state_bytes (adapter l rs)
 unfolding state_bytes put
-anew s n rs m s₁ s₂ l e f =
-    let k : length (take link_bytes s) ≡ link_bytes = length-take-le link_bytes s (omega arith) in
-    let z : length (drop link_bytes s) ≤ state_size - link_bytes = rw (length-drop link_bytes s) (omega arith) in
-    rw (f, e)
-    (ap (λ (t : List ℕ). link_image l ++ t)
-    (drop_at (take link_bytes s) (rs ++ drop (state_size - link_bytes) (drop link_bytes s)) link_bytes k
-    ∙ ap (λ (t : List ℕ). rs ++ t) (drop_of_length-le (drop link_bytes s) z) ∙ append-nil rs))
+anew s f g rs l n m e =
+    let z : length f ≤ link_bytes = omega arith in
+    rw e (ap (λ (t : List ℕ). (link_image l ++ t) ++ rs) (drop_of_length-le f z))
 
 -- ---- creation
 
 module _ (s : List ℕ) (id : ℕ) where
-  pub created_in : length s ≡ state_size → id ≤ id_most → (rs s₁ s₂ : List ℕ) (l : Link) → rs ≡ blank id → s₁ ≡ put_mid link_bytes (state_size - link_bytes) s rs
-      → l ≡ fresh_link 0 → s₂ ≡ put 0 (link_image l) s₁ → made no_frame s₂ ≡ created s id
+  pub created_in : length s ≡ state_size → id ≤ id_most → (f : List ℕ) → length f + size ≡ length s → (g rs : List ℕ) (l : Link) → rs ≡ blank id
+      → l ≡ fresh_link 0 → g ≡ put 0 (link_image l) f → made no_frame (g ++ rs) ≡ created s id
   unfolding created powered_on
-  created_in n h rs s₁ s₂ l e f g i =
-      let spelled : s₂ ≡ state_bytes (adapter l rs) = anew s n rs (ap length e ∙ (power_on_sound id).fits.long) s₁ s₂ l f i in
-      simp (eq-eqb (length s) state_size n, le-ltb id_most id h, spelled, g, e)
+  created_in n h f m g rs l e d i = rw (anew s f g rs l n m i, d, e) (simp (eq-eqb (length s) state_size n, le-ltb id_most id h))
 
 -- ---- a journal that is well formed has a header
 
@@ -67,29 +58,32 @@ has_kept j w = in_journal j 6 w (lit< tt)
 
 -- ---- an event on a state's bytes: its record, the chip's reaction to link and registers, and the link stored
 
-module _ (s : List ℕ) (n : length s ≡ state_size) (e : Event) (l : Link) (d : l ≡ link_of s) (r : Response) (rs s₁ s₂ : List ℕ)
-    (m : length rs ≡ length (take (state_size - link_bytes) (drop link_bytes s)))
-    (u : s₁ ≡ put_mid link_bytes (state_size - link_bytes) s rs) (v : s₂ ≡ put 0 (link_image r.link) s₁)
-    (o p : List ℕ) (h : said r rs p ≡ says (reaction (adapter l (take (state_size - link_bytes) (drop link_bytes s))) e) o)
-    (j k : List ℕ) (g : k ≡ recorded s e j) where
-  long : length rs ≡ size
-  long = let k = length-drop link_bytes s in m ∙ length-take-le size (drop link_bytes s) (omega arith)
+module _ (s : List ℕ) (n : length s ≡ state_size) (e : Event) (l : Link) (d : l ≡ link_of s) (r : Response) (f t g rs : List ℕ)
+    (m : length f + size ≡ length s) (u : t ≡ drop (length s - size) s) (v : g ≡ put 0 (link_image r.link) f)
+    (o p : List ℕ) (h : said r rs p ≡ says (reaction (adapter l t) e) o)
+    (j k : List ℕ) (w : k ≡ recorded s e j) where
+  lent : t ≡ take size (drop link_bytes s)
+  lent =
+      let z : length s - size ≡ link_bytes = omega arith in
+      let y : length (drop link_bytes s) ≤ size = rw (length-drop link_bytes s) (omega arith) in
+      u ∙ rw z (sym (take_all size (drop link_bytes s) y))
 
-  happens : outcome (shown (answered r)) s₂ k p ≡ done s j e o
+  happens : outcome (shown (answered r)) (g ++ rs) k p ≡ done s j e o
   unfolding state_in part done
   happens =
-      rw (g, anew s n rs long s₁ s₂ r.link u v)
+      rw (w, anew s f g rs r.link n m v)
       (ap (λ (y : Said). outcome (shown y.response) (state_bytes (adapter y.response.link y.registers)) (recorded s e j) y.output)
-      (h ∙ ap (λ (y : Link). says (reaction (adapter y (take (state_size - link_bytes) (drop link_bytes s))) e) o) d))
+      (h ∙ ap₂ (λ (x : Link) (y : List ℕ). says (reaction (adapter x y) e) o) d lent))
 
-  pub sends_frame : (f : Frame) → r.answer ≡ Ok f → outcome (answer_of (Ok f)) s₂ k p ≡ done s j e o
-  sends_frame f q = ap (λ (a : Result Frame Silence). outcome (shown (answered (record { link = r.link; answer = a }))) s₂ k p) (sym q) ∙ happens
+  pub sends_frame : (y : Frame) → r.answer ≡ Ok y → outcome (answer_of (Ok y)) (g ++ rs) k p ≡ done s j e o
+  sends_frame y q = ap (λ (a : Result Frame Silence). outcome (shown (answered (record { link = r.link; answer = a }))) (g ++ rs) k p) (sym q) ∙ happens
 
-  pub stays_silent : (y : Silence) (a : Result Frame NoFrame) → r.answer ≡ Err y → IsErrAnd a (λ e. e ≡ Silent y) → outcome (answer_of a) s₂ k p ≡ done s j e o
-  stays_silent y (Ok f) q t = absurd t
-  stays_silent y (Err e) q t =
-      rw t
-      (ap (λ (a : Result Frame Silence). outcome (shown (answered (record { link = r.link; answer = a }))) s₂ k p) (sym q) ∙ happens)
+  pub stays_silent : (y : Silence) (a : Result Frame NoFrame) → r.answer ≡ Err y → IsErrAnd a (λ e. e ≡ Silent y)
+      → outcome (answer_of a) (g ++ rs) k p ≡ done s j e o
+  stays_silent y (Ok x) q z = absurd z
+  stays_silent y (Err x) q z =
+      rw z
+      (ap (λ (a : Result Frame Silence). outcome (shown (answered (record { link = r.link; answer = a }))) (g ++ rs) k p) (sym q) ∙ happens)
 
 -- ---- an event's call
 
@@ -179,15 +173,7 @@ pub ruleset passed = (passed_lent, passed_room, passed_fits)
 -- ---- a step back
 
 module _ (s j : List ℕ) where
-  pub back_state : is_state s ≡ false → stepped 6 s j ≡ stepped_back s j
-  unfolding stepped_back back_verdict
-  back_state h = simp h
-
   module _ (h : is_state s ≡ true) where
-    pub back_journal : well_formed j ≡ false → stepped 4 s j ≡ stepped_back s j
-    unfolding stepped_back back_verdict
-    back_journal g = simp (h, g)
-
     module _ (w : well_formed j ≡ true) where
       pub back_none : kept_of j ≡ 0 → stepped 5 s j ≡ stepped_back s j
       unfolding stepped_back back_verdict

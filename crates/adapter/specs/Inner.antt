@@ -1,8 +1,8 @@
 -- What an inner function's contract cites, and no promise: an event as code has it, and what the chip asks of one.
-use Rattle.std.specs.Prelude.{ℕ, ◌≡◌, ◌≤◌, ◌<◌, List, length}
+use Rattle.std.specs.Prelude.{ℕ, ◌≡◌, ◌≤◌, ◌<◌, length}
 use Rattle.numbers.specs.Numbers.{body_least, body_most, reply_bytes, output_least, transfer_bytes}
 use Rattle.commands.specs.Channels.{first_master}
-use Rattle.chip.specs.Event.{Completion, spi, i2c, Event, frame, completion, sample, upset}
+use Rattle.chip.specs.Event.{spi, i2c, Event, frame, completion, sample, upset}
 use Rattle.adapter.specs.declared.events.Event.{Event as Told}
 use Rattle.adapter.specs.declared.events.Event.TheVariants.{Frame, Spi, I2c, Sample, Upset}
 

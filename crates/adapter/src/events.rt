@@ -2,7 +2,6 @@
 // gives the link back.
 ghost use Rattle.std.specs.Prelude.{◌≡◌, true, ◌≤◌, length};
 ghost use Rattle.numbers.specs.Numbers.{reply_bytes};
-ghost use Rattle.registers.specs.Registers.{size};
 ghost use Rattle.state.specs.State.{adapter};
 ghost use Rattle.state.specs.Bytes.{state_size};
 ghost use Rattle.chip.specs.Event as chip;
@@ -20,7 +19,7 @@ use chip::{Frame, Response, events};
 use commands::command::Control;
 use link::Link;
 use numbers::{BODY_LEAST, BODY_MOST, I2C_MOST, TRANSFER_BYTES};
-use state::{BYTES, LINK};
+use registers::SIZE;
 
 // The first and the last I2C channel.
 const FIRST_MASTER: u32 = 0x03;
@@ -108,8 +107,7 @@ impl Event<'_> {
 
 // The chip's answer to an event, on the link and the registers where they stand.
 #[inline(always)]
-fn react(link: Link, registers: &mut [u8], event: Event, output: &mut [u8]) -> Response
-    requires registers_len { length registers.old ≡ size }
+fn react(link: Link, registers: &mut [u8; SIZE], event: Event, output: &mut [u8]) -> Response
     requires fits { Fits (event_of event) }
     requires room { room_for (event_of event) ≤ length output.old }
     ensures { said result registers.new output.new ≡ says (reaction (adapter link registers.old) (event_of event.entry)) output.old }
@@ -118,7 +116,10 @@ fn react(link: Link, registers: &mut [u8], event: Event, output: &mut [u8]) -> R
         Event::Frame { port, body } => {
             events::on_frame(link, registers, port as u8, body, output)
         }
-        Event::Spi { received } => events::on_spi(link, registers, received, output),
+        Event::Spi { received } => match received.as_array() {
+            Some(bytes) => events::on_spi(link, registers, bytes, output),
+            None => unreachable!(),
+        },
         Event::I2c {
             channel,
             acknowledge,
@@ -171,8 +172,11 @@ pub(crate) fn happen(
 {
     record_event(journal, state, event);
     let link = state::link_of(state);
-    let response = react(link, &mut state[LINK..BYTES], event, output);
-    state::store_link(state, response.link);
+    let Some((front, registers)) = state.split_last_chunk_mut::<SIZE>() else {
+        unreachable!()
+    };
+    let response = react(link, registers, event, output);
+    state::store_link(front, response.link);
     Ok(response.answer?)
 }
 

@@ -16,7 +16,8 @@ ghost use Rattle.adapter.specs.Calls.{made, created, made_empty, kept_in, copied
 
 use chip::Frame;
 use numbers::{ID_MOST, OUTPUT_LEAST, Refusal, Silence};
-use state::{BYTES, LINK};
+use registers::SIZE;
+use state::BYTES;
 
 // Why a call sends no frame: it is refused, or what it did sends none.
 #[derive(Clone, Copy, Debug, PartialEq, Eq)]
@@ -63,8 +64,11 @@ pub fn create(state: &mut [u8], id: u32) -> Result<(), Refusal>
     if ID_MOST < id {
         return Err(Refusal::BadId);
     }
-    state::power_on(&mut state[LINK..BYTES], id);
-    state::store_link(state, link::fresh(0));
+    let Some((front, registers)) = state.split_last_chunk_mut::<SIZE>() else {
+        unreachable!()
+    };
+    state::power_on(registers, id);
+    state::store_link(front, link::fresh(0));
     Ok(())
 }
 

@@ -54,7 +54,13 @@ fn command(link: Link, after: Link, port: u8, body: &[u8], output: &mut [u8]) ->
 
 // RESET, unless it carries information.
 #[tactic(auto, unfolding(crate::specs::Frame::commanded))]
-fn reset(link: Link, registers: &mut [u8; SIZE], port: u8, body: &[u8], output: &mut [u8]) -> Response
+fn reset(
+    link: Link,
+    registers: &mut [u8; SIZE],
+    port: u8,
+    body: &[u8],
+    output: &mut [u8],
+) -> Response
     requires body_least_in_bounds { body_least ≤ length body.now }
     requires output_least_in_bounds { output_least ≤ length output.old }
     ensures { said result registers.new output.new ≡ says (let a = adapter link registers.old in commanded a (reset a port) port body.now) output.old }
@@ -91,7 +97,13 @@ fn in_order(
 
 // Checks 4 to 8.
 #[tactic(auto, unfolding(crate::specs::Frame::carried))]
-fn carry(link: Link, registers: &mut [u8; SIZE], port: u8, body: &[u8], output: &mut [u8]) -> Response
+fn carry(
+    link: Link,
+    registers: &mut [u8; SIZE],
+    port: u8,
+    body: &[u8],
+    output: &mut [u8],
+) -> Response
     requires body_least_in_bounds { (body_least ≤ length body.now) × (length body.now ≤ body_most) }
     requires output_least_in_bounds { output_least ≤ length output.old }
     ensures { said result registers.new output.new ≡ says (carried (adapter link registers.old) port body.now) output.old }

@@ -71,7 +71,12 @@ pub fn group_of(body: &[u8]) -> Option<Control>
 
 // The GO's reply, with its own TRN.
 #[tactic(auto, unfolding(crate::specs::Chip::transferred))]
-fn transfer(link: Link, registers: &mut [u8; SIZE], received: &[u8; TRANSFER_BYTES], output: &mut [u8]) -> Response
+fn transfer(
+    link: Link,
+    registers: &mut [u8; SIZE],
+    received: &[u8; TRANSFER_BYTES],
+    output: &mut [u8],
+) -> Response
     requires { output_least ≤ length output.old }
     ensures { said result registers.new output.new ≡ says (transferred (adapter link registers.old) received.now) output.old }
 {
@@ -82,7 +87,12 @@ fn transfer(link: Link, registers: &mut [u8; SIZE], received: &[u8; TRANSFER_BYT
 
 // An SPI completion with 16 received bytes.
 #[tactic(auto, unfolding(crate::specs::Chip::reaction, crate::specs::Chip::on_spi))]
-pub fn on_spi(link: Link, registers: &mut [u8; SIZE], received: &[u8; TRANSFER_BYTES], output: &mut [u8]) -> Response
+pub fn on_spi(
+    link: Link,
+    registers: &mut [u8; SIZE],
+    received: &[u8; TRANSFER_BYTES],
+    output: &mut [u8],
+) -> Response
     requires { output_least ≤ length output.old }
     ensures { said result registers.new output.new ≡ says (reaction (adapter link registers.old) (Event.completion (Completion.spi received.now))) output.old }
 {

@@ -42,7 +42,12 @@ fn finish(link: Link, trn: u8, ch: u8, told: Option<Reply>, output: &mut [u8]) -
 }
 
 #[tactic(auto, unfolding(crate::specs::Request::requested))]
-pub(crate) fn request(link: Link, registers: &mut [u8; SIZE], info: &[u8], output: &mut [u8]) -> Response
+pub(crate) fn request(
+    link: Link,
+    registers: &mut [u8; SIZE],
+    info: &[u8],
+    output: &mut [u8],
+) -> Response
     requires info_len { length info.now ≡ 8 }
     requires output_least_in_bounds { output_least ≤ length output.old }
     ensures { said result registers.new output.new ≡ says (requested (adapter link registers.old) info.now) output.old }

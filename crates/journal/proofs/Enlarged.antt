@@ -14,16 +14,15 @@ use lib.ListN.{length, take, drop, length-append, length-take}
 use Rattle.bits.proofs.Tests.{and_left, and_right}
 use Rattle.parts.specs.Parts.{part, put}
 use Rattle.parts.proofs.Laws.{length_put, length_part, part_put_same, part_put_before, part_put_after, put_put}
-use Rattle.journal.specs.declared.Format.{Format}
 use Rattle.journal.specs.Layout.{header, headed, format_of, slots_of, wrong_length, first_of, kept_of, well_formed, is_small, place_of, slot_at, past, oldest, enlarged}
 use Rattle.journal.proofs.Formats.{its_size, only_lengths, of_small, of_large, same_length}
-use Rattle.journal.proofs.Ring.{Well, well_of, of_well, headed_size, headed_slots, headed_well, slot_in}
+use Rattle.journal.proofs.Ring.{Well, well_of, of_well, headed_size, headed_slots, headed_well, stands_in}
 
 -- ---- the kept records, one behind the other
 
 module _ (j : List ℕ) (w : Well j) where
   slot_length : (k : ℕ) → length (slot_at j k) ≡ 256
-  slot_length k = length_part _ 256 j (slot_in j (format_of (length j)) (well_of w) refl (place_of (slots_of j) (first_of j) k) k refl)
+  slot_length k = length_part _ 256 j (stands_in j k (well_of w))
 
   oldest_length : (k : ℕ) → length (oldest k j) ≡ 256 * k
   unfolding oldest

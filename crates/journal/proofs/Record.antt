@@ -12,7 +12,6 @@ use lib.Dec.{leb, lit≤}
 use lib.ListN.{length, take, drop, get_or, set, length-append, length-take, take-append-drop}
 use lib.Seq.{take-add, take_at, drop_at, drop-append-add, length-take-le}
 use borrow.Rule.Slice.PartMut.{put_mid}
-use Rattle.bits.proofs.Rows.{none_of}
 use Rattle.parts.specs.Parts.{part, put}
 use Rattle.parts.proofs.Laws.{Apart, length_part, length_put, part_put_before, part_put_after, part_put_apart, part_put_same, put_put, put_mid_lem}
 use Rattle.commands.specs.declared.command.Control.TheVariants.{B, C, D}
@@ -29,9 +28,8 @@ use Rattle.chip.specs.Chip.{reaction, accepted_reset}
 use Rattle.chip.specs.Group.{group_of}
 use Rattle.chip.proofs.EventFits.{EventFits}
 use Rattle.chip.proofs.Laws.{outside, good_stays}
-use Rattle.journal.specs.declared.Format.{Format}
-use Rattle.journal.specs.Layout.{format_of, slots_of, first_of, kept_of, well_formed, place_of, past, first_after, kept_up, pushed}
-use Rattle.journal.specs.Record.{core_bytes, start_of, many_of, tag_of, last_tag, tagged, group_in, record_of, kept_for, before, restored, sound}
+use Rattle.journal.specs.Layout.{slots_of, first_of, kept_of, well_formed, place_of, past, first_after, kept_up, pushed}
+use Rattle.journal.specs.Record.{core_bytes, start_of, many_of, tag_of, last_tag, group_in, record_of, kept_for, before, restored, sound}
 use Rattle.journal.specs.Inner.{record_most}
 use Rattle.journal.proofs.Pieces.{joined, front_written, over_pieces}
 use Rattle.journal.proofs.Ring.{newest_slot, stands_in}
@@ -202,24 +200,6 @@ makes s c r r₁ r₂ r₃ tag first many n l g e f h =
     let p : 1 + core_bytes ≡ 0 + suc (length (take core_bytes s)) = omega arith in
     rw (h, f, e, g, lent_part first many s, put_put 0 (tag ∷ []) (take core_bytes s) r 1 refl (omega arith))
     (put_put 0 (tag ∷ take core_bytes s) (take many (drop first s)) r (1 + core_bytes) p (omega arith))
-
--- ---- a tag's group, or none
-
-module _ (tag first many : ℕ) where
-  abbrev Placed : Type 0
-  Placed =
-      ((first ≡ start_of (group_in tag)) × (many ≡ many_of (group_in tag)))
-      × ((core_bytes ≤ first) × (first + many ≤ state_size) × (1 + core_bytes + many ≤ record_most))
-
-  placed : (g : Option Control) → group_in tag ≡ g → first ≡ start_of g → many ≡ many_of g → Placed
-  placed g e f m = rw (e, f, m) ((refl, refl), ((fits g).behind, (fits g).inside, (fits g).short))
-
-  pub place_at : (code : ℕ) → tag ≡ code → first ≡ start_of (group_in code) → many ≡ many_of (group_in code) → Placed
-  place_at code e f m = placed (group_in code) (ap group_in e) f m
-
-  pub no_place : (tag ≡ 1 → ⊥) → (tag ≡ 2 → ⊥) → (tag ≡ 3 → ⊥) → first ≡ start_of None → many ≡ many_of None → Placed
-  unfolding group_in
-  no_place b c d f m = placed None (sym (none_of tagged None tag (((tt, b), c), d))) f m
 
 -- ---- a record exchanged with what it stands for
 

@@ -1,21 +1,20 @@
 -- The laws of the ring, for every format of the table: a record pushed is the newest, the others are each one older; one given up, each is one newer.
 -- Assumes nothing.
-use Prim.Native.Nat.{ℕ, suc, ◌+◌, ◌*◌, ◌-◌, ◌/◌, ◌%◌, ◌^◌, min, ◌≤◌, ◌<◌}
+use Prim.Native.Nat.{ℕ, suc, ◌+◌, ◌*◌, ◌-◌, ◌/◌, ◌%◌, min, ◌≤◌, ◌<◌}
 use mathlib.Core.Path.{◌≡◌, refl, sym, ap, ◌∙◌}
 use mathlib.Core.List.{List, ◌++◌}
-use mathlib.Core.Bool.{Bool, true, false, cond, ◌&&◌}
+use mathlib.Core.Bool.{true, false, cond}
 use mathlib.Core.Logic.{◌⊎◌, inl, inr, ⊎_elim}
 use native.Mathlib.Decide.{dec_lt}
 use native.Mathlib.Nat.{eq-or-lt_of_le, mod-lt, mod-eq_of_lt, mod-eq-sub-mod, mod-add-mod}
 use native.Mathlib.Omega.{arith}
 use lib.ListN.{length, take, drop, get_or, set, length-set}
 use lib.Seq.{get_or-set_same, get_or-set_other}
-use lib.Dec.{eqb, leb, ltb, lit<}
+use lib.Dec.{eqb}
 use borrow.Author.Tests.{eq-eqb, ne_eqb, eqb-true, le-leb, leb-true, lt-ltb, ltb-true, not-true}
 use Rattle.bits.proofs.Tests.{both, cond_cases}
 use Rattle.parts.specs.Parts.{part, put}
 use Rattle.parts.proofs.Laws.{length_put, length_part, part_put_front, part_put_before, part_put_after, get_d_put_before, part_set}
-use Rattle.journal.specs.declared.Format.{Format}
 use Rattle.journal.specs.Layout.{header, headed, format_of, slots_of, wrong_length, first_of, kept_of, well_formed, place_of, past, emptied, first_after, kept_up, pushed, lowered}
 use Rattle.journal.proofs.Formats.{its_size, some_slots, slots_small, same_length}
 
@@ -89,10 +88,6 @@ module _ (kept : ℕ) (j : List ℕ) (s : wrong_length j ≡ false) where
         first = rw headed_slots (some_slots j s);
         few = rw headed_slots few;
       }
-
--- what the code writes of it
-pub headed_by : (kept : ℕ) (j k : List ℕ) (f : Format) → f ≡ format_of (length j) → k ≡ put 0 (header f 0 kept) j → k ≡ headed kept j
-headed_by kept j k f e p = p ∙ ap (λ (x : Format). put 0 (header x 0 kept) j) e
 
 -- an emptied journal
 pub emptied_slots : (j : List ℕ) → wrong_length j ≡ false → slots_of (emptied j) ≡ slots_of j
@@ -321,9 +316,6 @@ in_header j i h l = omega (arith, its_size j h)
 pub in_journal : (j : List ℕ) (i : ℕ) → well_formed j ≡ true → i < 1024 → i < length j
 in_journal j i h l = in_header j i (size_in j h) l
 
-pub header_in : (j : List ℕ) → wrong_length j ≡ false → 0 + 7 ≤ length j
-header_in j h = omega (arith, its_size j h)
-
 -- the header is there, and says slots of the ring
 pub long_enough : (j : List ℕ) → wrong_length j ≡ false → 1024 ≤ length j
 long_enough j h = omega (arith, its_size j h)
@@ -344,83 +336,8 @@ stands_in j k h =
 
 pub ruleset formed = (size_in, header_long, starts_in, keeps_few, stands_in, slots_small)
 
--- the test of a journal: its length, then its header
-module _ (j : List ℕ) (wrong : Bool) (e : wrong ≡ wrong_length j) where
-  pub of_wrong_length : wrong ≡ true → false ≡ well_formed j
-  unfolding well_formed
-  of_wrong_length h = simp (sym e ∙ h)
-
-  pub header_known : (i : ℕ) → wrong ≡ false → i < 1024 → i < length j
-  header_known i h l = in_header j i (sym e ∙ h) l
-
-  pub by_header : (f : Format) → wrong ≡ false → f ≡ format_of (length j)
-      → (eqb (get_or j 0 0) 0x53
-      && eqb (get_or j 1 0) 0x43
-      && eqb (get_or j 2 0) 0x4A
-      && eqb (get_or j 3 0) (f.version % 256)
-      && eqb (get_or j 4 0) (f.version / 256)
-      && ltb (first_of j) f.slots
-      && leb (kept_of j) f.slots) ≡ well_formed j
-  unfolding well_formed
-  by_header f h g = simp (sym e ∙ h, g)
-
-pub ruleset forming = (of_wrong_length, header_known, by_header, lit<)
-
--- what the code reads of a well-formed journal
-module _ (j : List ℕ) (f : Format) (h : well_formed j ≡ true) (e : f ≡ format_of (length j)) where
-  its_slots : f.slots ≡ slots_of j
-  its_slots = ap (λ (x : Format). x.slots) e
-
-  pub some_in : 0 < f.slots
-  some_in = rw its_slots (some_slots j (size_in j h))
-
-  pub first_in : first_of j < f.slots
-  first_in = rw its_slots (of_well j h).first
-
-  pub kept_in : kept_of j ≤ f.slots
-  kept_in = rw its_slots (of_well j h).few
-
-  pub kept_byte : kept_of j < 256
-  kept_byte = let h = kept_in in omega (arith, its_slots, slots_small j)
-
-  -- that of the newest, and that of any other
-  pub newest_few : kept_of j - 1 ≤ f.slots
-  newest_few = let h = kept_in in omega arith
-
-  pub any_few : (k : ℕ) → k < kept_of j → k ≤ f.slots
-  any_few k l = let h = kept_in in omega arith
-
-  pub slot_in : (at k : ℕ) → at ≡ place_of f.slots (first_of j) k → at + 256 ≤ length j
-  slot_in at k q =
-      let l = slot_small (slots_of j) (first_of j + k) (some_slots j (size_in j h)) in
-      let p : at ≡ place_of (slots_of j) (first_of j) k = rw its_slots at q in
-      omega (arith, its_size j (size_in j h))
-
-  pub end_in : (at k : ℕ) → at ≡ place_of f.slots (first_of j) k → at + 256 < 2 ^ 64
-  end_in at k q =
-      let l = slot_small (slots_of j) (first_of j + k) (some_slots j (size_in j h)) in
-      let p : at ≡ place_of (slots_of j) (first_of j) k = rw its_slots at q in
-      omega (arith, slots_small j)
-
-  pub room_in : (at k n : ℕ) → at ≡ place_of f.slots (first_of j) k → n ≤ 256 → at + n ≤ length j
-  room_in at k n q l = let m = slot_in at k q in omega arith
-
--- what the code writes of a record more
-pub pushed_by : (r j k : List ℕ) (f : Format) (at first kept : ℕ) → f ≡ format_of (length j) → at ≡ place_of f.slots (first_of j) (kept_of j)
-    → first ≡ first_after f.slots (first_of j) (kept_of j) → kept ≡ kept_up f.slots (kept_of j) → k ≡ put at r j
-    → set (set k 5 first) 6 kept ≡ pushed r j
-unfolding pushed
-pushed_by r j k f at first kept q e g h p = rw (p, e, g, h, q) refl
-
 -- where the newest stands
-pub newest_at : (j : List ℕ) (at : ℕ) (f : Format) → f ≡ format_of (length j) → at ≡ place_of f.slots (first_of j) (kept_of j - 1)
-    → at ≡ place_of (slots_of j) (first_of j) (kept_of j - 1)
-newest_at j at f q e = rw (e, q) refl
-
 module _ (j : List ℕ) (at : ℕ) (h : well_formed j ≡ true) (e : at ≡ place_of (slots_of j) (first_of j) (kept_of j - 1)) where
-  pub newest_in : (n : ℕ) → n ≤ 256 → at + n ≤ length j
-  newest_in n l = let m = slot_in j (format_of (length j)) h refl at (kept_of j - 1) e in omega arith
-
   pub newest_slot : take (at + 256 - at) (drop at j) ≡ past j 0
   unfolding past part
   newest_slot =
@@ -431,7 +348,4 @@ module _ (j : List ℕ) (at : ℕ) (h : well_formed j ≡ true) (e : at ≡ plac
 -- the newest slot has all its bytes
 pub length_past : (j : List ℕ) → well_formed j ≡ true → length (past j 0) ≡ 256
 unfolding past
-length_past j h =
-    length_part _ 256 j (slot_in j (format_of (length j)) h refl (place_of (slots_of j) (first_of j) (kept_of j - 1 - 0)) (kept_of j - 1 - 0) refl)
-
-pub ruleset journal-needs = (in_journal, some_in, first_in, kept_in, kept_byte, newest_few, any_few, slot_in, end_in, room_in, lit<)
+length_past j h = length_part _ 256 j (stands_in j (kept_of j - 1 - 0) h)

@@ -160,7 +160,11 @@ impl Header {
     fn kept_after(self) -> u8
         ensures { result ≡ kept_up self.slots self.kept }
     {
-        if self.kept == self.slots { self.slots } else { self.kept + 1 }
+        if self.kept == self.slots {
+            self.slots
+        } else {
+            self.kept + 1
+        }
     }
 }
 

@@ -19,6 +19,7 @@ pub struct Port {
 }
 
 // The two numbers, the active port, and the two ports.
+// Kept: a port is its number, since in_loopback and loop_back promise an answer for every number, and in_range refuses a state's port over 1.
 #[derive(Clone, Copy)]
 pub struct Link {
     pub send: SendNumber,

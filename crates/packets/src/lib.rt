@@ -12,6 +12,7 @@ use commands::request::Request;
 pub const ADDRESS: u8 = 0x00;
 
 // The eight bytes of information.
+// Kept: a slice with a clause for its length, since document 01 wants the information handed on as a part, `&body[2..]`.
 pub fn request_of(info: &[u8]) -> Request
     requires { length info.now ≡ 8 }
     ensures { result ≡ request_of info.now }

@@ -32,6 +32,7 @@ pub fn power_on(registers: &mut [u8; SIZE], id: u32)
     registers::store(registers, Register::ChipId, id);
 }
 
+// Kept: a function, not From: Link is of a crate that knows no bytes of a state, and s may go on behind the link's bytes.
 pub fn link_of(s: &[u8]) -> Link
     requires { link_bytes ≤ length s.now }
     ensures { result ≡ link_of s.now }
