@@ -19,6 +19,7 @@ use numbers::{Dropped, INPUT_MOST, OUTPUT_LEAST, Refusal, Silence};
 use scanning::Control;
 
 // A receiver between two calls; docs/RECEIVER.md has its fields and ranges.
+// Kept: mode is a byte, and count stands beside bytes, since C hands over any 24 bytes, and `view` and `in_range` speak of these fields.
 #[derive(Clone, Copy)]
 pub struct Receiver {
     pub mode: u8,
