@@ -16,7 +16,6 @@ ghost use Rattle.adapter.specs.Calls.{outcome, recorded, done};
 ghost use Rattle.adapter.specs.Inner.{event_of, Fits, room_for};
 
 use crate::NoFrame;
-use channels::groups::Group;
 use chip::{Frame, Response, events};
 use commands::command::Control;
 use link::Link;
@@ -94,15 +93,15 @@ impl Event<'_> {
     }
 
     // What it may change besides the core.
-    fn group(self) -> Group
+    fn group(self) -> Option<Control>
         requires { Fits (event_of self) }
         ensures { result ≡ group_of (event_of self.entry) }
     {
         match self {
             Event::Frame { body, .. } => events::group_of(body),
             Event::I2c { channel, .. } => events::group_of_i2c(channel as u8),
-            Event::Spi { .. } | Event::Sample { .. } => Group::Switched(Control::B),
-            Event::Upset => Group::Nothing,
+            Event::Spi { .. } | Event::Sample { .. } => Some(Control::B),
+            Event::Upset => None,
         }
     }
 }
