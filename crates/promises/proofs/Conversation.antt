@@ -121,10 +121,10 @@ short_lens channel.Id = refl
 short_lens channel.Dac = refl
 
 len_byte : (ch cmd : ℕ) → len_of (command_at ch cmd) < 256
+unfolding code_of
 len_byte ch cmd = by (channel_of ch)
   where
     by : (o : Option Channel) → len_of (option_and_then (λ c. command_of c cmd) o) < 256
-    unfolding code_of
     by None = lit< tt
     by (Some c) = ltb-true _ 256 (look_every short_len (commands_of c) None cmd (short_lens c) refl)
 
