@@ -2,7 +2,7 @@
 // fed and written. The answers to what was read are written before the next read.
 #![tactic(auto)]
 
-ghost use Rattle.std.specs.Prelude.{◌≤◌, length};
+ghost use Rattle.std.specs.Prelude.{◌≤◌, IfSome, length};
 
 use player::{ANSWER_ROOM, LINE_ROOM};
 use std::io::Read;
@@ -13,96 +13,77 @@ const BLOCK_ROOM: usize = 16384;
 // Room for the answers to as much.
 const OUTPUT_ROOM: usize = BLOCK_ROOM * ANSWER_ROOM;
 
-// Between two reads, besides lent bytes: the characters of the line so far, and whether there is more to read.
-#[derive(Clone, Copy)]
-struct Bench {
-    count: usize,
-    more: bool,
-}
-
-// Writes the first bytes of the output, and says whether the program goes on.
-fn flush(rt: &(impl Print + Eprint), out: &[u8], used: usize) -> bool
-    requires { used ≤ length out.now }
-{
-    let written = rt.write_all(&out[..used]);
-    if written.is_ok() {
-        return true;
+// Writes answers, and says whether they could be written.
+fn flush(rt: &(impl Print + Eprint), answers: &[u8]) -> bool {
+    let written = rt.write_all(answers).is_ok();
+    if !written {
+        let _ = rt.eprintln("bench: standard output cannot be written");
     }
-    let _ = rt.eprintln("bench: standard output cannot be written");
-    false
+    written
 }
 
-// Plays what was read, and writes the answers.
+// Plays what was read behind so many characters of the line so far, and writes the answers. Gives the characters of the line after it, or none
+// where the program ends.
 fn feed(
     rt: &(impl Print + Eprint),
-    b: Bench,
+    held: usize,
     block: &[u8],
     state: &mut [u8],
     journal: &mut [u8],
     line: &mut [u8; LINE_ROOM],
     out: &mut [u8; OUTPUT_ROOM],
-) -> Bench
-    requires count_bound { b.count ≤ 81 }
+) -> Option<usize>
+    requires held_bound { held ≤ 81 }
     requires block_len_bound { length block.now ≤ 16384 }
-    ensures { result.count ≤ 81 }
+    ensures { IfSome result (λ count. count ≤ 81) }
 {
-    let r = player::feed(state, b.count, journal, line, block, out);
-    let more = flush(rt, out, r.next);
-    Bench {
-        count: r.count,
-        more: more,
-    }
+    let fed = player::feed(state, held, journal, line, block, out);
+    flush(rt, &out[..fed.next]).then_some(fed.count)
 }
 
 // The end of the input: a last line that lacks its LF is played.
 fn finish(
     rt: &(impl Print + Eprint),
-    b: Bench,
+    held: usize,
     state: &mut [u8],
     journal: &mut [u8],
     line: &mut [u8; LINE_ROOM],
     out: &mut [u8; OUTPUT_ROOM],
-) -> Bench
-    requires { b.count ≤ 81 }
-    ensures { result.count ≤ 81 }
+) requires { held ≤ 81 }
 {
-    let r = player::finish(state, b.count, journal, line, out);
-    flush(rt, out, r.next);
-    Bench {
-        count: 0,
-        more: false,
-    }
+    let fed = player::finish(state, held, journal, line, out);
+    flush(rt, &out[..fed.next]);
 }
 
 // One read, and what follows from it.
+// Kept: a struct of these four with methods lends two of its fields in one call, which the borrow checker does not cover yet.
 fn turn(
     rt: &(impl Print + Eprint),
     input: &mut impl Read,
-    b: Bench,
-    block: &mut [u8],
+    held: usize,
+    block: &mut [u8; BLOCK_ROOM],
     state: &mut [u8],
     journal: &mut [u8],
     line: &mut [u8; LINE_ROOM],
     out: &mut [u8; OUTPUT_ROOM],
-) -> Bench
-    requires count_bound { b.count ≤ 81 }
-    requires block_len_bound { length block.old ≤ 16384 }
-    ensures { result.count ≤ 81 }
+) -> Option<usize>
+    requires { held ≤ 81 }
+    ensures { IfSome result (λ count. count ≤ 81) }
 {
     match input.read(block) {
         Err(_) => {
             let _ = rt.eprintln("bench: standard input cannot be read");
-            Bench {
-                count: 0,
-                more: false,
-            }
+            None
         }
-        Ok(0) => finish(rt, b, state, journal, line, out),
-        Ok(n) => feed(rt, b, &block[..n], state, journal, line, out),
+        Ok(0) => {
+            finish(rt, held, state, journal, line, out);
+            None
+        }
+        Ok(n) => feed(rt, held, &block[..n], state, journal, line, out),
     }
 }
 
-// Nothing says that the input ends, so the turns are counted down from a number that no run uses up.
+// Nothing says that the input ends, so the turns are counted to a number that no run uses up.
 fn run(
     rt: &(impl Print + Eprint),
     input: &mut impl Read,
@@ -112,14 +93,12 @@ fn run(
     line: &mut [u8; LINE_ROOM],
     out: &mut [u8; OUTPUT_ROOM],
 ) {
-    let mut b = Bench {
-        count: 0,
-        more: true,
-    };
-    let mut turns = u64::MAX;
-    while turns > 0 && b.more {
-        b = turn(rt, input, b, block, state, journal, line, out);
-        turns -= 1;
+    let mut held = 0;
+    'turns: for _ in 0..u64::MAX {
+        match turn(rt, input, held, block, state, journal, line, out) {
+            Some(count) => held = count,
+            None => break,
+        }
     }
 }
 
@@ -131,7 +110,7 @@ fn main(rt: HostRuntime) {
     let mut line = [0u8; LINE_ROOM];
     let mut out = [0u8; OUTPUT_ROOM];
     player::start(&mut state);
-    adapter::empty(&mut journal);
+    let _ = adapter::empty(&mut journal);
     run(
         &rt,
         &mut input,

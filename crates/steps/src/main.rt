@@ -3,233 +3,176 @@
 // body. docs/STEPS.md works every line out.
 #![tactic(auto)]
 
-ghost use Rattle.std.specs.Prelude.{◌≡◌, length};
-ghost use Rattle.state.specs.Bytes.{state_size};
-
-use adapter::Answer;
+use adapter::NoFrame;
+use chip::Frame;
 use commands::command::Register;
-use state::{BYTES, LINK};
+use numbers::{Refusal, Silence};
+use state::BYTES;
 
-fn print_byte(rt: &impl Print, x: u8) {
-    let _ = rt.print(x);
+// The number of a call that sends no frame: 17 where it was done.
+fn number_after(done: Result<(), Refusal>) -> u8 {
+    match done {
+        Ok(()) => u8::from(Silence::NoFrame),
+        Err(refusal) => u8::from(refusal),
+    }
 }
 
-fn print_hex(rt: &impl Print, x: u8) {
-    let _ = print!(rt; "{x:02x}");
+// What a journal keeps; 0 where the bytes are no journal's.
+fn kept(journal: &[u8]) -> u8 {
+    adapter::kept(journal).unwrap_or(0)
 }
 
-fn space(rt: &impl Print) {
-    let _ = rt.print(" ");
+// The number of a call, and what a journal keeps after it.
+fn show_done(rt: &impl Print, done: Result<(), Refusal>, journal: &[u8]) {
+    let _ = println!(rt; "{} {}", number_after(done), kept(journal));
 }
 
-fn end_line(rt: &impl Print) {
-    let _ = rt.print("\n");
-}
-
-fn print_body(rt: &impl Print, output: &[u8; 16], length: u8) {
-    let mut i: u8 = 0;
-    while i < 16 {
-        if i < length {
-            let k = i as usize;
-            print_hex(rt, output[k]);
+// The number and the kept number, then with 0 the port and the body.
+fn show(rt: &impl Print, answer: Result<Frame, NoFrame>, journal: &[u8], output: &[u8; 16]) {
+    match answer {
+        Ok(frame) => {
+            let _ = print!(rt; "{} {} {} ", numbers::HAS_FRAME, kept(journal), frame.port);
+            for byte in output.iter().take(usize::from(frame.length)) {
+                let _ = print!(rt; "{byte:02x}");
+            }
+            let _ = println!(rt);
         }
-        i += 1;
+        Err(none) => {
+            let _ = println!(rt; "{} {}", u8::from(none), kept(journal));
+        }
     }
 }
 
-fn print_kept(rt: &impl Print, number: u8, journal: &[u8]) {
-    print_byte(rt, number);
-    space(rt);
-    let k = adapter::kept(journal);
-    print_byte(rt, k.kept);
+// The adapter that is walked, with a journal of so many bytes.
+#[derive(Drop)]
+struct Walk<const N: usize> {
+    state: [u8; BYTES],
+    journal: [u8; N],
 }
 
-fn show(rt: &impl Print, answer: Answer, journal: &[u8; 17408], output: &[u8; 16]) {
-    print_kept(rt, answer.number, journal);
-    if answer.number == 0 {
-        space(rt);
-        print_byte(rt, answer.port);
-        space(rt);
-        print_body(rt, output, answer.length);
-    }
-    end_line(rt);
-}
-
-// The number, the kept number and the SEU counter.
-fn show_seu(rt: &impl Print, number: u8, journal: &[u8], seu: u32) {
-    print_kept(rt, number, journal);
-    space(rt);
-    let _ = rt.print(seu);
-    end_line(rt);
-}
-
-fn frame(
-    rt: &impl Print,
-    state: &mut [u8; BYTES],
-    journal: &mut [u8; 17408],
-    port: u32,
-    body: &[u8],
-) {
-    let mut output = [0u8; 16];
-    let answer = adapter::frame(state, journal, port, body, &mut output);
-    show(rt, answer, journal, &output);
-}
-
-fn request(rt: &impl Print, state: &mut [u8; BYTES], journal: &mut [u8; 17408], body: [u8; 10]) {
-    frame(rt, state, journal, 0, &body);
-}
-
-fn completion(rt: &impl Print, state: &mut [u8; BYTES], journal: &mut [u8; 17408], byte: u8) {
-    let mut output = [0u8; 16];
-    let received = [byte; 16];
-    let answer = adapter::completion(state, journal, &received, &mut output);
-    show(rt, answer, journal, &output);
-}
-
-// The SEU counter of a state.
-fn counter(state: &[u8]) -> u32
-    requires { length state.now ≡ state_size }
-{
-    registers::read(&state[LINK..BYTES], Register::Seu)
-}
-
-fn upsets_in(state: &[u8; BYTES]) -> u32 {
-    counter(state)
-}
-
-fn upsets(rt: &impl Print, state: &mut [u8; BYTES], journal: &mut [u8], count: u8) {
-    let mut number: u8 = 0;
-    let mut i: u8 = 0;
-    while i < count {
+impl<const N: usize> Walk<N> {
+    fn frame(&mut self, rt: &impl Print, port: u32, body: &[u8]) {
         let mut output = [0u8; 16];
-        let answer = adapter::upset(state, journal, &mut output);
-        number = answer.number;
-        i += 1;
+        let answer = adapter::frame(&mut self.state, &mut self.journal, port, body, &mut output);
+        show(rt, answer, &self.journal, &output);
     }
-    show_seu(rt, number, journal, upsets_in(state));
-}
 
-fn steps_back(rt: &impl Print, state: &mut [u8; BYTES], journal: &mut [u8], count: u8) {
-    let mut number: u8 = 0;
-    let mut i: u8 = 0;
-    while i < count {
-        number = adapter::step_back(state, journal);
-        i += 1;
+    fn completion(&mut self, rt: &impl Print, byte: u8) {
+        let mut output = [0u8; 16];
+        let answer = adapter::completion(&mut self.state, &mut self.journal, &[byte; 16], &mut output);
+        show(rt, answer, &self.journal, &output);
     }
-    show_seu(rt, number, journal, upsets_in(state));
-}
 
-fn bodies(rt: &impl Print, state: &mut [u8; BYTES], journal: &mut [u8; 17408]) {
-    frame(rt, state, journal, 0, &[0x00]);
-    frame(rt, state, journal, 0, &[0x00, 0x2F]);
-    frame(rt, state, journal, 0, &[0u8; 16]);
-    frame(rt, state, journal, 0, &[0u8; 17]);
-    frame(rt, state, journal, 1, &[0x00, 0xE3]);
-    frame(
-        rt,
-        state,
-        journal,
-        1,
-        &[0x00, 0x00, 2, 3, 4, 5, 6, 7, 8, 9, 10, 11, 12, 13, 14, 15],
-    );
-    frame(rt, state, journal, 1, &[0u8; 17]);
-}
+    // The number of the last of many calls, the kept number and the SEU counter.
+    fn show_seu(&self, rt: &impl Print, number: u8) {
+        let Some((_, registers)) = self.state.split_last_chunk() else {
+            unreachable!()
+        };
+        let seu = registers::read(registers, Register::Seu);
+        let _ = println!(rt; "{} {} {}", number, kept(&self.journal), seu);
+    }
 
-// CONTROL is written with the length, GO, the completion, and the top word is read.
-fn transfer(
-    rt: &impl Print,
-    state: &mut [u8; BYTES],
-    journal: &mut [u8; 17408],
-    first: u8,
-    trn: u8,
-    length: u8,
-    byte: u8,
-) {
-    let n = first % 8;
-    let t = trn % 128;
-    request(
-        rt,
-        state,
-        journal,
-        [0x00, n * 2, t, 0x01, 6, 0x40, 0, 0, length, 0],
-    );
-    request(
-        rt,
-        state,
-        journal,
-        [0x00, (n + 1) % 8 * 2, t + 1, 0x01, 2, 0x72, 0, 0, 0, 0],
-    );
-    completion(rt, state, journal, byte);
-    request(
-        rt,
-        state,
-        journal,
-        [0x00, (n + 2) % 8 * 2, t + 2, 0x01, 2, 0x31, 0, 0, 0, 0],
-    );
-}
+    fn upsets(&mut self, rt: &impl Print, count: u8) {
+        let mut number = 0;
+        for _ in 0..count {
+            let mut output = [0u8; 16];
+            number = match adapter::upset(&mut self.state, &mut self.journal, &mut output) {
+                Ok(_) => numbers::HAS_FRAME,
+                Err(none) => u8::from(none),
+            };
+        }
+        self.show_seu(rt, number);
+    }
 
-fn spi(rt: &impl Print, state: &mut [u8; BYTES], journal: &mut [u8; 17408]) {
-    request(
-        rt,
-        state,
-        journal,
-        [0x00, 0x00, 0x01, 0x00, 4, 0x02, 0, 0x02, 0, 0],
-    );
-    transfer(rt, state, journal, 1, 2, 1, 0xFF);
-    transfer(rt, state, journal, 4, 5, 127, 0xFF);
-    transfer(rt, state, journal, 7, 8, 0, 0xA5);
-}
+    fn steps_back(&mut self, rt: &impl Print, count: u8) {
+        let mut number = 0;
+        for _ in 0..count {
+            number = number_after(adapter::step_back(&mut self.state, &mut self.journal));
+        }
+        self.show_seu(rt, number);
+    }
 
-fn ring(rt: &impl Print, state: &mut [u8; BYTES], journal: &mut [u8; 17408]) {
-    upsets(rt, state, journal, 64);
-    upsets(rt, state, journal, 1);
-    steps_back(rt, state, journal, 64);
-    steps_back(rt, state, journal, 1);
-    upsets(rt, state, journal, 1);
-    frame(rt, state, journal, 0, &[0x00, 0x8F]);
-    steps_back(rt, state, journal, 1);
+    fn clear(&mut self, rt: &impl Print) {
+        let done = adapter::empty(&mut self.journal);
+        show_done(rt, done, &self.journal);
+    }
+
+    fn bodies(&mut self, rt: &impl Print) {
+        self.frame(rt, 0, &[0x00]);
+        self.frame(rt, 0, &[0x00, 0x2F]);
+        self.frame(rt, 0, &[0u8; 16]);
+        self.frame(rt, 0, &[0u8; 17]);
+        self.frame(rt, 1, &[0x00, 0xE3]);
+        self.frame(
+            rt,
+            1,
+            &[0x00, 0x00, 2, 3, 4, 5, 6, 7, 8, 9, 10, 11, 12, 13, 14, 15],
+        );
+        self.frame(rt, 1, &[0u8; 17]);
+    }
+
+    // CONTROL is written with the length, GO, the completion, and the top word is read.
+    fn transfer(&mut self, rt: &impl Print, first: u8, trn: u8, length: u8, byte: u8) {
+        let n = first % 8;
+        let t = trn % 128;
+        self.frame(rt, 0, &[0x00, n * 2, t, 0x01, 6, 0x40, 0, 0, length, 0]);
+        self.frame(rt, 0, &[0x00, (n + 1) % 8 * 2, t + 1, 0x01, 2, 0x72, 0, 0, 0, 0]);
+        self.completion(rt, byte);
+        self.frame(rt, 0, &[0x00, (n + 2) % 8 * 2, t + 2, 0x01, 2, 0x31, 0, 0, 0, 0]);
+    }
+
+    fn spi(&mut self, rt: &impl Print) {
+        self.frame(rt, 0, &[0x00, 0x00, 0x01, 0x00, 4, 0x02, 0, 0x02, 0, 0]);
+        self.transfer(rt, 1, 2, 1, 0xFF);
+        self.transfer(rt, 4, 5, 127, 0xFF);
+        self.transfer(rt, 7, 8, 0, 0xA5);
+    }
+
+    fn ring(&mut self, rt: &impl Print) {
+        self.upsets(rt, 64);
+        self.upsets(rt, 1);
+        self.steps_back(rt, 64);
+        self.steps_back(rt, 1);
+        self.upsets(rt, 1);
+        self.frame(rt, 0, &[0x00, 0x8F]);
+        self.steps_back(rt, 1);
+    }
+
+    // With a large journal that keeps two events, which then is filled.
+    fn long_ring(&mut self, rt: &impl Print) {
+        self.upsets(rt, 198);
+        self.upsets(rt, 1);
+        self.steps_back(rt, 200);
+        self.steps_back(rt, 1);
+    }
 }
 
 // The number, and what the second buffer keeps then.
 fn enlarge(rt: &impl Print, journal: &[u8], second: &mut [u8]) {
-    let number = adapter::enlarge(journal, second);
-    print_kept(rt, number, second);
-    end_line(rt);
-}
-
-// Two events of a small journal go over into a large one, which then is filled.
-fn long_ring(
-    rt: &impl Print,
-    state: &mut [u8; BYTES],
-    small: &mut [u8; 17408],
-    large: &mut [u8; 52224],
-) {
-    let mut short = [0u8; 16];
-    upsets(rt, state, small, 2);
-    enlarge(rt, small, &mut short);
-    enlarge(rt, small, large);
-    enlarge(rt, large, &mut short);
-    upsets(rt, state, large, 198);
-    upsets(rt, state, large, 1);
-    steps_back(rt, state, large, 200);
-    steps_back(rt, state, large, 1);
-}
-
-fn clear(rt: &impl Print, journal: &mut [u8; 17408]) {
-    let number = adapter::empty(journal);
-    print_kept(rt, number, journal);
-    end_line(rt);
+    let done = adapter::enlarge(journal, second);
+    show_done(rt, done, second);
 }
 
 fn main(rt: HostRuntime) {
-    let mut state = [0u8; BYTES];
-    let mut journal = [0u8; 17408];
-    let mut large = [0u8; 52224];
-    clear(&rt, &mut journal);
-    adapter::create(&mut state, 0x00000A);
-    bodies(&rt, &mut state, &mut journal);
-    spi(&rt, &mut state, &mut journal);
-    clear(&rt, &mut journal);
-    ring(&rt, &mut state, &mut journal);
-    long_ring(&rt, &mut state, &mut journal, &mut large);
+    let mut walk = Walk {
+        state: [0; BYTES],
+        journal: [0; journal::SMALL],
+    };
+    walk.clear(&rt);
+    let _ = adapter::create(&mut walk.state, 0x00000A);
+    walk.bodies(&rt);
+    walk.spi(&rt);
+    walk.clear(&rt);
+    walk.ring(&rt);
+    // Two events of the small journal go over into a large one.
+    walk.upsets(&rt, 2);
+    let mut large = Walk {
+        state: walk.state,
+        journal: [0; journal::LARGE],
+    };
+    let mut short = [0u8; 16];
+    enlarge(&rt, &walk.journal, &mut short);
+    enlarge(&rt, &walk.journal, &mut large.journal);
+    enlarge(&rt, &large.journal, &mut short);
+    large.long_ring(&rt);
 }

@@ -1,6 +1,0 @@
--- `requests::upset` meets its contract. Assumes nothing.
-use Rattle.chip.proofs.Laws.{silently_said}
-use Rattle.exercise.proofs.requests.upset.Goals as goal
-
-pub returns : goal.returns
-returns g c = search silently_said

@@ -1,9 +1,0 @@
--- A turn for each upset.
-use Rattle.std.proofs.Common.{◌≤◌, ◌-◌}
-use Rattle.steps.proofs.upsets.Given as goal
-
-abbrev pub invariant-loop-i : goal.invariant-loop-i
-invariant-loop-i g l = l.i ≤ l.count
-
-abbrev pub decreases-loop-i : goal.decreases-loop-i
-decreases-loop-i g l = l.count - l.i
