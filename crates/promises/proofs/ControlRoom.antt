@@ -16,7 +16,6 @@ use Rattle.bits.specs.Bits.{digit}
 use Rattle.packets.specs.Packets.{request_body}
 use Rattle.parts.specs.Digits.{number as number_of}
 use Rattle.bits.proofs.Tests.{and_left, and_right, or_second, cond_cases}
-use Rattle.commands.specs.Channels.{channel_of}
 use Rattle.commands.proofs.Laws.{code_at_beyond, none_beyond, no_zero}
 use Rattle.link.specs.Link.{is_test}
 use Rattle.control_room.specs.Record.{record_size, number_at, frame_number, counted_up, command_at, is_listed, len_of, is_open, channel_in, command_in, is_open_to, opened, closed, free_trn, is_sound, are_sound, is_record}

@@ -53,7 +53,7 @@ use Rattle.channels.specs.Rows.{is_enabled, is_busy}
 use Rattle.channels.specs.Errors.{can_move, of_command, of_channel, decoded, error_of, first_error}
 use Rattle.channels.specs.Perform as perform
 use Rattle.channels.specs.Perform.{replied, performed}
-use Rattle.channels.proofs.Laws.{Own, SameOwn, own_read, others_stay, Sound, RequestBytes, Granted, granted_command, decoded_cases, kept_start}
+use Rattle.channels.proofs.Laws.{Own, own_read, others_stay, Sound, RequestBytes, Granted, granted_command, decoded_cases, kept_start}
 use Rattle.channels.proofs.Owners.{field_own}
 use Rattle.registers.proofs.Laws.{read_same}
 use Rattle.state.specs.State.{Adapter, with_link, with_registers, powered_on, power_on}

@@ -2,9 +2,9 @@
 -- stated with. Assumes nothing.
 use Prim.Native.Nat.{ℕ, ◌^◌, ◌<◌}
 use mathlib.Core.Bool.{true, false}
-use mathlib.Core.Path.{◌≡◌, refl, subst}
+use mathlib.Core.Path.{◌≡◌}
 use mathlib.Core.List.{List}
-use Rattle.std.specs.Prelude.{Option, Some, None, Result, Ok, Err}
+use Rattle.std.specs.Prelude.{Some, Result}
 use borrow.Author.Tests.{eq-eqb, eqb-true}
 use lib.Bits.{bit_or}
 use lib.Dec.{eqb}

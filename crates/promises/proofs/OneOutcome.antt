@@ -5,7 +5,6 @@ use mathlib.Core.List.{List}
 use Prim.Native.Nat.{ℕ}
 use Rattle.std.specs.Prelude.{Result}
 use Rattle.numbers.specs.declared.Refusal.{Refusal}
-use Rattle.receiver.specs.declared.Receiver.{Receiver}
 use Rattle.receiver.specs.declared.Reception.{Reception}
 use Rattle.parts.proofs.Outcome.{One, OneBeside}
 use Rattle.transmitter.proofs.Same.{sent_same}
@@ -14,7 +13,7 @@ use Rattle.receiver.proofs.Same.{received_same}
 use Rattle.receiver.proofs as receiver
 use Rattle.chip.specs.declared.Frame.{Frame}
 use Rattle.adapter.specs.declared.NoFrame.{NoFrame}
-use Rattle.adapter.specs.Answers.{number_after, answer_of, kept_number}
+use Rattle.adapter.specs.Answers.{number_after, answer_of}
 use Rattle.adapter.specs.Calls.{Made, made, Copied, copied, Outcome, outcome, Stepped, stepped}
 use Rattle.adapter.proofs as adapter
 use Rattle.control_room.specs.declared.Given.{Given}

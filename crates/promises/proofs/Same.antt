@@ -6,7 +6,7 @@ use native.Mathlib.Omega.{arith}
 use lib.Dec.{eqb, leb}
 use Rattle.std.specs.Prelude.{Result, Ok, Err}
 use Rattle.numbers.specs.Numbers as number
-use Rattle.numbers.specs.Answers.{refusal_number, silence_number}
+use Rattle.numbers.specs.Answers.{refusal_number}
 use Rattle.numbers.specs.declared.Refusal.{Refusal}
 use Rattle.numbers.specs.declared.Refusal.TheVariants.{ShortOutput, BadBody, BadArgument, BadJournal, NoneKept, BadState, BadId, LongInput, BadStart}
 use Rattle.numbers.specs.declared.Refusal.TheVariants.{Unreadable, AllOpen, NoMatch, BadReply, NoCommand}
