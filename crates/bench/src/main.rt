@@ -49,7 +49,8 @@ fn finish(
     journal: &mut [u8],
     line: &mut [u8; LINE_ROOM],
     out: &mut [u8; OUTPUT_ROOM],
-) requires { held ≤ 81 }
+)
+    requires { held ≤ 81 }
 {
     let fed = player::finish(state, held, journal, line, out);
     flush(rt, &out[..fed.next]);

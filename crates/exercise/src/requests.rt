@@ -74,7 +74,15 @@ impl Chip {
     {
         let mut output = [0u8; 16];
         let link = self.link;
-        let r = events::on_i2c(link, &mut self.registers, 0x0A, acknowledge, low, received, &mut output);
+        let r = events::on_i2c(
+            link,
+            &mut self.registers,
+            0x0A,
+            acknowledge,
+            low,
+            received,
+            &mut output,
+        );
         self.link = r.link;
         show(rt, r.answer, &output);
     }

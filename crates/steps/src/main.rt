@@ -59,7 +59,12 @@ impl<const N: usize> Walk<N> {
 
     fn completion(&mut self, rt: &impl Print, byte: u8) {
         let mut output = [0u8; 16];
-        let answer = adapter::completion(&mut self.state, &mut self.journal, &[byte; 16], &mut output);
+        let answer = adapter::completion(
+            &mut self.state,
+            &mut self.journal,
+            &[byte; 16],
+            &mut output,
+        );
         show(rt, answer, &self.journal, &output);
     }
 
@@ -116,9 +121,17 @@ impl<const N: usize> Walk<N> {
         let n = first % 8;
         let t = trn % 128;
         self.frame(rt, 0, &[0x00, n * 2, t, 0x01, 6, 0x40, 0, 0, length, 0]);
-        self.frame(rt, 0, &[0x00, (n + 1) % 8 * 2, t + 1, 0x01, 2, 0x72, 0, 0, 0, 0]);
+        self.frame(
+            rt,
+            0,
+            &[0x00, (n + 1) % 8 * 2, t + 1, 0x01, 2, 0x72, 0, 0, 0, 0],
+        );
         self.completion(rt, byte);
-        self.frame(rt, 0, &[0x00, (n + 2) % 8 * 2, t + 2, 0x01, 2, 0x31, 0, 0, 0, 0]);
+        self.frame(
+            rt,
+            0,
+            &[0x00, (n + 2) % 8 * 2, t + 2, 0x01, 2, 0x31, 0, 0, 0, 0],
+        );
     }
 
     fn spi(&mut self, rt: &impl Print) {
