@@ -162,6 +162,7 @@ fn transact(
 }
 
 // The completion of one named I2C channel.
+// Kept: a struct of channel, acknowledge, low and received is no plainer, as `i2c::end` takes them one by one.
 #[tactic(auto, unfolding(crate::specs::Chip::reaction, crate::specs::Chip::on_i2c))]
 pub fn on_i2c(
     link: Link,

@@ -12,9 +12,11 @@ use registers::SIZE;
 fn show(rt: &impl Print, r: Response, output: [u8; 16]) -> Link
     ensures { result ≡ r.link }
 {
-    print::line(rt, r.number, r.length, output);
-    let after = r.link;
-    after
+    match r.answer {
+        Ok(frame) => print::line(rt, 0, frame.length, output),
+        Err(why) => print::line(rt, why.into(), 0, output),
+    }
+    r.link
 }
 
 pub(crate) fn frame(

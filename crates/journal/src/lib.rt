@@ -183,6 +183,7 @@ fn header_of(j: &[u8]) -> Header
 }
 
 // Keeps of a state what an event of this group may change: the record is made in the slot after the newest.
+// Kept: journal and state are lent slices (C interface); that they are well formed is proved once for a call, by adapter's judge.
 #[tactic(auto, using(crate::proofs::Ring::formed))]
 pub fn keep(j: &mut [u8], s: &[u8], group: Option<Control>)
     requires j_value { well_formed j.old ≡ true }
