@@ -38,9 +38,8 @@ pub(crate) fn completion(
     rt: &impl Print,
     l: Link,
     registers: &mut [u8; SIZE],
-    received: &[u8],
+    received: &[u8; 16],
 ) -> Link
-    requires { length received.now ≡ 16 }
     ensures { adapter result registers.new ≡ (reaction (adapter l registers.old) (Event.completion (Completion.spi received.now))).adapter }
 {
     let mut output = [0u8; 16];
