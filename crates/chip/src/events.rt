@@ -33,6 +33,9 @@ const FIRST_MASTER: u8 = 0x03;
 // The bytes of a body that carries a request.
 const REQUEST_BODY: usize = 10;
 
+// Kept: an output has 16 bytes or more, for a sample 10 or more, which no array type says; in a struct with it each contract would also need a clause
+// that the buffer is the same one, as listing::answer::Text shows.
+
 // A frame body on a port.
 #[tactic(auto, unfolding(crate::specs::Chip::reaction))]
 pub fn on_frame(

@@ -136,6 +136,8 @@ fn read(record: &mut [u8; record::BYTES], body: &[u8], output: &mut [u8]) -> Res
     })
 }
 
+// Kept: request, reply and command begin with the same two lines; with what comes after them as a closure they would be longer.
+
 // Reads the body of a reply or of an interrupt.
 #[tactic(auto, unfolding(crate::specs::Calls::reply_read), using(crate::proofs::Cases::no_record))]
 pub fn reply(transactions: &mut [u8], body: &[u8], output: &mut [u8]) -> Result<Given, Refusal>

@@ -5,7 +5,7 @@
 ghost use Rattle.std.specs.Prelude.{◌≡◌};
 ghost use Rattle.numbers.specs.Answers.{refusal_number, silence_number, drop_number};
 
-// A frame was read or sent; or the control room wrote or read a body.
+// A frame was read or sent; or the control room wrote or read a body. Kept as a number: it is no variant of a refusal, a silence or a drop.
 pub const HAS_FRAME: u8 = 0;
 
 // Why a call is refused.

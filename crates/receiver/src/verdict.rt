@@ -19,6 +19,8 @@ const CONTENT_MOST: u8 = 144;
 // What a good frame leaves in the check register.
 const RESIDUE: u16 = 0xF0B8;
 
+// Kept: as Receiver::new with two other numbers; one function of mode and ones would only move the numbers to its callers.
+
 // Just after a flag.
 #[tactic(auto, unfolding(wire::specs::Bits::pack, wire::specs::Bits::octets, wire::specs::Bits::num))]
 fn at_opening() -> Receiver
