@@ -173,6 +173,7 @@ pub fn sca_enlarge(journal: &[u8], second: &mut [u8]) -> u64
     pack_done(adapter::enlarge(journal, second))
 }
 
+// Kept: a call for each export, one line each, since the C interface wants them.
 // A frame body on a port.
 pub fn sca_frame(
     state: &mut [u8],
