@@ -5,5 +5,6 @@ pub mod Bodies
 pub mod Good
 pub mod Outside
 pub mod Laws
+pub mod Same
 pub mod OneOutcome
 pub mod Examples

@@ -33,7 +33,6 @@ pub mod Sent
 pub mod AnyReceiver
 pub mod Fcs
 pub mod Frames
-pub mod Same
 pub mod OneOutcome
 pub mod Called
 pub mod Calls

@@ -1,24 +1,23 @@
--- Two answers of code that stand for one answer of the documents are the same answer, of every delivered call; what `OneOutcome` is proved with.
+-- Two answers of code that stand for one answer of the documents are the same answer; what `OneOutcome` is proved with.
 use Prim.Native.Nat.{ℕ}
-use mathlib.Core.Bool.{Bool, cond, ◌&&◌}
+use mathlib.Core.Bool.{cond, ◌&&◌}
 use mathlib.Core.Path.{◌≡◌, refl, sym, ap, ◌∙◌}
 use native.Mathlib.Omega.{arith}
-use lib.Dec.{eqb, leb}
+use lib.Dec.{leb}
 use Rattle.std.specs.Prelude.{Result, Ok, Err}
 use Rattle.numbers.specs.Numbers as number
 use Rattle.numbers.specs.Answers.{refusal_number}
 use Rattle.numbers.specs.declared.Refusal.{Refusal}
 use Rattle.numbers.specs.declared.Refusal.TheVariants.{ShortOutput, BadBody, BadArgument, BadJournal, NoneKept, BadState, BadId, LongInput, BadStart}
 use Rattle.numbers.specs.declared.Refusal.TheVariants.{Unreadable, AllOpen, NoMatch, BadReply, NoCommand}
-use Rattle.numbers.specs.declared.Silence.{Silence}
 use Rattle.numbers.specs.declared.Silence.TheVariants.{OtherAddress, OtherPort, OtherControl, BadInformation, NotBusy, LinesDisabled, NoFrame as Quiet}
-use Rattle.numbers.proofs.Same.{refusal_of, refusal_back, refusal_same, refusal_some}
+use Rattle.numbers.proofs.Same.{refusal_of, refusal_back, refusal_same}
 use Rattle.chip.specs.declared.Frame.{Frame}
+use Rattle.chip.proofs.Same.{silence_of, frame_same}
 use Rattle.adapter.specs.declared.NoFrame.{NoFrame}
 use Rattle.adapter.specs.declared.NoFrame.TheVariants.{Refused, Silent}
-use Rattle.adapter.specs.Answers.{Answer, KeptNumber, number_after, no_frame_number, answer_of, kept_number}
-use Rattle.control_room.specs.declared.Given.{Given}
-use Rattle.control_room.specs.Given as room
+use Rattle.adapter.specs.Answers.{Answer, KeptNumber, Verdict, number_after, no_frame_number, answer_of, kept_number, verdict_of}
+use Rattle.adapter.specs.Answers as verdicts
 
 -- ---- a call that answers nothing but whether it is done, and one that answers the kept number: no refusal is 17
 
@@ -36,12 +35,6 @@ done_same (Ok m) (Err s) e = absurd (never_17 s (sym e))
 done_same (Err r) (Ok n) e = absurd (never_17 r e)
 done_same (Err r) (Err s) e = refused_same r s e
 
-pub made_same : (x y : Result Unit Refusal) → room.number_after x ≡ room.number_after y → x ≡ y
-made_same (Ok m) (Ok n) e = refl
-made_same (Ok m) (Err s) e = absurd (never_17 s (sym e))
-made_same (Err r) (Ok n) e = absurd (never_17 r e)
-made_same (Err r) (Err s) e = refused_same r s e
-
 pub kept_same : (x y : Result ℕ Refusal) → kept_number x ≡ kept_number y → x ≡ y
 kept_same (Ok m) (Ok n) e = ap (λ (k : KeptNumber). let x : Result ℕ Refusal = Ok k.kept in x) e
 kept_same (Ok m) (Err s) e = absurd (never_17 s (sym (ap (λ (k : KeptNumber). k.number) e)))
@@ -50,19 +43,10 @@ kept_same (Err r) (Err s) e = refused_same r s (ap (λ (k : KeptNumber). k.numbe
 
 -- ---- an event: no refusal's number is a silence's
 
-abbrev silence_of : ℕ → Silence
-silence_of n =
-    cond (eqb n number.other_address) OtherAddress
-    (cond (eqb n number.other_port) OtherPort
-    (cond (eqb n number.other_control) OtherControl
-    (cond (eqb n number.bad_information) BadInformation
-    (cond (eqb n number.not_busy) NotBusy
-    (cond (eqb n number.lines_disabled) LinesDisabled Quiet)))))
-
-abbrev no_frame_of : ℕ → NoFrame
+abbrev pub no_frame_of : ℕ → NoFrame
 no_frame_of n = cond (leb number.other_address n && leb n number.no_frame) (Silent (silence_of n)) (Refused (refusal_of n))
 
-no_frame_back : (e : NoFrame) → no_frame_of (no_frame_number e) ≡ e
+pub no_frame_back : (e : NoFrame) → no_frame_of (no_frame_number e) ≡ e
 no_frame_back (Refused ShortOutput) = refl
 no_frame_back (Refused BadBody) = refl
 no_frame_back (Refused BadArgument) = refl
@@ -85,13 +69,10 @@ no_frame_back (Silent NotBusy) = refl
 no_frame_back (Silent LinesDisabled) = refl
 no_frame_back (Silent Quiet) = refl
 
-never_0 : (e : NoFrame) → no_frame_number e ≡ number.has_frame → ⊥
+pub never_0 : (e : NoFrame) → no_frame_number e ≡ number.has_frame → ⊥
 never_0 e z =
     let n : no_frame_number e ≡ number.no_command = ap no_frame_number (sym (no_frame_back e) ∙ ap no_frame_of z) in
     omega (arith, z, n)
-
-frame_same : {p q m n : ℕ} → p ≡ q → m ≡ n → ◌≡◌ {A = Frame} (record { port = p; length = m }) (record { port = q; length = n })
-frame_same e f = cc
 
 pub answer_same : (x y : Result Frame NoFrame) → answer_of x ≡ answer_of y → x ≡ y
 answer_same (Ok f) (Ok g) e =
@@ -102,15 +83,15 @@ answer_same (Err r) (Err s) e =
     ap (λ (b : NoFrame). let x : Result Frame NoFrame = Err b in x)
     (sym (no_frame_back r) ∙ ap (λ (a : Answer). no_frame_of a.number) e ∙ no_frame_back s)
 
--- ---- the control room
+-- ---- what refuses a call
 
-told_same : {m n : ℕ} {t u : Bool} → m ≡ n → t ≡ u → ◌≡◌ {A = Given} (record { length = m; interrupt = t }) (record { length = n; interrupt = u })
-told_same e f = cc
+number_in : Verdict → ℕ
+number_in verdicts.Passed = 0
+number_in (verdicts.Refused n) = n
 
-pub given_same : (x y : Result Given Refusal) → room.given_of x ≡ room.given_of y → x ≡ y
-given_same (Ok g) (Ok h) e =
-    ap (λ (k : Given). let x : Result Given Refusal = Ok k in x)
-    (told_same (ap (λ (k : room.Given). k.length) e) (ap (λ (k : room.Given). k.interrupt) e))
-given_same (Ok g) (Err s) e = absurd (omega (arith, refusal_some s, ap (λ (k : room.Given). k.number) e))
-given_same (Err r) (Ok h) e = absurd (omega (arith, refusal_some r, ap (λ (k : room.Given). k.number) e))
-given_same (Err r) (Err s) e = refused_same r s (ap (λ (k : room.Given). k.number) e)
+pub verdict_same : (x y : Result Unit Refusal) → verdict_of x ≡ verdict_of y → x ≡ y
+unfolding number_in
+verdict_same (Ok m) (Ok n) e = refl
+verdict_same (Ok m) (Err s) e = absurd (never_0 (Refused s) (sym (ap number_in e)))
+verdict_same (Err r) (Ok n) e = absurd (never_0 (Refused r) (ap number_in e))
+verdict_same (Err r) (Err s) e = refused_same r s (ap number_in e)
