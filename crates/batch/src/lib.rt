@@ -75,12 +75,7 @@ fn step(
 }
 
 // The samples of a batch that nothing refuses, one by one.
-fn give(
-    state: &mut [u8; BYTES],
-    journal: &mut [u8],
-    list: &[Sample],
-    output: &mut [u8],
-) -> Batch
+fn give(state: &mut [u8; BYTES], journal: &mut [u8], list: &[Sample], output: &mut [u8]) -> Batch
     requires { Fine journal.old list.now output.old }
     ensures { going state.new journal.new output.new result ≡ fold given (going state.old journal.old output.old nothing_sent) list.now }
 {

@@ -4,4 +4,6 @@ use Rattle.adapter.proofs.Cases.{created_in}
 use Rattle.adapter.proofs.create.Goals as goal
 
 pub returns : goal.returns
-returns c = created_in c.args.state.now c.args.id (search rules) (search rules) c.split_at_mut-registers.result.0.now c.power_on.new.registers _ c.fresh.result (search rules) (search rules) (search rules) c.store_link.ensures
+returns c =
+    created_in c.args.state.now c.args.id (search rules) (search rules) c.split_at_mut-registers.result.0.now _ _ _ (search rules) c.power_on.ensures
+    (search rules) c.store_link.ensures
