@@ -1,11 +1,11 @@
 -- What each call gives and leaves, case by case. Assumes nothing.
-use Prim.Native.Nat.{ℕ, ◌+◌, ◌-◌, ◌≤◌, ◌<◌}
+use Prim.Native.Nat.{ℕ, ◌≤◌, ◌<◌}
 use mathlib.Core.Path.{◌≡◌, refl, sym, ap, ap₂, ◌∙◌}
 use mathlib.Core.Bool.{Bool, true, false, not, cond, ◌&&◌, ◌||◌, true≢false}
 use mathlib.Core.List.{List, ◌++◌}
 use native.Mathlib.Omega.{arith}
-use lib.ListN.{length, take, drop, length-drop, drop_of_length-le}
-use lib.Seq.{take_all}
+use lib.ListN.{length, take, drop, length-drop}
+use lib.Seq.{take_all, drop_at}
 use lib.Dec.{leb, ltb, lit<}
 use borrow.Author.Tests.{eq-eqb, ne_eqb, le-ltb, ltb-false, leb-true, eqb-true, not-false}
 use Rattle.std.specs.Prelude.{Result, Ok, Err, IsErrAnd}
@@ -36,20 +36,18 @@ use Rattle.adapter.specs.Calls.{made, created, outcome, shown, recorded, done, S
 
 -- ---- a state's bytes, part by part
 
--- the link over the bytes that stand before the registers, and the registers
-anew : (s f g rs : List ℕ) (l : Link) → length s ≡ state_size → length f + size ≡ length s → g ≡ put 0 (link_image l) f → g ++ rs ≡ state_bytes (adapter l rs)
+-- the link over the bytes that stand before the registers
+anew : (f rs u : List ℕ) (l : Link) → length f ≡ link_bytes → u ≡ put 0 (link_image l) (f ++ rs) → u ≡ state_bytes (adapter l rs)
 unfolding state_bytes put
-anew s f g rs l n m e =
-    let z : length f ≤ link_bytes = omega arith in
-    rw e (ap (λ (t : List ℕ). (link_image l ++ t) ++ rs) (drop_of_length-le f z))
+anew f rs u l n e = e ∙ ap (λ (t : List ℕ). link_image l ++ t) (drop_at f rs link_bytes n)
 
 -- ---- creation
 
 module _ (s : List ℕ) (id : ℕ) where
-  pub created_in : length s ≡ state_size → id ≤ id_most → (f : List ℕ) → length f + size ≡ length s → (g rs : List ℕ) (l : Link) → rs ≡ blank id
-      → l ≡ fresh_link 0 → g ≡ put 0 (link_image l) f → made no_frame (g ++ rs) ≡ created s id
+  pub created_in : length s ≡ state_size → id ≤ id_most → (f rs u : List ℕ) (l : Link) → length f ≡ link_bytes → rs ≡ blank id
+      → l ≡ fresh_link 0 → u ≡ put 0 (link_image l) (f ++ rs) → made no_frame u ≡ created s id
   unfolding created powered_on
-  created_in n h f m g rs l e d i = rw (anew s f g rs l n m i, d, e) (simp (eq-eqb (length s) state_size n, le-ltb id_most id h))
+  created_in n h f rs u l m e d i = rw (anew f rs u l m i, d, e) (simp (eq-eqb (length s) state_size n, le-ltb id_most id h))
 
 -- ---- a journal that is well formed has a header
 
@@ -58,32 +56,31 @@ has_kept j w = in_journal j 6 w (lit< tt)
 
 -- ---- an event on a state's bytes: its record, the chip's reaction to link and registers, and the link stored
 
-module _ (s : List ℕ) (n : length s ≡ state_size) (e : Event) (l : Link) (d : l ≡ link_of s) (r : Response) (f t g rs : List ℕ)
-    (m : length f + size ≡ length s) (u : t ≡ drop (length s - size) s) (v : g ≡ put 0 (link_image r.link) f)
+module _ (s : List ℕ) (n : length s ≡ state_size) (e : Event) (l : Link) (d : l ≡ link_of s) (r : Response) (f t rs u : List ℕ)
+    (m : length f ≡ link_bytes) (b : t ≡ drop link_bytes s) (v : u ≡ put 0 (link_image r.link) (f ++ rs))
     (o p : List ℕ) (h : said r rs p ≡ says (reaction (adapter l t) e) o)
     (j k : List ℕ) (w : k ≡ recorded s e j) where
   lent : t ≡ take size (drop link_bytes s)
   lent =
-      let z : length s - size ≡ link_bytes = omega arith in
       let y : length (drop link_bytes s) ≤ size = rw (length-drop link_bytes s) (omega arith) in
-      u ∙ rw z (sym (take_all size (drop link_bytes s) y))
+      b ∙ sym (take_all size (drop link_bytes s) y)
 
-  happens : outcome (shown (answered r)) (g ++ rs) k p ≡ done s j e o
+  happens : outcome (shown (answered r)) u k p ≡ done s j e o
   unfolding state_in part done
   happens =
-      rw (w, anew s f g rs r.link n m v)
+      rw (w, anew f rs u r.link m v)
       (ap (λ (y : Said). outcome (shown y.response) (state_bytes (adapter y.response.link y.registers)) (recorded s e j) y.output)
       (h ∙ ap₂ (λ (x : Link) (y : List ℕ). says (reaction (adapter x y) e) o) d lent))
 
-  pub sends_frame : (y : Frame) → r.answer ≡ Ok y → outcome (answer_of (Ok y)) (g ++ rs) k p ≡ done s j e o
-  sends_frame y q = ap (λ (a : Result Frame Silence). outcome (shown (answered (record { link = r.link; answer = a }))) (g ++ rs) k p) (sym q) ∙ happens
+  pub sends_frame : (y : Frame) → r.answer ≡ Ok y → outcome (answer_of (Ok y)) u k p ≡ done s j e o
+  sends_frame y q = ap (λ (a : Result Frame Silence). outcome (shown (answered (record { link = r.link; answer = a }))) u k p) (sym q) ∙ happens
 
   pub stays_silent : (y : Silence) (a : Result Frame NoFrame) → r.answer ≡ Err y → IsErrAnd a (λ e. e ≡ Silent y)
-      → outcome (answer_of a) (g ++ rs) k p ≡ done s j e o
+      → outcome (answer_of a) u k p ≡ done s j e o
   stays_silent y (Ok x) q z = absurd z
   stays_silent y (Err x) q z =
       rw z
-      (ap (λ (a : Result Frame Silence). outcome (shown (answered (record { link = r.link; answer = a }))) (g ++ rs) k p) (sym q) ∙ happens)
+      (ap (λ (a : Result Frame Silence). outcome (shown (answered (record { link = r.link; answer = a }))) u k p) (sym q) ∙ happens)
 
 -- ---- an event's call
 
@@ -144,8 +141,11 @@ module _ (s j o : List ℕ) (e : Event) (h : Passed ≡ in_order (not (is_state 
   all : Passing s j e o
   all = passing s j e o Passed h refl
 
-  pub passed_lent : (well_formed j ≡ true) × (length s ≡ state_size)
-  passed_lent = (all.formed, its_length s all.state)
+  pub passed_formed : well_formed j ≡ true
+  passed_formed = all.formed
+
+  pub passed_length : length s ≡ state_size
+  passed_length = its_length s all.state
 
   pub passed_room : room_for e ≤ length o
   passed_room = by e
@@ -168,7 +168,7 @@ module _ (s j o : List ℕ) (e : Event) (h : Passed ≡ in_order (not (is_state 
       by (sample levels kind) g b = let p = ltb-false 2 kind g in omega arith
       by upset g b = tt
 
-pub ruleset passed = (passed_lent, passed_room, passed_fits)
+pub ruleset passed = (passed_formed, passed_length, passed_room, passed_fits)
 
 -- ---- a step back
 

@@ -3,7 +3,6 @@
 ghost use Rattle.std.specs.Prelude.{◌≡◌, true, ◌≤◌, length};
 ghost use Rattle.numbers.specs.Numbers.{reply_bytes};
 ghost use Rattle.state.specs.State.{adapter};
-ghost use Rattle.state.specs.Bytes.{state_size};
 ghost use Rattle.chip.specs.Event as chip;
 ghost use Rattle.chip.specs.Chip.{reaction, accepted_reset};
 ghost use Rattle.chip.specs.Group.{group_of};
@@ -20,6 +19,7 @@ use commands::command::Control;
 use link::Link;
 use numbers::{BODY_LEAST, BODY_MOST, I2C_MOST, TRANSFER_BYTES};
 use registers::SIZE;
+use state::{BYTES, LINK};
 
 // The first and the last I2C channel.
 const FIRST_MASTER: u32 = 0x03;
@@ -144,9 +144,8 @@ fn react(link: Link, registers: &mut [u8; SIZE], event: Event, output: &mut [u8]
 // The record of an event that happens to a state joins the journal; an accepted RESET empties it.
 #[tactic(auto, using(journal::proofs::Ring::size_in), unfolding(journal::specs::Record::before))]
 #[inline(always)]
-fn record_event(journal: &mut [u8], state: &[u8], event: Event)
+fn record_event(journal: &mut [u8], state: &[u8; BYTES], event: Event)
     requires journal_value { well_formed journal.old ≡ true }
-    requires state_len { length state.now ≡ state_size }
     requires fits { Fits (event_of event) }
     ensures { journal.new ≡ recorded state.now (event_of event.entry) journal.old }
 {
@@ -160,35 +159,36 @@ fn record_event(journal: &mut [u8], state: &[u8], event: Event)
 // An event that nothing refuses: its record, its answer, and the link that the chip gives back.
 #[inline(always)]
 pub(crate) fn happen(
-    state: &mut [u8],
+    state: &mut [u8; BYTES],
     journal: &mut [u8],
     event: Event,
     output: &mut [u8],
 ) -> Result<Frame, NoFrame>
-    requires lent { (well_formed journal.old ≡ true) × (length state.old ≡ state_size) }
+    requires journal_value { well_formed journal.old ≡ true }
     requires fits { Fits (event_of event) }
     requires room { room_for (event_of event) ≤ length output.old }
     ensures { outcome (answer_of result) state.new journal.new output.new ≡ done state.old journal.old (event_of event.entry) output.old }
 {
     record_event(journal, state, event);
     let link = state::link_of(state);
-    let Some((front, registers)) = state.split_last_chunk_mut::<SIZE>() else {
+    let (_, registers) = state.split_at_mut(LINK);
+    let Some(registers) = registers.as_mut_array() else {
         unreachable!()
     };
     let response = react(link, registers, event, output);
-    state::store_link(front, response.link);
+    state::store_link(state, response.link);
     Ok(response.answer?)
 }
 
 // A pin sample, in an output with room for an interrupt.
 pub fn sample(
-    state: &mut [u8],
+    state: &mut [u8; BYTES],
     journal: &mut [u8],
     levels: u32,
     kind: u8,
     output: &mut [u8],
 ) -> Result<Frame, NoFrame>
-    requires journal_value { (well_formed journal.old ≡ true) × (length state.old ≡ state_size) }
+    requires journal_value { well_formed journal.old ≡ true }
     requires reply_bytes_in_bounds { reply_bytes ≤ length output.old }
     ensures { outcome (answer_of result) state.new journal.new output.new ≡ done state.old journal.old (chip.Event.sample levels kind) output.old }
 {

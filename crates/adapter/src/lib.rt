@@ -16,8 +16,7 @@ ghost use Rattle.adapter.specs.Calls.{made, created, made_empty, kept_in, copied
 
 use chip::Frame;
 use numbers::{ID_MOST, OUTPUT_LEAST, Refusal, Silence};
-use registers::SIZE;
-use state::BYTES;
+use state::{BYTES, LINK};
 
 // Why a call sends no frame: it is refused, or what it did sends none.
 #[derive(Clone, Copy, Debug, PartialEq, Eq)]
@@ -58,17 +57,16 @@ impl From<NoFrame> for u8 {
 pub fn create(state: &mut [u8], id: u32) -> Result<(), Refusal>
     ensures { made (number_after result) state.new ≡ created state.old id }
 {
-    if state.len() != BYTES {
-        return Err(Refusal::BadState);
-    }
+    let state: &mut [u8; BYTES] = state.as_mut_array().ok_or(Refusal::BadState)?;
     if ID_MOST < id {
         return Err(Refusal::BadId);
     }
-    let Some((front, registers)) = state.split_last_chunk_mut::<SIZE>() else {
+    let (_, registers) = state.split_at_mut(LINK);
+    let Some(registers) = registers.as_mut_array() else {
         unreachable!()
     };
     state::power_on(registers, id);
-    state::store_link(front, link::fresh(0));
+    state::store_link(state, link::fresh(0));
     Ok(())
 }
 
@@ -158,6 +156,9 @@ fn call(
         event.has_wrong_argument(),
         event.has_wrong_body(),
     )?;
+    let Some(state) = state.as_mut_array() else {
+        unreachable!()
+    };
     events::happen(state, journal, event, output)
 }
 
@@ -241,6 +242,9 @@ pub fn step_back(state: &mut [u8], journal: &mut [u8]) -> Result<(), Refusal>
     if journal[journal::KEPT] == 0 {
         return Err(Refusal::NoneKept);
     }
+    let Some(state) = state.as_mut_array() else {
+        unreachable!()
+    };
     if !journal::restore(journal, state) {
         return Err(Refusal::BadJournal);
     }

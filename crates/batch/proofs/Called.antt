@@ -4,17 +4,20 @@ use mathlib.Core.Path.{◌≡◌, refl, sym, subst}
 use mathlib.Core.Bool.{Bool, true, false, not, ◌||◌}
 use mathlib.Core.List.{List, flatten}
 use native.Mathlib.Omega.{arith}
-use lib.Dec.{eqb}
+use lib.ListN.{length}
+use lib.Dec.{eqb, ltb}
 use borrow.Author.Tests.{ltb-false, eqb-false}
 use Rattle.std.specs.List.{fold}
+use Rattle.numbers.specs.Numbers.{samples_most, batch_least}
 use Rattle.parts.proofs.Laws.{put_none}
-use Rattle.state.specs.Bytes.{link_of}
+use Rattle.state.specs.Bytes.{state_size, link_of, is_state}
+use Rattle.journal.specs.Layout.{well_formed}
 use Rattle.state.proofs.Spelling.{its_length}
 use Rattle.adapter.specs.Answers.{Refused, Passed}
 use Rattle.adapter.specs.Refusals.{in_order}
 use Rattle.batch.specs.declared.Sample.{Sample}
 use Rattle.batch.specs.declared.Batch as sent
-use Rattle.batch.specs.Batch.{Batch, outset, one_by_one, lines_in, reported, bare, verdict, outcome, called}
+use Rattle.batch.specs.Batch.{Batch, some_wrong, outset, one_by_one, lines_in, reported, bare, verdict, outcome, called}
 use Rattle.batch.specs.Inner.{Fine, nothing_sent, going, given}
 use Rattle.batch.proofs.Course.{Stands, stands}
 
@@ -49,17 +52,27 @@ module _ (s j : List ℕ) (list : List Sample) (o : List ℕ) where
   refused n e = rw e refl
 
   module _ (e : verdict s j list o ≡ Passed) where
-    pub fine : Fine s j list o
-    fine =
-        let f = by_order _ _ _ _ _ e in
-        record { spelled = its_length s f.0; formed = f.1; roomy = ltb-false _ _ f.2; few = ltb-false _ _ f.3; kinds = f.4 }
+    unrefused : (is_state s ≡ true) × (well_formed j ≡ true) × (ltb (length o) batch_least ≡ false) × (ltb samples_most (length list) ≡ false)
+        × (some_wrong list ≡ false)
+    unrefused = by_order _ _ _ _ _ e
 
-    module _ (s' j' o' : List ℕ) (b : sent.Batch) (g : going s' j' o' b ≡ fold given (going s j o nothing_sent) list) where
+    pub long : length s ≡ state_size
+    long = its_length s unrefused.0
+
+    pub fine : Fine j list o
+    fine =
+        let f = unrefused in
+        record { formed = f.1; roomy = ltb-false _ _ f.2; few = ltb-false _ _ f.3; kinds = f.4 }
+
+    module _ (t s' j' o' : List ℕ) (b : sent.Batch) (z : t ≡ s) (g : going s' j' o' b ≡ fold given (going t j o nothing_sent) list) where
       abbrev active : ℕ
       active = (link_of s).port
 
+      given_here : going s' j' o' b ≡ fold given (going s j o nothing_sent) list
+      given_here = rw z at g
+
       end : Stands active o (one_by_one s j list) (going s' j' o' b)
-      end = subst (Stands active o (one_by_one s j list)) (sym g) (stands active o (outset s j) (going s j o nothing_sent) list (at_outset s j o) (omega (arith, fine)))
+      end = subst (Stands active o (one_by_one s j list)) (sym given_here) (stands active o (outset s j) (going s j o nothing_sent) list (at_outset s j o) (omega (arith, fine)))
 
       -- the port is told only with a frame
       told : (t : Bool) → eqb b.frames 0 ≡ t → reported b.port b.frames b.sum ≡ reported active b.frames b.sum

@@ -4,7 +4,6 @@ use Rattle.std.specs.Int.Count.{ones}
 use Rattle.numbers.specs.Numbers.{has_frame, reply_bytes, samples_most, batch_least}
 use Rattle.parts.specs.Parts.{part, put}
 use Rattle.packets.specs.Packets.{data_of}
-use Rattle.state.specs.Bytes.{state_size}
 use Rattle.journal.specs.Layout.{well_formed}
 use Rattle.adapter.specs.Calls.{Outcome, done}
 use Rattle.batch.specs.declared.Sample.{Sample}
@@ -12,8 +11,7 @@ use Rattle.batch.specs.declared.Batch.{Batch}
 use Rattle.batch.specs.Batch.{event_of, some_wrong}
 
 -- what nothing refuses
-pub record Fine (s journal : List ℕ) (list : List Sample) (output : List ℕ) : Type 0 where
-  pub spelled : length s ≡ state_size
+pub record Fine (journal : List ℕ) (list : List Sample) (output : List ℕ) : Type 0 where
   pub formed : well_formed journal ≡ true
   pub roomy : batch_least ≤ length output
   pub few : length list ≤ samples_most
@@ -38,8 +36,7 @@ abbrev pub most_before : ℕ
 most_before = 32 * 255
 
 -- what a sample can rely on
-pub record Ready (s journal output : List ℕ) (b : Batch) : Type 0 where
-  pub spelled : length s ≡ state_size
+pub record Ready (journal output : List ℕ) (b : Batch) : Type 0 where
   pub formed : well_formed journal ≡ true
   pub room : reply_bytes * b.frames + reply_bytes ≤ length output
   pub few : b.frames < samples_most

@@ -11,6 +11,7 @@ ghost use Rattle.batch.specs.Inner.{nothing_sent, going, given, Fine, Ready, Giv
 
 use adapter::{NoFrame, events};
 use numbers::{BATCH_LEAST, REPLY_BYTES, SAMPLES_MOST, Silence};
+use state::BYTES;
 
 // What a logic probe saw: the levels of the 32 lines, and the edge kind.
 #[repr(C)]
@@ -51,8 +52,14 @@ fn lines_of(body: &[u8]) -> u16
 }
 
 // One sample to the chip, an event of its own. The body that it sends stands behind those before.
-fn step(state: &mut [u8], journal: &mut [u8], output: &mut [u8], sent: Batch, s: Sample) -> Batch
-    requires { Ready state.old journal.old output.old sent × (s.kind ≤ 2) }
+fn step(
+    state: &mut [u8; BYTES],
+    journal: &mut [u8],
+    output: &mut [u8],
+    sent: Batch,
+    s: Sample,
+) -> Batch
+    requires { Ready journal.old output.old sent × (s.kind ≤ 2) }
     ensures { Given state.old journal.old output.old sent s state.new journal.new output.new result }
 {
     let first = REPLY_BYTES * usize::from(sent.frames);
@@ -68,8 +75,8 @@ fn step(state: &mut [u8], journal: &mut [u8], output: &mut [u8], sent: Batch, s:
 }
 
 // The samples of a batch that nothing refuses, one by one.
-fn give(state: &mut [u8], journal: &mut [u8], list: &[Sample], output: &mut [u8]) -> Batch
-    requires { Fine state.old journal.old list.now output.old }
+fn give(state: &mut [u8; BYTES], journal: &mut [u8], list: &[Sample], output: &mut [u8]) -> Batch
+    requires { Fine journal.old list.now output.old }
     ensures { going state.new journal.new output.new result ≡ fold given (going state.old journal.old output.old nothing_sent) list.now }
 {
     let mut sent = Batch {
@@ -109,5 +116,8 @@ pub fn samples(
         is_wrong(list),
         false,
     )?;
+    let Some(state) = state.as_mut_array() else {
+        unreachable!()
+    };
     finished(give(state, journal, list, output))
 }

@@ -6,13 +6,13 @@ mod records;
 
 ghost use Rattle.std.specs.Prelude.{◌≡◌, true, false, cond, ◌+◌, ◌-◌, ◌%◌, ◌<◌, ◌≤◌, length};
 ghost use Rattle.parts.specs.Parts.{put};
-ghost use Rattle.state.specs.Bytes.{state_size};
 ghost use Rattle.journal.specs.Layout.{header_bytes, slots_of, wrong_length, first_of, kept_of, well_formed, is_small, place_of, past};
 ghost use Rattle.journal.specs.Layout.{headed, emptied, first_after, kept_up, pushed, lowered, oldest, enlarged};
 ghost use Rattle.journal.specs.Inner.{format_in};
 ghost use Rattle.journal.specs.Record.{kept_for, restored, sound};
 
 use commands::command::Control;
+use state::BYTES;
 
 // The bytes of a small journal and of a large one.
 pub const SMALL: usize = 17408;
@@ -185,9 +185,8 @@ fn header_of(j: &[u8]) -> Header
 // Keeps of a state what an event of this group may change: the record is made in the slot after the newest.
 // Kept: journal and state are lent slices (C interface); that they are well formed is proved once for a call, by adapter's judge.
 #[tactic(auto, using(crate::proofs::Ring::formed))]
-pub fn keep(j: &mut [u8], s: &[u8], group: Option<Control>)
-    requires j_value { well_formed j.old ≡ true }
-    requires s_len { length s.now ≡ state_size }
+pub fn keep(j: &mut [u8], s: &[u8; BYTES], group: Option<Control>)
+    requires { well_formed j.old ≡ true }
     ensures { j.new ≡ pushed (kept_for group s.now) j.old }
 {
     let header = header_of(j);
@@ -212,10 +211,9 @@ fn newest(j: &[u8]) -> usize
 
 // Puts the newest record over the bytes of a state, unless it is damaged. Tells whether it is sound. The journal stays as it is.
 #[tactic(auto, using(crate::proofs::Ring::formed))]
-pub fn restore(j: &mut [u8], s: &mut [u8]) -> bool
+pub fn restore(j: &mut [u8], s: &mut [u8; BYTES]) -> bool
     requires j_value { well_formed j.old ≡ true }
     requires j_nonzero { 0 < kept_of j.old }
-    requires s_len { length s.old ≡ state_size }
     ensures { (result ≡ sound s.old (past j.old 0)) × (s.new ≡ cond result (restored s.old (past j.old 0)) s.old) × (j.new ≡ j.old) }
 {
     let at = newest(j);

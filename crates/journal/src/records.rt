@@ -8,7 +8,7 @@ ghost use Rattle.journal.specs.Inner.{record_most};
 use channels::groups;
 use channels::groups::{CORE_SIZE, SPAN_MOST, Span};
 use commands::command::Control;
-use state::LINK;
+use state::{BYTES, LINK};
 
 // The bytes of the core that a record has: all but the ID.
 const CORE: usize = LINK + CORE_SIZE;
@@ -34,8 +34,7 @@ fn core_at(b: &[u8], at: usize) -> [u8; CORE]
 }
 
 // Makes a record of a state's core and of a part of it.
-pub(crate) fn make(s: &[u8], tag: u8, span: Span, r: &mut [u8])
-    requires s_len { length s.now ≡ state_size }
+pub(crate) fn make(s: &[u8; BYTES], tag: u8, span: Span, r: &mut [u8])
     requires many_bound { (span.first + span.many ≤ state_size) × (1 + core_bytes + span.many ≤ record_most) }
     requires record_most_in_bounds { record_most ≤ length r.old }
     ensures { r.new ≡ put 0 (record_of tag span.first span.many s.now) r.old }
@@ -82,9 +81,8 @@ pub(crate) fn span_of(tag: u8) -> Span
 }
 
 // Exchanges a record's core and group with a state's.
-fn exchange(r: &mut [u8], s: &mut [u8], span: Span)
+fn exchange(r: &mut [u8], s: &mut [u8; BYTES], span: Span)
     requires record_most_in_bounds { record_most ≤ length r.old }
-    requires s_len { length s.old ≡ state_size }
     requires core_bytes_le_first { (core_bytes ≤ span.first) × (span.first + span.many ≤ state_size) × (1 + core_bytes + span.many ≤ record_most) }
     ensures { (s.new ≡ put span.first (part (1 + core_bytes) span.many r.old) (put 0 (part 1 core_bytes r.old) s.old)) × (r.new ≡ put 0 (record_of (get_or r.old 0 0) span.first span.many s.old) r.old) }
 {
@@ -99,9 +97,8 @@ fn exchange(r: &mut [u8], s: &mut [u8], span: Span)
 // Puts a record over a state, unless it is damaged: where it makes no state, the state is as it was. Tells whether it is sound. What the record goes
 // over stands in the record's own place meanwhile; in the end the record stays as it is.
 #[tactic(auto, using(crate::proofs::Record::unknown_tag))]
-pub(crate) fn restore(r: &mut [u8], s: &mut [u8]) -> bool
-    requires record_most_in_bounds { record_most ≤ length r.old }
-    requires s_len { length s.old ≡ state_size }
+pub(crate) fn restore(r: &mut [u8], s: &mut [u8; BYTES]) -> bool
+    requires { record_most ≤ length r.old }
     ensures { (result ≡ sound s.old r.old) × (s.new ≡ cond result (restored s.old r.old) s.old) × (r.new ≡ r.old) }
 {
     let tag = r[0];

@@ -57,8 +57,7 @@ pub fn start(state: &mut [u8])
 
 // One character more of a line; those past the room for a line are not kept.
 #[tactic(auto, unfolding(crate::specs::Parts::added))]
-fn add(line: &mut [u8], count: usize, b: u8) -> usize
-    requires { length line.old ≡ 81 }
+fn add(line: &mut [u8; LINE_ROOM], count: usize, b: u8) -> usize
     ensures { held result line.new ≡ added count b line.old }
 {
     if count < LINE_ROOM {
@@ -74,12 +73,11 @@ fn take_byte(
     state: &mut [u8],
     count: usize,
     journal: &mut [u8],
-    line: &mut [u8],
+    line: &mut [u8; LINE_ROOM],
     b: u8,
     out: &mut [u8],
     at: usize,
 ) -> Fed
-    requires line_len { length line.old ≡ 81 }
     requires count_bound { count ≤ 81 }
     requires at_in_bounds { at + 48 ≤ length out.old }
     ensures out_after { fed result state.new journal.new line.new out.new ≡ feeds at out.old (takes (player state.old journal.old line.old count []) b) }
@@ -101,11 +99,10 @@ pub fn feed(
     state: &mut [u8],
     held: usize,
     journal: &mut [u8],
-    line: &mut [u8],
+    line: &mut [u8; LINE_ROOM],
     block: &[u8],
     out: &mut [u8],
 ) -> Fed
-    requires line_len { length line.old ≡ 81 }
     requires held_bound { held ≤ 81 }
     requires block_in_bounds { 48 * length block.now ≤ length out.old }
     ensures out_after { fed result state.new journal.new line.new out.new ≡ feeds 0 out.old (foldl takes (player state.old journal.old line.old held []) block.now) }
@@ -127,10 +124,9 @@ pub fn finish(
     state: &mut [u8],
     count: usize,
     journal: &mut [u8],
-    line: &mut [u8],
+    line: &mut [u8; LINE_ROOM],
     out: &mut [u8],
 ) -> Fed
-    requires line_len { length line.old ≡ 81 }
     requires count_bound { count ≤ 81 }
     requires in_bounds { 48 ≤ length out.old }
     ensures out_after { fed result state.new journal.new line.new out.new ≡ feeds 0 out.old (closes (player state.old journal.old line.old count [])) }

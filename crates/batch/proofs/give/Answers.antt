@@ -11,7 +11,6 @@ pub step-sent-requires : goal.step-sent-requires
 step-sent-requires c =
     let i = c.loop-s.invariant in (
       record {
-        spelled = c.loop-s.auto.state ∙ c.requires.spelled;
         formed = i.1;
         room = omega arith;
         few = omega arith;
