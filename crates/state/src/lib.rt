@@ -2,10 +2,10 @@
 // in range.
 #![tactic(auto)]
 
-ghost use Rattle.std.specs.Prelude.{◌≡◌};
+ghost use Rattle.std.specs.Prelude.{◌≡◌, ◌≤◌, length};
 ghost use Rattle.parts.specs.Parts.{put};
 ghost use Rattle.state.specs.State.{blank};
-ghost use Rattle.state.specs.Bytes.{link_image, link_of, is_state};
+ghost use Rattle.state.specs.Bytes.{link_bytes, link_image, link_of, is_state};
 
 use commands::command::Register;
 use link::{Link, Port, ReceiveNumber, SendNumber};
@@ -32,8 +32,9 @@ pub fn power_on(registers: &mut [u8; SIZE], id: u32)
     registers::store(registers, Register::ChipId, id);
 }
 
-// Kept: a function, not From: Link is of a crate that knows no bytes of a state.
-pub fn link_of(s: &[u8; BYTES]) -> Link
+// Kept: a function, not From: Link is of a crate that knows no bytes of a state, and s may go on behind the link's bytes.
+pub fn link_of(s: &[u8]) -> Link
+    requires { link_bytes ≤ length s.now }
     ensures { result ≡ link_of s.now }
 {
     Link {
@@ -50,7 +51,8 @@ pub fn link_of(s: &[u8; BYTES]) -> Link
 }
 
 #[tactic(auto, unfolding(parts::specs::Parts::put))]
-pub fn store_link(s: &mut [u8; BYTES], l: Link)
+pub fn store_link(s: &mut [u8], l: Link)
+    requires { link_bytes ≤ length s.old }
     ensures { s.new ≡ put 0 (link_image l) s.old }
 {
     let bytes = [
