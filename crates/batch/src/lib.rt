@@ -13,7 +13,7 @@ use adapter::{NoFrame, events};
 use numbers::{BATCH_LEAST, REPLY_BYTES, SAMPLES_MOST, Silence};
 use state::BYTES;
 
-// What a logic probe saw: the levels of the 32 lines, and the edge kind.
+// What a logic probe saw: the levels of the 32 lines, and the edge kind, a number (kept: the C interface).
 #[repr(C)]
 #[derive(Clone, Copy)]
 pub struct Sample {

@@ -57,7 +57,8 @@ fn finish(
 }
 
 // One read, and what follows from it.
-// Kept: a struct of these four with methods lends two of its fields in one call, which the borrow checker does not cover yet.
+// Kept: block, state, journal, line and out one by one: a struct of the five references was tried, and what is lent behind a reference has no rule yet;
+// with arrays of its own, as steps has them, it would copy 786 KB.
 fn turn(
     rt: &(impl Print + Eprint),
     input: &mut impl Read,

@@ -53,7 +53,7 @@ unfoldable pub marked : List ℕ → ℕ → ℕ → List ℕ
 marked rs ch error = cond (eqb error cmd_unknown) (with_invcom rs (channel_of ch)) rs
 
 abbrev pub reply_to : List ℕ → Result Command Fault → Option Reply
-reply_to rs (Err fault) = Some (refusal fault)
+reply_to rs (Err fault) = Some (refusal (fault_bit fault))
 reply_to rs (Ok command) = told rs command.lengths.given command.does
 
 abbrev pub left_by : List ℕ → Request → Result Command Fault → List ℕ

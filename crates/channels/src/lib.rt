@@ -25,7 +25,7 @@ pub fn answer(registers: &mut [u8; SIZE], q: Request) -> Option<Reply>
     match errors::decode(registers, q) {
         Err(fault) => {
             perform::mark(registers, q.ch, fault);
-            Some(refusal(fault))
+            Some(refusal(fault.into()))
         }
         Ok(command) => {
             let told = perform::tell(registers, command.lengths.given, command.does);

@@ -1,4 +1,5 @@
-// A frame body on a port: document 01's checks 1 to 8, in order.
+// A frame body on a port: document 01's checks 1 to 8, in order. Kept: what is asked of body and output, and link and registers one by one, as in
+// events::on_frame.
 ghost use Rattle.std.specs.Prelude.{◌≡◌, ℕ, ◌≤◌, List, length};
 ghost use Rattle.numbers.specs.Numbers.{body_least, body_most, output_least};
 ghost use Rattle.state.specs.State.{adapter};

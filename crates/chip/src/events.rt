@@ -33,8 +33,8 @@ const FIRST_MASTER: u8 = 0x03;
 // The bytes of a body that carries a request.
 const REQUEST_BODY: usize = 10;
 
-// Kept: an output has 16 bytes or more, for a sample 10 or more, which no array type says; in a struct with it each contract would also need a clause
-// that the buffer is the same one, as listing::answer::Text shows.
+// Kept: a body has 2 to 16 bytes and an output 16 or more, for a sample 10 or more, which no array type says. In a struct with them, or with the link and
+// the lent registers, each contract would also need a clause that the buffer is the same one, as listing::answer::Text shows.
 
 // A frame body on a port.
 #[tactic(auto, unfolding(crate::specs::Chip::reaction))]
@@ -165,7 +165,8 @@ fn transact(
 }
 
 // The completion of one named I2C channel.
-// Kept: a struct of channel, acknowledge, low and received is no plainer, as `i2c::end` takes them one by one.
+// Kept: adapter's Event::I2c has channel, acknowledge, low and received with a channel that may be none; another struct of them would be taken apart
+// by i2c::end at once.
 #[tactic(auto, unfolding(crate::specs::Chip::reaction, crate::specs::Chip::on_i2c))]
 pub fn on_i2c(
     link: Link,

@@ -39,8 +39,8 @@ fault_bit CmdUnknown = cmd_unknown
 fault_bit LenWrong = len_wrong
 
 -- an error reply has LEN 2 and zero data
-abbrev pub refusal : Fault → Reply
-refusal fault = record { error = fault_bit fault; length = 2; value = 0 }
+abbrev pub refusal : ℕ → Reply
+refusal error = record { error = error; length = 2; value = 0 }
 
 -- a reply without an error
 abbrev pub granted : ℕ → ℕ → Reply

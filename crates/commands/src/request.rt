@@ -12,7 +12,7 @@ pub struct Request {
     pub value: u32,
 }
 
-// A reply's ERR, LEN and D[31:0].
+// A reply's ERR, LEN and D[31:0]. Kept: error is the byte on the wire, 0 where there is none.
 #[derive(Clone, Copy)]
 pub struct Reply {
     pub error: u8,
@@ -52,11 +52,11 @@ impl From<Fault> for u8 {
     }
 }
 
-pub fn refusal(fault: Fault) -> Reply
-    ensures { result ≡ refusal fault }
+pub fn refusal(error: u8) -> Reply
+    ensures { result ≡ refusal error }
 {
     Reply {
-        error: u8::from(fault),
+        error,
         length: 2,
         value: 0,
     }

@@ -183,7 +183,8 @@ fn header_of(j: &[u8]) -> Header
 }
 
 // Keeps of a state what an event of this group may change: the record is made in the slot after the newest.
-// Kept: journal and state are lent slices (C interface); that they are well formed is proved once for a call, by adapter's judge.
+// Kept: well_formed is a clause; a struct with the lent journal would need one more in each contract, that the buffer is the same one, as
+// listing::answer::Text shows.
 #[tactic(auto, using(crate::proofs::Ring::formed))]
 pub fn keep(j: &mut [u8], s: &[u8; BYTES], group: Option<Control>)
     requires { well_formed j.old ≡ true }

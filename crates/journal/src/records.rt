@@ -45,7 +45,7 @@ pub(crate) fn make(s: &[u8; BYTES], tag: u8, span: Span, r: &mut [u8])
     parts::store(r, GROUP, &s[span.first..span.first + span.many]);
 }
 
-// A group's tag, and back: a record has it in its first byte.
+// A group's tag, and back: a record has it in its first byte. Kept: functions and no From, since Option<Control> is of no crate here.
 pub(crate) fn tag_of(group: Option<Control>) -> u8
     ensures { result ≡ tag_of group }
 {

@@ -77,6 +77,7 @@ fn next(number: u8) -> u8
     (number % NUMBERS + 1) % NUMBERS
 }
 
+// Kept: two functions, since document 01 wants the numbers as two types that cannot be taken for one another.
 pub fn send_up(l: Link) -> Link
     ensures { result ≡ send_up l }
 {

@@ -38,6 +38,7 @@ impl Text<'_> {
         }
     }
 
+    // Kept: the library writes a number to a fmt::Write, and these are lent bytes with a place.
     #[tactic(auto, using(crate::proofs::Writing::joined, crate::proofs::Writing::texts, crate::proofs::Writing::decimal_parts))]
     fn put_decimal(&mut self, n: u8)
         requires { self.old.at + 3 ≤ length self.old.out.now }
@@ -90,7 +91,7 @@ impl Text<'_> {
     }
 }
 
-// Kept: out and at one by one, since docs/PROMISES.md names this call; inside it a Text holds them.
+// Kept: out and at one by one: `wrote result out.new` of the contract is over them; inside, a Text holds them.
 // Writes an output line from a place on, and gives the place after it.
 #[tactic(auto, using(crate::proofs::Writing::joined, crate::proofs::Writing::texts, crate::proofs::Writing::answer_parts), unfolding(crate::specs::Answer::written))]
 pub fn put_answer(out: &mut [u8], at: usize, number: u8, kept: u8, port: u8, body: &[u8]) -> usize

@@ -54,6 +54,7 @@ pub fn load_pairs(s: &[u8], bytes: &mut [u8])
     }
 }
 
+// Kept: char::from_digit goes through u32, Option and char and back.
 #[tactic(auto, unfolding(crate::specs::Characters::hex_digit))]
 pub(crate) fn hex_digit(n: u8) -> u8
     requires { n < 16 }

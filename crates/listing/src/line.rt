@@ -103,7 +103,7 @@ pub fn i2c_channel(l: &[u8]) -> u8
     characters::pair_at(l, 2)
 }
 
-// Whether an I2C completion's line says acknowledged.
+// Whether an I2C completion's line says acknowledged. Kept: beside i2c_line_low, one line each.
 pub fn i2c_acknowledge(l: &[u8]) -> bool
     requires { 8 ≤ length l.now }
     ensures { result ≡ i2c_acknowledge l.now }

@@ -29,8 +29,8 @@ pub struct Fed {
     pub next: usize,
 }
 
-// Kept: parameters one by one, since docs/PROMISES.md names play_line, feed and finish; with a struct take_byte would lend two of its fields in one
-// call, which the borrow checker does not cover yet.
+// Kept: parameters one by one: `left` and `fed` of the contracts are over each lent buffer, and a struct of references, tried in bench, lends behind a
+// reference, which has no rule yet.
 // Plays a line: writes its output line from a place on, and gives the place after it.
 #[tactic(auto, unfolding(crate::specs::Play::turn))]
 pub fn play_line(state: &mut [u8], journal: &mut [u8], l: &[u8], out: &mut [u8], at: usize) -> usize

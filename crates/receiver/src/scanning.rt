@@ -6,7 +6,7 @@ ghost use Rattle.receiver.specs.Inner.{Good, Stepped, Scan, Idle, control_of, re
 
 use crate::Receiver;
 
-// A receiver without its bytes: small enough to go by value with every bit.
+// A receiver without its bytes: small enough to go by value with every bit. Kept: mode is a number, as the receiver's is.
 #[derive(Clone, Copy, PartialEq, Eq)]
 pub struct Control {
     pub mode: u8,

@@ -42,6 +42,7 @@ fn merged(was: u32, received: u32, length: u8, from: u8) -> u32
     (was & !mask) | (received & mask)
 }
 
+// Kept: beside i2c::fill_word, which is over another rule of what is filled.
 fn fill_word(registers: &mut [u8; SIZE], which: Register, received: u32, count: u8, from: u8)
     ensures { registers.new ≡ store registers.old which (merged_word count from (read registers.old which) received) }
 {

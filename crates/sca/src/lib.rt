@@ -27,6 +27,7 @@ use receiver::{Receiver, Reception};
 
 const VERSION: u64 = 0x010500;
 
+// Kept: functions and no From, since neither a Result nor u64 is of this crate.
 // What every result has: document 01's number in bits 7 to 0, a length in bits 15 to 8, and what else there is above.
 fn pack(number: u8, length: u8, above: u64) -> u64
     requires { above < 2 ^ 48 }

@@ -10,7 +10,7 @@ const CONTENT: usize = 20;
 
 const BYTES: usize = HEAD + CONTENT;
 
-// Kept: two functions and no From, since neither type is of this crate.
+// Kept: two functions and no From, since neither type is of this crate, and crate receiver knows nothing of how C spells one.
 
 // The receiver that bytes spell.
 #[tactic(auto, unfolding(parts::specs::Parts::part))]

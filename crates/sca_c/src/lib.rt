@@ -1,5 +1,5 @@
 // What C and Rust programs link: each call of the library `sca`, under its name in include/sca.h, with the same clauses. A slice is handed over as a
-// pointer and a length.
+// pointer and a length. Kept: each call stands in sca too, since only an export has C's name and calling convention.
 #![tactic(auto)]
 
 ghost use Rattle.std.specs.Prelude.{◌≡◌};
