@@ -92,7 +92,7 @@ pub fn levels(l: &[u8]) -> u32
 {
     let mut b = [0u8; 4];
     characters::load_pairs(&l[2..], &mut b);
-    parts::word_of(b[3], b[2], b[1], b[0])
+    u32::from_be_bytes(b)
 }
 
 // The channel of an I2C completion's line.

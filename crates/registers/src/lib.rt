@@ -139,7 +139,7 @@ pub fn clear(registers: &mut [u8], first: usize, many: usize)
     requires { first + many ≤ length registers.old }
     ensures { registers.new ≡ zeroed first many registers.old }
 {
-    registers[first..first + many].fill(0);
+    parts::clear(registers, first, many);
 }
 
 // Whether bytes are 0. It looks at each of them, so that it can look at many at once.
