@@ -91,7 +91,7 @@ fn exchange(r: &mut [u8], s: &mut [u8; BYTES], span: Span)
     parts::store(r, 1, &was);
     parts::store(s, 0, &core);
     let group = &mut r[GROUP..GROUP + span.many];
-    group.swap_with_slice(&mut s[span.first..span.first + span.many]);
+    parts::exchange(group, &mut s[span.first..span.first + span.many]);
 }
 
 // Puts a record over a state, unless it is damaged: where it makes no state, the state is as it was. Tells whether it is sound. What the record goes
