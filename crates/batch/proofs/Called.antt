@@ -1,23 +1,23 @@
 -- A batch's call, by its verdict: what refuses it, or what the samples leave that are given one by one. Assumes nothing.
 use Prim.Native.Nat.{ℕ}
-use mathlib.Core.Path.{◌≡◌, refl, sym, subst}
-use mathlib.Core.Bool.{Bool, true, false, not, ◌||◌}
+use mathlib.Core.Path.{◌≡◌, refl, sym, subst, ◌∙◌}
+use mathlib.Core.Bool.{Bool, true, false, not, cond, ◌||◌}
 use mathlib.Core.List.{List, flatten}
 use native.Mathlib.Omega.{arith}
 use lib.ListN.{length}
 use lib.Dec.{eqb, ltb}
 use borrow.Author.Tests.{ltb-false, eqb-false}
 use Rattle.std.specs.List.{fold}
-use Rattle.numbers.specs.Numbers.{samples_most, batch_least}
+use Rattle.numbers.specs.Numbers.{samples_most, batch_least, bad_argument}
 use Rattle.parts.proofs.Laws.{put_none}
 use Rattle.state.specs.Bytes.{state_size, link_of, is_state}
 use Rattle.journal.specs.Layout.{well_formed}
 use Rattle.state.proofs.Spelling.{its_length}
-use Rattle.adapter.specs.Answers.{Refused, Passed}
+use Rattle.adapter.specs.Answers.{Verdict, Refused, Passed}
 use Rattle.adapter.specs.Refusals.{in_order}
 use Rattle.batch.specs.declared.Sample.{Sample}
 use Rattle.batch.specs.declared.Batch as sent
-use Rattle.batch.specs.Batch.{Batch, some_wrong, outset, one_by_one, lines_in, reported, bare, verdict, outcome, called}
+use Rattle.batch.specs.Batch.{Batch, some_wrong, wrong_list, outset, one_by_one, lines_in, reported, bare, verdict, outcome, called}
 use Rattle.batch.specs.Inner.{Fine, nothing_sent, going, given}
 use Rattle.batch.proofs.Course.{Stands, stands}
 
@@ -30,6 +30,22 @@ by_order true false u v w e = absurd cc
 by_order true true true v w e = absurd cc
 by_order true true false true w e = absurd cc
 by_order true true false false true e = absurd cc
+
+-- what refuses a batch before its list is looked at, whatever the list is; and what its list comes to where nothing did
+before_list : (x y u w : Bool) (n : ℕ) → in_order x y u false false ≡ Refused n → in_order x y u w false ≡ Refused n
+unfolding in_order
+before_list true y u w n e = e
+before_list false true u w n e = e
+before_list false false true w n e = e
+before_list false false false w n e = absurd cc
+
+by_list : (x y u w : Bool) → in_order x y u false false ≡ Passed → in_order x y u w false ≡ cond w (Refused bad_argument) Passed
+unfolding in_order
+by_list true y u w e = absurd cc
+by_list false true u w e = absurd cc
+by_list false false true w e = absurd cc
+by_list false false false true e = refl
+by_list false false false false e = refl
 
 -- before the first sample
 at_outset : (s j o : List ℕ) → Stands (link_of s).port o (outset s j) (going s j o nothing_sent)
@@ -47,9 +63,22 @@ at_outset s j o =
     }
 
 module _ (s j : List ℕ) (list : List Sample) (o : List ℕ) where
-  pub refused : (n : ℕ) → verdict s j list o ≡ Refused n → outcome (bare n) s j o ≡ called s j list o
+  refused : (n : ℕ) → verdict s j list o ≡ Refused n → outcome (bare n) s j o ≡ called s j list o
   unfolding called
   refused n e = rw e refl
+
+  -- of the three refusals that come before the list's
+  abbrev judged_early : Verdict
+  judged_early = in_order (not (is_state s)) (not (well_formed j)) (ltb (length o) batch_least) false false
+
+  pub refused_early : (n : ℕ) → judged_early ≡ Refused n → outcome (bare n) s j o ≡ called s j list o
+  refused_early n e = refused n (before_list _ _ _ _ n e)
+
+  pub refused_list : judged_early ≡ Passed → wrong_list list ≡ true → outcome (bare bad_argument) s j o ≡ called s j list o
+  refused_list e w = refused bad_argument (by_list _ _ _ _ e ∙ rw w refl)
+
+  pub nothing_refuses : judged_early ≡ Passed → wrong_list list ≡ false → verdict s j list o ≡ Passed
+  nothing_refuses e w = by_list _ _ _ _ e ∙ rw w refl
 
   module _ (e : verdict s j list o ≡ Passed) where
     unrefused : (is_state s ≡ true) × (well_formed j ≡ true) × (ltb (length o) batch_least ≡ false) × (ltb samples_most (length list) ≡ false)

@@ -10,7 +10,7 @@ ghost use Rattle.batch.specs.Batch.{some_wrong, wrong_list, reported, answer_of,
 ghost use Rattle.batch.specs.Inner.{nothing_sent, going, given, Fine, Ready, Given};
 
 use adapter::{NoFrame, events};
-use numbers::{BATCH_LEAST, REPLY_BYTES, SAMPLES_MOST, Silence};
+use numbers::{BATCH_LEAST, REPLY_BYTES, Refusal, SAMPLES_MOST, Silence};
 use state::BYTES;
 
 // What a logic probe saw: the levels of the 32 lines, and the edge kind, a number (kept: the C interface).
@@ -109,13 +109,11 @@ pub fn samples(
 ) -> Result<Batch, NoFrame>
     ensures { outcome (answer_of result) state.new journal.new output.new ≡ called state.old journal.old list.now output.old }
 {
-    adapter::judge(
-        state,
-        journal,
-        output.len() < BATCH_LEAST,
-        is_wrong(list),
-        false,
-    )?;
+    adapter::judge(state, journal, output.len() < BATCH_LEAST, false, false)?;
+    // The list is looked at only where nothing before it refuses the batch.
+    if is_wrong(list) {
+        return Err(Refusal::BadArgument.into());
+    }
     let Some(state) = state.as_mut_array() else {
         unreachable!()
     };

@@ -11,11 +11,17 @@ use Rattle.channels.proofs as this
 pub answer_one : One {B = Option Reply × List ℕ} 1 this.answer.Kinds.ps this.answer.Kinds.r this.answer.Reads.Post (λ κs x s. (x, s.0.now))
 answer_one κs a x y s t e f = ap₂ (λ (p : Option Reply) (l : List ℕ). (p, l)) (e.0 ∙ sym f.0) (e.1 ∙ sym f.1)
 
-pub is_enabled_one : One 1 this.rows.is_enabled.Kinds.ps this.rows.is_enabled.Kinds.r this.rows.is_enabled.Reads.Post (λ κs x s. x)
+pub is_enabled_one : One 1 this.is_enabled.Kinds.ps this.is_enabled.Kinds.r this.is_enabled.Reads.Post (λ κs x s. x)
 is_enabled_one κs a x y s t e f = e ∙ sym f
 
-pub is_busy_one : One 1 this.rows.is_busy.Kinds.ps this.rows.is_busy.Kinds.r this.rows.is_busy.Reads.Post (λ κs x s. x)
+pub is_busy_one : One 1 this.is_busy.Kinds.ps this.is_busy.Kinds.r this.is_busy.Reads.Post (λ κs x s. x)
 is_busy_one κs a x y s t e f = e ∙ sym f
+
+pub rows_is_enabled_one : One 1 this.rows.is_enabled.Kinds.ps this.rows.is_enabled.Kinds.r this.rows.is_enabled.Reads.Post (λ κs x s. x)
+rows_is_enabled_one κs a x y s t e f = e ∙ sym f
+
+pub rows_is_busy_one : One 1 this.rows.is_busy.Kinds.ps this.rows.is_busy.Kinds.r this.rows.is_busy.Reads.Post (λ κs x s. x)
+rows_is_busy_one κs a x y s t e f = e ∙ sym f
 
 pub are_sound_one : One 1 this.are_sound.Kinds.ps this.are_sound.Kinds.r this.are_sound.Reads.Post (λ κs x s. x)
 are_sound_one κs a x y s t e f = e ∙ sym f

@@ -1,14 +1,24 @@
--- What an inner function's contract cites, and no promise: a master's part of what is in range, as one test.
-use Rattle.std.specs.Prelude.{ℕ, ◌+◌, ◌%◌, ◌^◌, ◌<◌, Bool, not, ◌&&◌, List, ◌≡◌, eqb, ltb}
+-- What an inner function's contract cites, and no promise: a master's part of what is in range, as one test; what is said where there is no channel.
+use Rattle.std.specs.Prelude.{ℕ, ◌+◌, ◌%◌, ◌^◌, ◌<◌, Bool, not, ◌&&◌, List, ◌≡◌, eqb, ltb, false, Option, Some, None}
 use Rattle.std.specs.Int.Bits.{bit_and}
+use Rattle.commands.specs.declared.channel.Channel.{Channel}
 use Rattle.commands.specs.declared.channel.Channel.TheVariants as channel
 use Rattle.commands.specs.Field.{Status, master}
 use Rattle.commands.specs.declared.command.Control.{Control}
 use Rattle.commands.specs.declared.command.Control.TheVariants.{B, C, D}
 use Rattle.commands.specs.declared.command.Register.TheVariants.{Crb, Crc, Crd}
 use Rattle.registers.specs.Registers.{read, is_within}
-use Rattle.channels.specs.Rows.{is_enabled, still_held}
+use Rattle.channels.specs.Rows.{is_enabled, is_busy, still_held}
 use Rattle.channels.specs.Starts.{open_sound}
+
+-- where there is no channel, nothing enables it and nothing makes it busy
+abbrev pub is_enabled_at : List ℕ → Option Channel → Bool
+is_enabled_at rs None = false
+is_enabled_at rs (Some ch) = is_enabled rs ch
+
+abbrev pub is_busy_at : List ℕ → Option Channel → Bool
+is_busy_at rs None = false
+is_busy_at rs (Some ch) = is_busy rs ch
 
 unfoldable pub master_sound : List ℕ → ℕ → Bool
 master_sound rs i = is_within rs (master i Status) && (still_held rs (channel.Master i) && open_sound rs i)

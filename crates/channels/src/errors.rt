@@ -35,7 +35,7 @@ pub(crate) fn decode(registers: &[u8; SIZE], q: Request) -> Result<Command, Faul
     if rows::is_busy(registers, which) {
         return Err(Fault::Busy);
     }
-    let command = channel::command_of(which, q.cmd).ok_or(Fault::CmdUnknown)?;
+    let command = channel::command_of(Some(which), q.cmd).ok_or(Fault::CmdUnknown)?;
     if q.len != command.lengths.asked || !can_move(registers, command.does) {
         return Err(Fault::LenWrong);
     }

@@ -60,7 +60,7 @@ pub fn group_for(q: Request) -> Option<Control>
     let which = channel::channel_of(q.ch)?;
     let own = rows::row_of(which).group;
     match which {
-        Channel::Controller => by_does(own, channel::command_of(which, q.cmd)?.does),
+        Channel::Controller => by_does(own, channel::command_of(Some(which), q.cmd)?.does),
         _ => own,
     }
 }

@@ -6,16 +6,31 @@ mod errors;
 pub mod groups;
 mod masters;
 mod perform;
-mod rows;
+pub mod rows;
 
 ghost use Rattle.std.specs.Prelude.{◌≡◌};
+ghost use Rattle.channels.specs.Inner.{is_enabled_at, is_busy_at};
 ghost use Rattle.channels.specs.Perform.{replied, performed};
 ghost use Rattle.channels.specs.Starts.{sound_registers};
 
 use commands::channel::Channel;
 use commands::request::{Reply, Request, refusal};
 use registers::SIZE;
-pub use rows::{is_busy, is_enabled, master_group};
+pub use rows::master_group;
+
+// Whether a channel is enabled, for a caller that may have none, as of a number that names no channel: nothing enables that, and nothing makes it
+// busy. One that has its channel asks rows.
+pub fn is_enabled(registers: &[u8; SIZE], which: Option<Channel>) -> bool
+    ensures { result ≡ is_enabled_at registers.now which }
+{
+    which.is_some_and(|ch| rows::is_enabled(registers, ch))
+}
+
+pub fn is_busy(registers: &[u8; SIZE], which: Option<Channel>) -> bool
+    ensures { result ≡ is_busy_at registers.now which }
+{
+    which.is_some_and(|ch| rows::is_busy(registers, ch))
+}
 
 // Errors are decided first; what is performed after that cannot fail. Its reply is made before anything is stored; a start's comes later.
 #[tactic(auto, unfolding(crate::specs::Perform::replied, crate::specs::Perform::performed))]

@@ -33,7 +33,7 @@ fn is_open_sound(registers: &[u8; SIZE], index: u8) -> bool
     }
     let control = read(registers, Register::I2cCtrl(index));
     let code = ((open / 0x100) % 0x100) as u8;
-    channel::command_of(Channel::Master(index), code).is_some_and(|command| start_does(
+    channel::command_of(Some(Channel::Master(index)), code).is_some_and(|command| start_does(
         control,
         command.does,
     ))

@@ -10,7 +10,7 @@ ghost use Rattle.chip.specs.Chip.{transferred, transaction_of, started_by, given
 ghost use Rattle.chip.specs.Group.{group_of};
 
 use crate::{Response, answer, checks, request};
-use channels::groups;
+use channels::{groups, rows};
 use commands::channel;
 use commands::channel::Channel;
 use commands::command::{Command, Control, Does, Register, Transaction};
@@ -99,7 +99,7 @@ pub fn on_spi(
     requires { output_least ≤ length output.old }
     ensures { said result registers.new output.new ≡ says (reaction (adapter link registers.old) (Event.completion (Completion.spi received.now))) output.old }
 {
-    if !channels::is_busy(registers, Channel::Spi) {
+    if !rows::is_busy(registers, Channel::Spi) {
         return answer::give(link, Silence::NotBusy);
     }
     transfer(link, registers, received, output)
@@ -146,7 +146,7 @@ fn transact(
     let index = channel - FIRST_MASTER;
     let open = registers::read(registers, Register::I2cOpen(index));
     let [trn, code, _, _] = open.to_le_bytes();
-    let command = channel::command_of(Channel::Master(index), code);
+    let command = channel::command_of(Some(Channel::Master(index)), code);
     let value = i2c::end(
         registers,
         index,
@@ -181,7 +181,7 @@ pub fn on_i2c(
     requires output_least_in_bounds { output_least ≤ length output.old }
     ensures { said result registers.new output.new ≡ says (reaction (adapter link registers.old) (Event.completion (Completion.i2c channel acknowledge low received.now))) output.old }
 {
-    if !channels::is_busy(registers, Channel::Master(channel - FIRST_MASTER)) {
+    if !rows::is_busy(registers, Channel::Master(channel - FIRST_MASTER)) {
         return answer::give(link, Silence::NotBusy);
     }
     transact(link, registers, channel, acknowledge, low, received, output)
@@ -207,7 +207,7 @@ pub fn on_sample(
     requires { reply_bytes ≤ length output.old }
     ensures { said result registers.new output.new ≡ says (reaction (adapter link registers.old) (Event.sample levels kind)) output.old }
 {
-    if !channels::is_enabled(registers, Channel::Gpio) {
+    if !rows::is_enabled(registers, Channel::Gpio) {
         return answer::give(link, Silence::LinesDisabled);
     }
     if !gpio::sample(registers, levels, kind) {

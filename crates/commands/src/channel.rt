@@ -1,5 +1,5 @@
 // The channels by their numbers, and the command of a channel's code.
-ghost use Rattle.std.specs.Prelude.{◌≡◌};
+ghost use Rattle.std.specs.Prelude.{◌≡◌, option_and_then};
 ghost use Rattle.commands.specs.Channels.{channel_of, command_of};
 
 use crate::command::Command;
@@ -33,11 +33,11 @@ pub fn channel_of(ch: u8) -> Option<Channel>
     }
 }
 
-// The command of a channel's code.
-pub fn command_of(which: Channel, cmd: u8) -> Option<Command>
-    ensures { result ≡ command_of which cmd }
+// The command of a channel's code; where there is no channel, there is none.
+pub fn command_of(which: Option<Channel>, cmd: u8) -> Option<Command>
+    ensures { result ≡ option_and_then (λ ch. command_of ch cmd) which }
 {
-    match which {
+    match which? {
         Channel::Controller => controller::command_of(cmd),
         Channel::Spi => spi::command_of(cmd),
         Channel::Gpio => gpio::command_of(cmd),

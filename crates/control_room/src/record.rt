@@ -41,7 +41,7 @@ fn store(record: &mut [u8; BYTES], k: u8, v: u32)
 pub(crate) fn command_at(channel: u8, command: u8) -> Option<Command>
     ensures { result ≡ command_at channel command }
 {
-    channel::command_of(channel::channel_of(channel)?, command)
+    channel::command_of(channel::channel_of(channel), command)
 }
 
 // Whether nothing is open, or a command that the tables have.

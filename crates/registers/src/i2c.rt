@@ -94,8 +94,9 @@ fn word_after(received: &[u8], count: u32, k: u32, was: u32) -> u32
     ])
 }
 
-// One word of DATA, whose first byte is byte k, after a read of so many.
+// One word of DATA, whose first byte is byte k, after a read of so many. It is inlined for each word: there its row is known.
 #[tactic(auto, unfolding(crate::specs::Transaction::filled_word))]
+#[inline(always)]
 fn fill_word(registers: &mut [u8; SIZE], which: Register, received: &[u8], count: u32, k: u32)
     requires { k < 16 }
     ensures { registers.new ≡ filled_word which received.now count k registers.old }
