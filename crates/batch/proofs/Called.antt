@@ -63,7 +63,7 @@ at_outset s j o =
     }
 
 module _ (s j : List ℕ) (list : List Sample) (o : List ℕ) where
-  refused : (n : ℕ) → verdict s j list o ≡ Refused n → outcome (bare n) s j o ≡ called s j list o
+  pub refused : (n : ℕ) → verdict s j list o ≡ Refused n → outcome (bare n) s j o ≡ called s j list o
   unfolding called
   refused n e = rw e refl
 
